@@ -1,0 +1,6 @@
+-- Bounds of texts.
+use Rattle.std.specs.Prelude.{ℕ}
+
+-- the most bytes of a text
+unfoldable pub longest_text : ℕ
+longest_text = 1048576

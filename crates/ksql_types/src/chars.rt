@@ -1,0 +1,116 @@
+ghost use Rattle.std.specs.Prelude.{◌≡◌, ◌≤◌, length, Some, refl, bytes_eq, string_bytes, string_len};
+ghost use Rattle.std.proofs.Common.{rules};
+ghost use Rattle.std.specs.Ordering.{nat_cmp};
+ghost use Rattle.std.specs.Str.{IsUtf8};
+ghost use Rattle.std.specs.Hash as fed;
+ghost use Rattle.std.specs.Cmp.{partial_equiv_from_equiv};
+ghost use Rattle.std.specs.Cmp.Lexicographic.{slice_cmp, nat_list_eq_equiv, nat_list_cmp_total, texts_ties, texts_po};
+ghost use Rattle.std.specs.Cmp.Rules.{hashing};
+ghost use Rattle.ksql_types.specs.Text.{longest_text};
+
+use crate::copying::CopyOf;
+use std::alloc::{AllocError, Global};
+use std::cmp::Ordering;
+use std::hash::{Hash, Hasher};
+use std::marker::Model;
+
+/// A text of at most 1,048,576 bytes of UTF-8, which contracts see as the list of its bytes.
+#[derive(Debug, Drop)]
+pub struct Chars {
+    text: String,
+}
+
+impl Model for Chars {
+    ghost use Rattle.std.specs.Prelude.{List, ℕ, ◌≤◌, length, string_bytes};
+    ghost use Rattle.std.specs.Coded.{coded_list, coded_ℕ};
+    ghost use Rattle.ksql_types.specs.Text.{longest_text};
+
+    ghost Value = { List ℕ };
+
+    ghost coded = { coded_list coded_ℕ };
+
+    ghost view = { λ c. string_bytes c.text };
+
+    ghost invariant = { λ c. length (string_bytes c.text) ≤ longest_text };
+}
+
+impl Chars {
+    /// The text. Takes no memory.
+    pub fn of(text: String) -> Chars
+        requires { string_len text ≤ longest_text }
+        ensures { result ≡ string_bytes text }
+    {
+        Chars { text }
+    }
+
+    /// The text, lent.
+    pub fn items(&self) -> &str
+        ensures value { result.now ≡ self.now }
+        ensures bound { length self.now ≤ longest_text }
+        ensures utf8 { IsUtf8 self.now }
+    {
+        self.text.as_str()
+    }
+
+    /// The text as a `String`. Takes no memory.
+    pub fn into_items(self) -> String
+        ensures { string_bytes result ≡ self }
+    {
+        let Chars { text } = self;
+        text
+    }
+}
+
+impl CopyOf for Chars {
+    fn copy(&self, alloc: Global) -> Result<Chars, AllocError> {
+        Ok(Chars::of(String::from_str(alloc, self.items())?))
+    }
+}
+
+impl PartialEq for Chars {
+    ghost eq = { bytes_eq };
+
+    ghost laws = { partial_equiv_from_equiv nat_list_eq_equiv };
+
+    fn eq(&self, other: &Chars) -> bool {
+        self.items() == other.items()
+    }
+}
+
+impl Eq for Chars {
+    ghost laws = { nat_list_eq_equiv };
+}
+
+impl PartialOrd for Chars {
+    ghost partial_cmp = { λ a b. Some (slice_cmp nat_cmp a b) };
+
+    ghost laws = { texts_po };
+
+    fn partial_cmp(&self, other: &Chars) -> Option<Ordering> {
+        Some(self.cmp(other))
+    }
+}
+
+impl Ord for Chars {
+    ghost cmp = { slice_cmp nat_cmp };
+
+    ghost total = { nat_list_cmp_total };
+
+    ghost matches_partial_cmp = { λ a b. refl };
+
+    ghost matches_eq = { texts_ties };
+
+    fn cmp(&self, other: &Chars) -> Ordering {
+        self.items().cmp(other.items())
+    }
+}
+
+impl Hash for Chars {
+    ghost hash_input = { fed.str };
+
+    ghost respects_eq = { Prim.search (hashing, rules) };
+
+    fn hash<H: Hasher>(&self, state: &mut H) {
+        self.items().hash(state);
+    }
+}

@@ -1,0 +1,98 @@
+use crate::chars::Chars;
+use crate::copying::CopyOf;
+use crate::items::Items;
+use crate::value::SqlType;
+use std::alloc::{AllocError, Global};
+
+/// A column: its name and its type.
+#[derive(Debug, Drop)]
+pub struct Column {
+    pub name: Chars,
+    pub ty: SqlType,
+}
+
+/// Columns in their order.
+pub type Columns = Items<Column>;
+
+/// The columns of a relation: those of its key, and then those of its value.
+#[derive(Debug, Drop)]
+pub struct Schema {
+    pub keys: Columns,
+    pub values: Columns,
+}
+
+/// What a relation is: a stream, a table, or a table whose rows have a window.
+#[derive(Clone, Copy, Debug, PartialEq, Eq)]
+pub enum Kind {
+    Stream,
+    Table,
+    Windowed,
+}
+
+/// How the values of a topic are written.
+#[derive(Clone, Copy, Debug, PartialEq, Eq)]
+pub enum Format {
+    Json,
+    Delimited,
+}
+
+/// A stream or a table of a script. Its number is its index among the script's relations, and its topic has the
+/// same number; `partitions` is 1 to 64; `declared` is false for the result of a query.
+#[derive(Debug, Drop)]
+pub struct Relation {
+    pub number: u32,
+    pub name: Chars,
+    pub kind: Kind,
+    pub schema: Schema,
+    pub topic: Chars,
+    pub partitions: u32,
+    pub format: Format,
+    pub declared: bool,
+}
+
+/// A window: its start inclusive and its end exclusive, in milliseconds.
+#[derive(Clone, Copy, Debug, PartialEq, Eq)]
+pub struct Span {
+    pub start: u64,
+    pub end: u64,
+}
+
+/// A task: the partition `part` of the sub-topology `sub`.
+#[derive(Clone, Copy, Debug, PartialEq, Eq, PartialOrd, Ord)]
+pub struct TaskName {
+    pub sub: u32,
+    pub part: u32,
+}
+
+impl CopyOf for Column {
+    fn copy(&self, alloc: Global) -> Result<Column, AllocError> {
+        Ok(Column {
+            name: self.name.copy(alloc)?,
+            ty: self.ty,
+        })
+    }
+}
+
+impl CopyOf for Schema {
+    fn copy(&self, alloc: Global) -> Result<Schema, AllocError> {
+        Ok(Schema {
+            keys: self.keys.copy(alloc)?,
+            values: self.values.copy(alloc)?,
+        })
+    }
+}
+
+impl CopyOf for Relation {
+    fn copy(&self, alloc: Global) -> Result<Relation, AllocError> {
+        Ok(Relation {
+            number: self.number,
+            name: self.name.copy(alloc)?,
+            kind: self.kind,
+            schema: self.schema.copy(alloc)?,
+            topic: self.topic.copy(alloc)?,
+            partitions: self.partitions,
+            format: self.format,
+            declared: self.declared,
+        })
+    }
+}

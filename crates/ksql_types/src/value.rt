@@ -1,0 +1,38 @@
+use crate::chars::Chars;
+use crate::copying::CopyOf;
+use crate::items::Items;
+use std::alloc::{AllocError, Global};
+
+/// The type of a column or an expression: INTEGER, BIGINT, VARCHAR or BOOLEAN.
+#[derive(Clone, Copy, Debug, PartialEq, Eq)]
+pub enum SqlType {
+    Int,
+    Big,
+    Text,
+    Bool,
+}
+
+/// A value of a cell. `Null` is of every type; a text that is a value has at most 65,536 bytes.
+#[derive(Debug, Drop)]
+pub enum Value {
+    Null,
+    Int(i32),
+    Big(i64),
+    Txt(Chars),
+    Bool(bool),
+}
+
+/// The values of a row, in the order of its columns.
+pub type Row = Items<Value>;
+
+impl CopyOf for Value {
+    fn copy(&self, alloc: Global) -> Result<Value, AllocError> {
+        match self {
+            Value::Null => Ok(Value::Null),
+            Value::Int(number) => Ok(Value::Int(*number)),
+            Value::Big(number) => Ok(Value::Big(*number)),
+            Value::Txt(text) => Ok(Value::Txt(text.copy(alloc)?)),
+            Value::Bool(truth) => Ok(Value::Bool(*truth)),
+        }
+    }
+}
