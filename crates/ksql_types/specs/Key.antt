@@ -1,5 +1,5 @@
 -- What a key is.
-use Rattle.std.specs.Prelude.{List, length, ◌≤◌, Bool, true, false, if◌then◌else◌, IsTrue}
+use Rattle.std.specs.Prelude.{List, length, Bool, true, false, not, nat_le, ◌&&◌, IsTrue}
 use Rattle.std.specs.List.{list_all}
 use Rattle.ksql_types.specs.declared.value.Value.{Value}
 use Rattle.ksql_types.specs.declared.value.Value.TheVariants.{Null}
@@ -9,7 +9,9 @@ abbrev pub is_null : Value → Bool
 is_null Null = true
 is_null _ = false
 
--- a key has at most eight values, and none of them is NULL
-pub record IsKey (values : List Value) : Type 0 where
-  pub short : length values ≤ 8
-  pub present : IsTrue (list_all (λ v. if is_null v then false else true) values)
+-- whether values make a key: at most eight values, none of which is NULL
+abbrev pub is_key : List Value → Bool
+is_key values = nat_le (length values) 8 && list_all (λ v. not (is_null v)) values
+
+abbrev pub IsKey : List Value → Type 0
+IsKey values = IsTrue (is_key values)

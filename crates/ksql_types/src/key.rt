@@ -1,5 +1,6 @@
-ghost use Rattle.std.specs.Prelude.{◌≡◌};
-ghost use Rattle.ksql_types.specs.Key.{IsKey};
+ghost use Rattle.std.specs.Prelude.{◌≡◌, not};
+ghost use Rattle.std.specs.List.{list_all};
+ghost use Rattle.ksql_types.specs.Key.{IsKey, is_key, is_null};
 
 use crate::copying::CopyOf;
 use crate::items::Items;
@@ -36,6 +37,13 @@ impl Key {
         }
     }
 
+    /// Whether these values make a key.
+    pub fn is_key(values: &[Value]) -> bool
+        ensures { result ≡ is_key values.now }
+    {
+        values.len() <= 8 && are_present(values)
+    }
+
     /// The values, lent.
     pub fn items(&self) -> &[Value]
         ensures value { result.now ≡ self.now }
@@ -52,6 +60,13 @@ impl Key {
         let Key { values } = self;
         values.into_items()
     }
+}
+
+/// Whether no value is NULL.
+fn are_present(values: &[Value]) -> bool
+    ensures { result ≡ list_all (λ v. not (is_null v)) values.now }
+{
+    values.iter().all(|value| !value.is_null())
 }
 
 impl CopyOf for Key {

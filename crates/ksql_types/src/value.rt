@@ -1,3 +1,6 @@
+ghost use Rattle.std.specs.Prelude.{◌≡◌};
+ghost use Rattle.ksql_types.specs.Key.{is_null};
+
 use crate::chars::Chars;
 use crate::copying::CopyOf;
 use crate::items::Items;
@@ -24,6 +27,15 @@ pub enum Value {
 
 /// The values of a row, in the order of its columns.
 pub type Row = Items<Value>;
+
+impl Value {
+    /// Whether this is NULL.
+    pub fn is_null(&self) -> bool
+        ensures { result ≡ is_null self.now }
+    {
+        matches!(self, Value::Null)
+    }
+}
 
 impl CopyOf for Value {
     fn copy(&self, alloc: Global) -> Result<Value, AllocError> {

@@ -1,0 +1,4 @@
+pub mod Expression
+pub mod Order
+pub mod Meaning
+pub mod Steps

@@ -1,0 +1,3 @@
+pub mod ByEntry
+pub mod OrderLemmas
+pub mod Values
