@@ -1,0 +1,14 @@
+//! Where `ksql` reads its files and writes its output, and the gate at which its threads arrive.
+#![tactic(auto)]
+
+mod folder;
+mod gate;
+mod mem_folder;
+mod mem_sink;
+mod sink;
+
+pub use folder::{Folder, ReadFail};
+pub use gate::{Gate, NoGate};
+pub use mem_folder::MemFolder;
+pub use mem_sink::MemSink;
+pub use sink::{Failed, Sink, write_whole};
