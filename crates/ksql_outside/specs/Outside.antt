@@ -1,5 +1,5 @@
 -- What is known of files, of the reads that failed, of written bytes and of the writes that failed.
-use Rattle.std.specs.Prelude.{◌≡◌, ◌⊎◌, ℕ, ◌+◌, ◌-◌, ◌^◌, ◌<◌, ◌≤◌, Bool, true, ◌&&◌, IsTrue, if◌then◌else◌, List, [], ◌∷◌, ◌++◌, length, take, bytes_eq, Option, None, Some, option_map, is_none}
+use Rattle.std.specs.Prelude.{◌≡◌, ◌⊎◌, ℕ, ◌-◌, ◌^◌, ◌<◌, ◌≤◌, Bool, true, ◌&&◌, IsTrue, if◌then◌else◌, List, [], ◌∷◌, ◌++◌, length, take, bytes_eq, Option, None, Some, option_map, is_none}
 
 -- the most bytes of a file that a read answers
 unfoldable pub read_limit : ℕ
@@ -11,8 +11,8 @@ content name [] = None
 content name (file ∷ files) = if bytes_eq file.0 name then Some file.1 else content name files
 
 -- what a read of this name answers: the file's bytes, cut after the limit
-abbrev pub answer : List ℕ → List (List ℕ × List ℕ) → Option (List ℕ)
-answer name files = option_map (take read_limit) (content name files)
+abbrev pub read_bytes : List ℕ → List (List ℕ × List ℕ) → Option (List ℕ)
+read_bytes name files = option_map (take read_limit) (content name files)
 
 -- no two files have one name, as a test
 abbrev pub are_names_distinct : List (List ℕ × List ℕ) → Bool

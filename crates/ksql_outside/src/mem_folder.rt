@@ -1,7 +1,7 @@
-ghost use Rattle.std.specs.Prelude.{◌≡◌, ◌∷◌, ◌++◌, [], IfOk, OnOk, IsErr, IsErrOf, Some, None};
+ghost use Rattle.std.specs.Prelude.{◌≡◌, ◌≤◌, ◌∷◌, ◌++◌, [], IfOk, OnOk, IsErr, IsErrOf, Some, None, vec_len};
 ghost use Rattle.std.specs.Option.{option_copied};
-ghost use Rattle.ksql_outside.specs.Outside.{answer, content, AreNamesDistinct, MayJoin};
-ghost use Rattle.ksql_outside.specs.Doubles.{next_answer, next_count};
+ghost use Rattle.ksql_outside.specs.Outside.{read_bytes, content, AreNamesDistinct, MayJoin, read_limit};
+ghost use Rattle.ksql_outside.specs.Memory.{next_answer, next_count};
 
 use crate::folder::{Folder, ReadFail, answer_of};
 use ksql_types::{Bytes, Chars, Word};
@@ -18,9 +18,9 @@ pub struct MemFolder {
 }
 
 impl Model for MemFolder {
-    ghost use Rattle.ksql_outside.specs.Doubles.{Folded};
+    ghost use Rattle.ksql_outside.specs.Memory.{FolderState};
 
-    ghost Value = { Folded };
+    ghost Value = { FolderState };
 
     ghost view = { λ f. record { files = f.files.items; failing = f.failing.items; reads = f.reads; failed = f.failed.items } };
 }
@@ -59,7 +59,8 @@ impl Folder for MemFolder {
     ghost failed = { λ f. f.failed };
 
     fn read(&mut self, alloc: Global, name: &str) -> Result<Vec<u8>, ReadFail>
-        ensures told { IfOk result (λ bytes. answer name.now self.old.files ≡ Some bytes.items) }
+        ensures told { IfOk result (λ bytes. read_bytes name.now self.old.files ≡ Some bytes.items) }
+        ensures short { IfOk result (λ bytes. vec_len bytes ≤ read_limit) }
         ensures missing { content name.now self.old.files ≡ None → IsErr result }
         ensures same_files { self.new.files ≡ self.old.files }
         ensures grows { MayJoin self.old.failed self.new.failed name.now }

@@ -1,6 +1,6 @@
 ghost use Rattle.std.specs.Prelude.{◌≡◌, ◌-◌, ◌<◌, ◌≤◌, ◌↔◌, ◌++◌, [], length, take, IfOk, OnErr, IsErr, Some};
 ghost use Rattle.ksql_outside.specs.Outside.{Rose, followed_by};
-ghost use Rattle.ksql_outside.specs.Doubles.{next_count, next_taken};
+ghost use Rattle.ksql_outside.specs.Memory.{next_count, next_taken};
 
 use crate::sink::{Failed, Sink};
 use std::alloc::{AllocError, Global};
@@ -18,9 +18,9 @@ pub struct MemSink {
 impl Model for MemSink {
     ghost use Rattle.std.specs.Prelude.{◌+◌, ◌≤◌, vec_len};
     ghost use Rattle.std.specs.Vec.{vec_capacity};
-    ghost use Rattle.ksql_outside.specs.Doubles.{Sunk};
+    ghost use Rattle.ksql_outside.specs.Memory.{SinkState};
 
-    ghost Value = { Sunk };
+    ghost Value = { SinkState };
 
     ghost view = { λ s. record { written = s.bytes.items; free = s.free; most = s.most; faults = s.faults } };
 

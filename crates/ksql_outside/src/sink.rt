@@ -25,7 +25,8 @@ pub trait Sink {
         ensures cause { OnErr result (Rose (faults self.old) (faults self.new)) };
 }
 
-/// Writes all of the piece, in as many writes as it takes. Takes no memory.
+/// Writes all of the piece, in as many writes as it takes, until one fails. Takes no memory.
+/// At `Ok` no byte was left out, also where the sink doesn't tell what was written.
 pub fn write_whole<K: Sink>(out: &mut K, piece: &[u8]) -> Result<(), Failed>
     ensures whole { OnOk result (K.written out.new ≡ followed_by (K.written out.old) piece.now) }
     ensures prefix { OnErr result (WrotePrefix (K.written out.old) (K.written out.new) piece.now) }
