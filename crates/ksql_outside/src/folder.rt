@@ -1,0 +1,65 @@
+ghost use Rattle.std.specs.Prelude.{◌≡◌, ◌≤◌, ◌∷◌, ◌++◌, [], IfOk, IfSome, IsErr, IsErrOf, Some, None, take, vec_len};
+ghost use Rattle.ksql_outside.specs.Outside.{read_bytes, content, MayJoin, read_limit};
+
+use std::alloc::{AllocError, Global};
+
+/// The most bytes of a file that a read answers.
+pub(crate) const READ_LIMIT: usize = 67_108_865;
+
+/// Why a read gave no bytes.
+#[derive(Clone, Copy, Debug, PartialEq, Eq)]
+pub enum ReadFail {
+    /// The file is missing or couldn't be read: its name is now among the names that failed.
+    Failed,
+    /// Want of memory.
+    OutOfMemory,
+}
+
+/// Files that are read whole by their names.
+pub trait Folder {
+    ghost use Rattle.std.specs.Prelude.{Option, List, ℕ};
+
+    // The files, as names and bytes, where they are known.
+    ghost files: { Self → Option (List (List ℕ × List ℕ)) };
+
+    // The names whose reads failed, the latest last.
+    ghost failed: { Self → List (List ℕ) };
+
+    /// The bytes of the file of this name, cut after 67,108,865 of them.
+    /// The memory for the name is taken before the file is looked for.
+    fn read(&mut self, alloc: Global, name: &str) -> Result<Vec<u8>, ReadFail>
+        ensures told { IfOk result (λ bytes. IfSome (files self.old) (λ all. read_bytes name.now all ≡ Some bytes.items)) }
+        ensures short { IfOk result (λ bytes. vec_len bytes ≤ read_limit) }
+        ensures missing { IfSome (files self.old) (λ all. content name.now all ≡ None → IsErr result) }
+        ensures same_files { files self.new ≡ files self.old }
+        ensures grows { MayJoin (failed self.old) (failed self.new) name.now }
+        ensures cause { IsErrOf result ReadFail.Failed → failed self.new ≡ failed self.old ++ name.now ∷ [] };
+}
+
+impl From<AllocError> for ReadFail {
+    ghost use Rattle.std.specs.Prelude.{◌≡◌};
+    ghost use Rattle.ksql_outside.specs.declared.folder.ReadFail.TheVariants.{OutOfMemory};
+
+    ghost from_gives = { λ _ fail. fail ≡ OutOfMemory };
+
+    fn from(_error: AllocError) -> ReadFail {
+        ReadFail::OutOfMemory
+    }
+}
+
+/// The bytes that a read of a file of these bytes answers: at most the first 67,108,865.
+#[tactic(auto, unfolding(crate::specs::Outside::read_limit))]
+pub(crate) fn answer_of(alloc: Global, bytes: &[u8]) -> Result<Vec<u8>, AllocError>
+    ensures short { IfOk result (λ cut. vec_len cut ≤ read_limit) }
+    ensures front { IfOk result (λ cut. cut.items ≡ take read_limit bytes.now) }
+{
+    front_of(alloc, bytes, READ_LIMIT)
+}
+
+fn front_of(alloc: Global, bytes: &[u8], limit: usize) -> Result<Vec<u8>, AllocError>
+    ensures short { IfOk result (λ front. vec_len front ≤ limit) }
+    ensures front { IfOk result (λ front. front.items ≡ take limit bytes.now) }
+{
+    let end = bytes.len().min(limit);
+    Vec::from_slice(alloc, &bytes[..end])
+}
