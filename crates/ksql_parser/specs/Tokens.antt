@@ -25,16 +25,16 @@ is_in_word b = begins_word b || is_ascii_digit b
 unfoldable pub word_at : List ℕ → Option (TokenKind × ℕ)
 word_at text = let n = prefix_len is_in_word text in Some (kind.Word (map to_ascii_uppercase (take n text)), n)
 
--- whether a letter or `_` stands at the front
-abbrev pub has_letter : List ℕ → Bool
-has_letter [] = false
-has_letter (b ∷ rest) = begins_word b
+-- whether the first byte is there and passes
+abbrev pub starts : (ℕ → Bool) → List ℕ → Bool
+starts test [] = false
+starts test (b ∷ rest) = test b
 
 -- the digits at the front; digits directly followed by a letter or `_` are no token
 unfoldable pub digits_at : List ℕ → Option (TokenKind × ℕ)
 digits_at text =
     let n = prefix_len is_ascii_digit text in
-    if has_letter (drop n text) then None else Some (kind.Digits (take n text), n)
+    if starts begins_word (drop n text) then None else Some (kind.Digits (take n text), n)
 
 -- the text whose opening quote stood before `rest`, up to the next quote; it must be UTF-8
 unfoldable pub text_at : List ℕ → Option (TokenKind × ℕ)

@@ -1,8 +1,10 @@
-ghost use Rattle.std.specs.Prelude.{◌≡◌, ◌+◌, ◌^◌, ◌<◌, ◌≤◌, ℕ, List, [], ◌∷◌, length, Some, IfOk, IfSome, IfNone, map, string_bytes};
-ghost use Rattle.std.specs.Str.{IsAscii};
+ghost use Rattle.std.specs.Prelude.{◌≡◌, ◌+◌, ◌^◌, ◌<◌, ◌≤◌, ℕ, List, [], ◌∷◌, length, take, Some, IfOk, IfSome, IfNone, OnSome, IsTrue, ◌==◌, not, map, string_bytes};
+ghost use Rattle.std.specs.Char.{is_ascii_digit};
+ghost use Rattle.std.specs.List.{prefix_len};
+ghost use Rattle.std.specs.Str.{IsAscii, byte};
 ghost use Rattle.ksql_types.specs.Text.{longest_text};
 ghost use Rattle.ksql_parser.specs.declared.token.Token.{Token};
-ghost use Rattle.ksql_parser.specs.Tokens.{Lexes, begins_word, digits_at, ended_behind, goes_on, is_blank, is_in_word, long_signs, mark_of, short_signs, sign_at, text_at, token_at, word_at};
+ghost use Rattle.ksql_parser.specs.Tokens.{Lexes, begins_word, digits_at, ended_behind, goes_on, is_blank, is_in_word, long_signs, mark_of, short_signs, sign_at, starts, text_at, token_at, word_at};
 
 use crate::token::{Mark, Token, TokenKind};
 use ksql_types::Chars;
@@ -31,7 +33,7 @@ pub fn tokens(alloc: Global, text: &[u8]) -> Result<Option<Vec<Token>>, AllocErr
         ended = ended_behind(ended, begun, &kind);
         begun = goes_on(&kind);
         found.push(Token { kind, statement })?;
-        rest = &rest[size..];
+        rest = rest.split_at(size).1;
     }
     Ok(Some(found))
 }
@@ -101,39 +103,64 @@ fn ascii(alloc: Global, bytes: &[u8]) -> Result<String, AllocError>
     }
 }
 
+#[tactic(auto, unfolding(crate::specs::Tokens::word_at))]
 fn word_at(alloc: Global, text: &[u8]) -> Result<(TokenKind, usize), AllocError>
-    requires { length text.now ≤ longest_text }
+    requires short { length text.now ≤ longest_text }
+    requires starts { IsTrue (starts begins_word text.now) }
     ensures token { IfOk result (λ token. Some token ≡ word_at text.now) }
-    ensures size { IfOk result (λ token. token.1 ≤ length text.now) }
+    ensures size { IfOk result (λ token. (0 < token.1) × (token.1 ≤ length text.now)) }
 {
-    let size = text.iter().take_while(|byte| is_in_word(**byte)).count();
+    let size = word_len(text);
     let mut word = ascii(alloc, &text[..size])?;
     word.make_ascii_uppercase();
     Ok((TokenKind::Word(Chars::of(word)), size))
 }
 
-fn digits_at(alloc: Global, text: &[u8]) -> Result<Option<(TokenKind, usize)>, AllocError>
-    requires { length text.now ≤ longest_text }
-    ensures token { IfOk result (λ found. found ≡ digits_at text.now) }
-    ensures size { IfOk result (λ found. IfSome found (λ token. token.1 ≤ length text.now)) }
+fn word_len(text: &[u8]) -> usize
+    ensures { result ≡ prefix_len is_in_word text.now }
 {
-    let size = text.iter().take_while(|byte| byte.is_ascii_digit()).count();
-    if let Some(next) = text[size..].first()
-        && begins_word(*next)
-    {
+    text.iter().take_while(|byte| is_in_word(**byte)).count()
+}
+
+#[tactic(auto, unfolding(crate::specs::Tokens::digits_at))]
+fn digits_at(alloc: Global, text: &[u8]) -> Result<Option<(TokenKind, usize)>, AllocError>
+    requires short { length text.now ≤ longest_text }
+    requires starts { IsTrue (starts is_ascii_digit text.now) }
+    ensures token { IfOk result (λ found. found ≡ digits_at text.now) }
+    ensures size { IfOk result (λ found. IfSome found (λ token. (0 < token.1) × (token.1 ≤ length text.now))) }
+{
+    let size = digits_len(text);
+    if begins_with_letter(&text[size..]) {
         return Ok(None);
     }
     let digits = ascii(alloc, &text[..size])?;
     Ok(Some((TokenKind::Digits(Chars::of(digits)), size)))
 }
 
+fn digits_len(text: &[u8]) -> usize
+    ensures value { result ≡ prefix_len is_ascii_digit text.now }
+    ensures within { result ≤ length text.now }
+{
+    text.iter().take_while(|byte| byte.is_ascii_digit()).count()
+}
+
+fn begins_with_letter(text: &[u8]) -> bool
+    ensures { result ≡ starts begins_word text.now }
+{
+    match text {
+        [first, ..] => begins_word(*first),
+        [] => false,
+    }
+}
+
 /// The text whose opening quote stood before `rest`.
+#[tactic(auto, unfolding(crate::specs::Tokens::text_at))]
 fn text_at(alloc: Global, rest: &[u8]) -> Result<Option<(TokenKind, usize)>, AllocError>
     requires { length rest.now ≤ longest_text }
     ensures token { IfOk result (λ found. found ≡ text_at rest.now) }
     ensures size { IfOk result (λ found. IfSome found (λ token. (0 < token.1) × (token.1 ≤ length rest.now + 1))) }
 {
-    let size = rest.iter().take_while(|byte| **byte != b'\'').count();
+    let size = unquoted_len(rest);
     if size == rest.len() {
         return Ok(None);
     }
@@ -146,17 +173,45 @@ fn text_at(alloc: Global, rest: &[u8]) -> Result<Option<(TokenKind, usize)>, All
     }
 }
 
+/// The number of bytes before the first quote, or of all.
+fn unquoted_len(text: &[u8]) -> usize
+    ensures { result ≡ prefix_len (λ b. not (b == byte "'")) text.now }
+{
+    text.iter().take_while(|byte| **byte != b'\'').count()
+}
+
+#[tactic(auto, unfolding(crate::specs::Tokens::sign_at))]
 fn sign_at(text: &[u8]) -> Option<(TokenKind, usize)>
     ensures token { result ≡ sign_at text.now }
     ensures size { IfSome result (λ token. (0 < token.1) × (token.1 ≤ length text.now)) }
 {
-    let first = *text.first()?;
-    if let Some(second) = text.get(1)
-        && let Some(mark) = long_mark(first, *second)
-    {
+    if let Some(mark) = long_sign(text) {
         return Some((TokenKind::Mark(mark), 2));
     }
-    Some((TokenKind::Mark(short_mark(first)?), 1))
+    let mark = short_sign(text)?;
+    Some((TokenKind::Mark(mark), 1))
+}
+
+/// The sign that the first two bytes spell.
+fn long_sign(text: &[u8]) -> Option<Mark>
+    ensures mark { result ≡ mark_of long_signs (take 2 text.now) }
+    ensures size { OnSome result (2 ≤ length text.now) }
+{
+    match text {
+        [first, second, ..] => long_mark(*first, *second),
+        _ => None,
+    }
+}
+
+/// The sign that the first byte spells.
+fn short_sign(text: &[u8]) -> Option<Mark>
+    ensures mark { result ≡ mark_of short_signs (take 1 text.now) }
+    ensures size { OnSome result (1 ≤ length text.now) }
+{
+    match text {
+        [first, ..] => short_mark(*first),
+        [] => None,
+    }
 }
 
 fn long_mark(first: u8, second: u8) -> Option<Mark>

@@ -121,6 +121,7 @@ fn digits_of(tokens: &[Token]) -> Option<(&Chars, &[Token])>
 }
 
 /// The number that decimal digits write, if it is at most 2,147,483,647. A sign is no digit.
+#[tactic(auto, unfolding(crate::specs::Reading::number_of))]
 fn number_of(digits: &str) -> Option<i32>
     ensures { result ≡ number_of digits.now }
 {
