@@ -1,0 +1,4 @@
+pub mod FirstForm
+pub mod Names
+pub mod Reading
+pub mod Tokens
