@@ -1,7 +1,7 @@
-ghost use Rattle.std.specs.Prelude.{◌≡◌, IfOk, option_map};
+ghost use Rattle.std.specs.Prelude.{◌≡◌, ◌≤◌, length, IfOk, IfSome, option_map};
 ghost use Rattle.std.specs.Iterator.{YieldsFirstRef, item_count};
 ghost use Rattle.serde_json.specs.View.{view};
-ghost use Rattle.ksql_cli.specs.Lines.{data_of, time_of, key_of, number_of, record_of, fed_of, feds_of, lines_of};
+ghost use Rattle.ksql_cli.specs.Lines.{data_of, time_of, key_of, number_of, record_of, fed_of, feds_of, lines_of, longest_key};
 
 use ksql_types::{Chars, Items, Key, Value};
 use query_meaning::{Decoded, Fed};
@@ -134,7 +134,8 @@ fn time_of_json(line: &Json) -> Option<u64>
 
 /// The field `k` where it is a text of at most 65,536 bytes.
 fn key_of_json(line: &Json) -> Option<&str>
-    ensures { option_map (λ s. s.now) result ≡ key_of (view line.now) }
+    ensures text { option_map (λ s. s.now) result ≡ key_of (view line.now) }
+    ensures short { IfSome result (λ s. length s.now ≤ longest_key) }
 {
     let text = line.get("k")?.as_str()?;
     if text.len() <= LONGEST_KEY {
