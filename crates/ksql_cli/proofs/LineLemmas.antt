@@ -1,5 +1,5 @@
 -- Lemmas on the lines of a topic file.
-use Rattle.std.proofs.Common.{◌≡◌, ◌≢◌, ℕ, ◌+◌, ◌-◌, ◌<◌, ◌≤◌, List, [], ◌∷◌, ◌++◌, length, take, drop, Bool, true, false, cond, Option, Some, None, option_map, option_and_then, if◌then◌else◌, IsUtf8, nat_le, nat_eq, refl, sym, ap, ap₂, ◌&&◌, ◌∙◌, arith, rules, ne_eqb, eq-eqb, get_or}
+use Rattle.std.proofs.Common.{◌≡◌, ◌≢◌, ℕ, ◌+◌, ◌<◌, ◌≤◌, List, [], ◌∷◌, length, take, drop, Bool, true, false, cond, None, IsUtf8, refl, ap, ap₂, ◌&&◌, ◌∙◌, arith, ne_eqb, eq-eqb, get_or}
 use Rattle.std.specs.Str.{is_utf8}
 use Rattle.std.specs.List.{slice_split, position_or_len, before_first, after_first}
 use Rattle.std.proofs.lemmas.List.Splits.{slice_split_first, slice_split_none, length-slice_split}
@@ -7,10 +7,8 @@ use Rattle.std.proofs.lemmas.List.Sums.{position_or_len_is}
 use Rattle.std.proofs.lemmas.List.Elements.{All-from_get_or}
 use Rattle.std.proofs.lemmas.Bool.{le-leb}
 use Rattle.std.proofs.lemmas.Str.{IsUtf8-from_is_utf8, is_utf8-from_IsUtf8}
-use Rattle.serde_json.specs.Data.{Data}
 use Rattle.serde_json.specs.Read.{read}
-use Rattle.query_meaning.specs.declared.change.Fed.{Fed}
-use Rattle.ksql_cli.specs.Lines.{is_line_feed, without_empty_end, lines_of, data_of, fed_of, all_fed, is_within_limits, feds_of, most_bytes, most_records}
+use Rattle.ksql_cli.specs.Lines.{is_line_feed, without_empty_end, lines_of, data_of, feds_of_lines, feds_of, most_bytes, most_records}
 
 -- a piece that others follow stays
 without_empty_end-cons : (piece : List ℕ) (pieces : List (List ℕ)) → 0 < length pieces → without_empty_end (piece ∷ pieces) ≡ piece ∷ without_empty_end pieces
@@ -33,9 +31,9 @@ lines_of-whole xs some none =
     ∙ ap (λ b. cond b [] (xs ∷ [])) (ne_eqb (length xs) 0 (λ e. omega arith))
 
 -- a file that keeps the limits has the records of all its lines
-pub feds_of-within : (name file : List ℕ) → length file ≤ most_bytes → length (lines_of file) ≤ most_records → feds_of name file ≡ all_fed name (lines_of file)
+pub feds_of-within : (name file : List ℕ) → length file ≤ most_bytes → length (lines_of file) ≤ most_records → feds_of name file ≡ feds_of_lines name (lines_of file)
 feds_of-within name file short few =
-    ap₂ (λ a b. cond (a && b) (all_fed name (lines_of file)) None) (le-leb _ _ short) (le-leb _ _ few)
+    ap₂ (λ a b. cond (a && b) (feds_of_lines name (lines_of file)) None) (le-leb _ _ short) (le-leb _ _ few)
 
 -- a line that isn't JSON has no data
 pub data_of-none : (line : List ℕ) → (IsUtf8 line → read line ≡ None) → data_of line ≡ None

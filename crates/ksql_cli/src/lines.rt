@@ -4,7 +4,7 @@ ghost use Rattle.serde_json.specs.View.{view};
 ghost use Rattle.ksql_cli.specs.Lines.{data_of, time_of, key_of, number_of, record_of, fed_of, feds_of, lines_of, longest_key};
 
 use ksql_types::{Chars, Items, Key, Value};
-use query_meaning::{Decoded, Fed};
+use query_meaning::{Decoded, Fed, Feds};
 use serde_json::Value as Json;
 use std::alloc::{AllocError, Global};
 
@@ -18,14 +18,14 @@ const MOST_RECORDS: usize = 200_000;
 const LONGEST_KEY: usize = 65_536;
 
 /// The greatest time of a record, in milliseconds.
-const LAST_TIME: u64 = 9_007_199_254_740_992;
+const LAST_TIME: u64 = 1 << 53;
 
 /// The records of a topic file, in the order of its lines. A record line is a JSON object whose field `t` is a time
 /// from 0 to 2^53, whose `k` is a text of at most 65,536 bytes, and whose `v` is an object with a whole number of 32
 /// bits in the field of exactly this name. None where a line isn't a record line, or where the file has more than
 /// 67,108,864 bytes or 200,000 lines. The only error is want of memory.
-pub fn topic_feds(alloc: Global, name: &Chars, file: &[u8]) -> Result<Option<Vec<Fed>>, AllocError>
-    ensures { IfOk result (λ o. option_map (λ v. v.items) o ≡ feds_of name.now file.now) }
+pub fn topic_feds(alloc: Global, name: &Chars, file: &[u8]) -> Result<Option<Feds>, AllocError>
+    ensures { IfOk result (λ feds. feds ≡ feds_of name.now file.now) }
 {
     if file.len() > MOST_BYTES {
         return Ok(None);
@@ -40,10 +40,10 @@ pub fn topic_feds(alloc: Global, name: &Chars, file: &[u8]) -> Result<Option<Vec
             None => return Ok(None),
         }
     }
-    Ok(Some(feds))
+    Ok(Some(Items::of(feds)))
 }
 
-/// The lines of a file, without their line feeds.
+/// The lines of a file, one after another, without their line feeds.
 #[derive(Drop)]
 struct Lines<'a> {
     rest: &'a [u8],
@@ -84,7 +84,7 @@ impl<'a> Iterator for Lines<'a> {
 
 /// The record of a line, None where it isn't a record line.
 fn fed_of_line(alloc: Global, name: &Chars, line: &[u8]) -> Result<Option<Fed>, AllocError>
-    ensures { IfOk result (λ o. o ≡ fed_of name.now line.now) }
+    ensures { IfOk result (λ fed. fed ≡ fed_of name.now line.now) }
 {
     match json_of_line(alloc, line)? {
         Some(json) => fed_of_json(alloc, name, &json),
@@ -94,7 +94,7 @@ fn fed_of_line(alloc: Global, name: &Chars, line: &[u8]) -> Result<Option<Fed>, 
 
 /// What a line says as JSON, None where it isn't UTF-8 or isn't JSON.
 fn json_of_line(alloc: Global, line: &[u8]) -> Result<Option<Json>, AllocError>
-    ensures { IfOk result (λ o. option_map view o ≡ data_of line.now) }
+    ensures { IfOk result (λ json. option_map view json ≡ data_of line.now) }
 {
     match Json::from_slice(alloc, line) {
         Ok(json) => Ok(Some(json)),
@@ -104,8 +104,9 @@ fn json_of_line(alloc: Global, line: &[u8]) -> Result<Option<Json>, AllocError>
 }
 
 /// The record that a line's JSON says, None where its time, its key or its number is missing.
+#[tactic(auto, unfolding(ksql_types::specs::Text::longest_text))]
 fn fed_of_json(alloc: Global, name: &Chars, line: &Json) -> Result<Option<Fed>, AllocError>
-    ensures { IfOk result (λ o. o ≡ record_of name.now (view line.now)) }
+    ensures { IfOk result (λ fed. fed ≡ record_of name.now (view line.now)) }
 {
     let Some(time) = time_of_json(line) else {
         return Ok(None);
@@ -152,3 +153,6 @@ fn number_of_json(name: &Chars, line: &Json) -> Option<i32>
     let number = line.get("v")?.get(name.items())?.as_i64()?;
     i32::try_from(number).ok()
 }
+
+#[cfg(test)]
+mod tests;

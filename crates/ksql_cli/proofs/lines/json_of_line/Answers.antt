@@ -1,5 +1,5 @@
 -- What the reader says of a text of UTF-8 is what a line says.
-use Rattle.std.proofs.Common.{rules, sym, ◌∙◌, ap, Some}
+use Rattle.std.proofs.Common.{rules, sym, ◌∙◌}
 use Rattle.ksql_cli.proofs.LineLemmas.{data_of-read, data_of-none}
 use Rattle.ksql_cli.proofs.lines.json_of_line.Goals as goal
 

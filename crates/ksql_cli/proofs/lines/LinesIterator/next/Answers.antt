@@ -1,7 +1,6 @@
 -- A line ends at the first line feed, or at the end of the file.
-use Rattle.std.proofs.Common.{◌≡◌, ◌+◌, ◌-◌, [], ◌∷◌, length, take, drop, rules, arith, ap, ◌∙◌}
+use Rattle.std.proofs.Common.{length, rules, arith, ap, ◌∙◌}
 use Rattle.std.proofs.lemmas.List.{take_rest}
-use Rattle.ksql_cli.specs.Lines.{lines_of}
 use Rattle.ksql_cli.proofs.LineLemmas.{lines_of-at, lines_of-whole}
 use Rattle.ksql_cli.proofs.lines.LinesIterator.next.Goals as goal
 
