@@ -1,0 +1,6 @@
+//! The program `ksql`.
+#![tactic(auto)]
+
+mod lines;
+
+pub use lines::topic_feds;
