@@ -40,13 +40,9 @@ fields_of [] cells = []
 fields_of (label ∷ labels) [] = []
 fields_of (label ∷ labels) (cell ∷ cells) = (label ++ cell_text cell) ∷ fields_of labels cells
 
--- an object without blanks, of these labels and values
-unfoldable pub object_text : List (List ℕ) → List Value → List ℕ
-object_text labels cells = codes "{" ++ (join_with_byte 44 (fields_of labels cells) ++ codes "}")
-
--- a row, as JSON: the object of the value columns in their order
-unfoldable pub value_text : List Column → List Value → List ℕ
-value_text columns row = object_text (map label_of columns) row
+-- a row, as JSON: an object without blanks, of these labels and values
+unfoldable pub value_text : List (List ℕ) → List Value → List ℕ
+value_text labels row = codes "{" ++ (join_with_byte 44 (fields_of labels row) ++ codes "}")
 
 -- the partition that is printed with a change
 unfoldable pub shown_partition : Change → ℕ
@@ -58,18 +54,22 @@ span_text None = []
 span_text (Some span) = codes ",\"w\":[" ++ (decimal span.start ++ (codes "," ++ (decimal span.end ++ codes "]")))
 
 -- what a change says, as JSON
-unfoldable pub body_text : List Column → Body → List ℕ
-body_text columns (Said row) = value_text columns row
+unfoldable pub body_text : List (List ℕ) → Body → List ℕ
+body_text labels (Said row) = value_text labels row
 
--- the line of a change: partition, time, key, window and value
-unfoldable pub change_line : List Column → Change → List ℕ
-change_line columns change =
+-- the line of a change whose values have these labels: partition, time, key, window and value
+unfoldable pub labelled_line : List (List ℕ) → Change → List ℕ
+labelled_line labels change =
     codes "{\"p\":" ++ (decimal (shown_partition change)
     ++ (codes ",\"t\":" ++ (decimal change.time
     ++ (codes ",\"k\":" ++ (key_text change.key
     ++ (span_text change.span
-    ++ (codes ",\"v\":" ++ (body_text columns change.body
+    ++ (codes ",\"v\":" ++ (body_text labels change.body
     ++ codes "}\n"))))))))
+
+-- the line of a change of a relation with these value columns
+unfoldable pub change_line : List Column → Change → List ℕ
+change_line columns change = labelled_line (map label_of columns) change
 
 -- the line of a record that was fed: feed, topic, partition, offset and time
 unfoldable pub order_line : List ℕ → SourceRecord → List ℕ

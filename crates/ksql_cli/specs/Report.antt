@@ -29,16 +29,16 @@ abbrev pub relations_of : List Item → List Relation
 relations_of items = map relation_of items
 
 -- the topic's name of the relation with this number
-unfoldable pub topic_name : List Relation → ℕ → List ℕ
+abbrev pub topic_name : List Relation → ℕ → List ℕ
 topic_name relations number = option_map_or (λ relation. relation.topic) (slice_get relations number) []
 
 -- whether a record's value was read by its relation's schema
-unfoldable pub is_good : Decoded → Bool
+abbrev pub is_good : Decoded → Bool
 is_good (Good row) = true
 is_good _ = false
 
 -- whether a record is a skipped one of this topic
-unfoldable pub is_skipped : ℕ → SourceRecord → Bool
+abbrev pub is_skipped : ℕ → SourceRecord → Bool
 is_skipped topic fed = (fed.stamp.topic == topic) && not (is_good fed.value)
 
 -- how many records of this topic were skipped
@@ -61,7 +61,7 @@ sections closed (item ∷ items) order [] = section_of closed item order [] ∷ 
 sections closed (item ∷ items) order (changes ∷ lists) = section_of closed item order changes ∷ sections closed items order lists
 
 -- what a relation is, in a word
-unfoldable pub kind_text : Kind → List ℕ
+abbrev pub kind_text : Kind → List ℕ
 kind_text kinds.Stream = codes "stream"
 kind_text kinds.Table = codes "table"
 kind_text kinds.Windowed = codes "windowed"
