@@ -1,0 +1,116 @@
+-- What a command reads, what it writes, and the cause of each way in which it ends.
+use Rattle.std.specs.Prelude.{◌≡◌, ◌⊎◌, ℕ, length, nat_le, Bool, ◌&&◌, List, [], ◌∷◌, ◌++◌, map, codes, bytes_eq, Option, None, Some, if◌then◌else◌, slice_get, option_map, unwrap_or}
+use Rattle.std.specs.List.{list_all, flat_map}
+use Rattle.ksql_types.specs.declared.relation.Relation.{Relation}
+use Rattle.ksql_outside.specs.Outside.{read_bytes, JoinedLast}
+use Rattle.ksql_parser.specs.declared.form.FirstForm.{FirstForm}
+use Rattle.ksql_parser.specs.FirstForm.{IsScriptOf}
+use Rattle.query_meaning.specs.declared.change.Fed.{Fed}
+use Rattle.query_meaning.specs.declared.change.TopicLines.{TopicLines}
+use Rattle.query_meaning.specs.declared.program.Item.{Item}
+use Rattle.query_meaning.specs.declared.program.Item.TheVariants.{Declared, Started}
+use Rattle.query_meaning.specs.declared.program.Program.{Program}
+use Rattle.query_meaning.specs.Order.{order_of}
+use Rattle.query_meaning.specs.Meaning.{meaning}
+use Rattle.ksql_cli.specs.declared.status.Status.{Status}
+use Rattle.ksql_cli.specs.declared.status.Status.TheVariants as ended
+use Rattle.ksql_cli.specs.declared.status.Code.TheVariants.{Unsupported}
+use Rattle.ksql_cli.specs.declared.status.LineWhy.TheVariants.{BadLine}
+use Rattle.ksql_cli.specs.FirstProgram.{program_of}
+use Rattle.ksql_cli.specs.Lines.{feds_of}
+use Rattle.ksql_cli.specs.Report.{relations_of, sections, report}
+
+-- files, by their names
+abbrev pub Files : Type 0
+Files = List (List ℕ × List ℕ)
+
+-- the most bytes of a word
+abbrev pub longest_word : ℕ
+longest_word = 4096
+
+-- the script's name, where the words are: the program's name, run, --script, and the script's name
+abbrev pub script_name : List (List ℕ) → Option (List ℕ)
+script_name (program ∷ command ∷ option ∷ name ∷ []) =
+    if list_all (λ word. nat_le (length word) longest_word) (program ∷ command ∷ option ∷ name ∷ [])
+      && bytes_eq command (codes "run") && bytes_eq option (codes "--script")
+    then Some name else None
+script_name _ = None
+
+-- the script that was read: the words name it, and these are its bytes
+abbrev pub IsScriptRead : List (List ℕ) → Files → List ℕ → Type 0
+IsScriptRead words all script = (name : List ℕ) × (script_name words ≡ Some name) × (read_bytes name all ≡ Some script)
+
+-- the script is accepted, and this is its program
+abbrev pub IsAccepted : List ℕ → Program → Type 0
+IsAccepted script program = (form : FirstForm) × IsScriptOf script form × (program ≡ program_of form)
+
+-- the declared relations of a program, in their order
+abbrev pub declared_of : List Item → List Relation
+declared_of [] = []
+declared_of (Declared relation ∷ items) = relation ∷ declared_of items
+declared_of (Started query ∷ items) = declared_of items
+
+-- the name of a relation's topic file
+abbrev pub topic_file : Relation → List ℕ
+topic_file relation = codes "./" ++ (relation.topic ++ codes ".jsonl")
+
+-- the name of the relation's first value column
+abbrev pub first_value : Relation → List ℕ
+first_value relation = unwrap_or (option_map (λ column. column.name) (slice_get relation.schema.values 0)) []
+
+-- the relation's topic file is good, and these are its records
+abbrev pub IsFed : Files → Relation → List Fed → Type 0
+IsFed all relation feds = (file : List ℕ) × (read_bytes (topic_file relation) all ≡ Some file) × (feds_of (first_value relation) file ≡ Some feds)
+
+-- the relation's topic file has a line that isn't good, or passes a limit
+abbrev pub IsBadFile : Files → Relation → Type 0
+IsBadFile all relation = (file : List ℕ) × (read_bytes (topic_file relation) all ≡ Some file) × (feds_of (first_value relation) file ≡ None)
+
+-- the topic files of the relations are good, and these are their records: one file for each relation, in their order
+abbrev pub AreFed : Files → List Relation → List TopicLines → Type 0
+AreFed all [] files = files ≡ []
+AreFed all (relation ∷ relations) files =
+    (feds : List Fed) (others : List TopicLines) × IsFed all relation feds × AreFed all relations others
+    × (files ≡ record { relation = relation.number; feds = feds } ∷ others)
+
+-- this relation's topic file is the first that isn't good
+abbrev pub IsFirstBad : Files → List Relation → List ℕ → Type 0
+IsFirstBad all [] topic = ⊥
+IsFirstBad all (relation ∷ relations) topic =
+    (IsBadFile all relation × (topic ≡ relation.topic)) ⊎ (((feds : List Fed) × IsFed all relation feds) × IsFirstBad all relations topic)
+
+-- the topic files before the one of this name are good
+abbrev pub IsTopicDue : Files → List Relation → List ℕ → Type 0
+IsTopicDue all [] name = ⊥
+IsTopicDue all (relation ∷ relations) name =
+    (name ≡ topic_file relation) ⊎ (((feds : List Fed) × IsFed all relation feds) × IsTopicDue all relations name)
+
+-- this name is the next to be read, and what comes before it is good: the script, and then each topic file
+abbrev pub IsDue : List (List ℕ) → Files → List ℕ → Type 0
+IsDue words all name =
+    (script_name words ≡ Some name)
+    ⊎ ((script : List ℕ) (program : Program) × IsScriptRead words all script × IsAccepted script program × IsTopicDue all (declared_of program.items) name)
+
+-- the command runs this program on these files
+abbrev pub Runs : List (List ℕ) → Files → Program → List TopicLines → Type 0
+Runs words all program files =
+    (script : List ℕ) × IsScriptRead words all script × IsAccepted script program × AreFed all (declared_of program.items) files
+
+-- the report of a program on its files, all in one feed: the meaning of the program on their records
+abbrev pub report_of : Program → List TopicLines → List ℕ
+report_of program files =
+    let order = order_of files in
+    report (relations_of program.items) order (sections 1 program.items order (meaning program.items order))
+
+-- the cause of a status, with the names that failed before and after
+abbrev pub HasCause : List (List ℕ) → Files → List (List ℕ) → List (List ℕ) → Status → Type 0
+HasCause words all old new ended.Done = (program : Program) (files : List TopicLines) × Runs words all program files
+HasCause words all old new ended.Usage = script_name words ≡ None
+HasCause words all old new (ended.Script statement code) =
+    (statement ≡ 0) × (code ≡ Unsupported) × ((script : List ℕ) × IsScriptRead words all script × ((program : Program) → IsAccepted script program → ⊥))
+HasCause words all old new (ended.TopicFile topic line why) =
+    (line ≡ 0) × (why ≡ BadLine)
+    × ((script : List ℕ) (program : Program) × IsScriptRead words all script × IsAccepted script program × IsFirstBad all (declared_of program.items) topic)
+HasCause words all old new (ended.ReadFault name) = JoinedLast old new name × IsDue words all name
+HasCause words all old new ended.WriteFault = (program : Program) (files : List TopicLines) × Runs words all program files
+HasCause words all old new ended.OutOfMemory = Unit {0}

@@ -1,0 +1,72 @@
+ghost use Rattle.std.specs.Prelude.{◌≡◌};
+ghost use Rattle.ksql_cli.specs.Status.{exit_code};
+
+use ksql_types::Chars;
+
+/// How a command ended.
+#[derive(Debug, PartialEq, Eq, Drop)]
+pub enum Status {
+    /// The command's whole text was written.
+    Done,
+    /// The words aren't a command.
+    Usage,
+    /// The script was refused: at this statement, counted from 1 (0 is the script as a whole), for this reason.
+    Script { statement: u32, code: Code },
+    /// A topic file was refused: at this line, counted from 1 (0 is the file as a whole), for this reason.
+    TopicFile {
+        topic: Chars,
+        line: u32,
+        why: LineWhy,
+    },
+    /// The file of this name couldn't be read.
+    ReadFault { name: Chars },
+    /// A write of the command's text failed.
+    WriteFault,
+    /// Want of memory.
+    OutOfMemory,
+}
+
+/// Why a script is refused. Their printed codes are S1 to S16, in this order.
+#[derive(Clone, Copy, Debug, PartialEq, Eq)]
+pub enum Code {
+    Syntax,
+    TooLarge,
+    UnknownRelation,
+    NameTaken,
+    UnknownColumn,
+    AmbiguousColumn,
+    DuplicateColumn,
+    TypeMismatch,
+    WrongKind,
+    KeyMissing,
+    JoinNotOnKey,
+    PartitionMismatch,
+    AggregateMisuse,
+    BadWindow,
+    Unsupported,
+    BadProperty,
+}
+
+/// Why a line of a topic file is refused.
+#[derive(Clone, Copy, Debug, PartialEq, Eq)]
+pub enum LineWhy {
+    BadLine,
+    TooLarge,
+}
+
+impl Status {
+    /// The exit status of the program.
+    pub fn code(&self) -> u8
+        ensures { result ≡ exit_code self.now }
+    {
+        match self {
+            Status::Done => 0,
+            Status::Usage => 2,
+            Status::Script { .. } => 3,
+            Status::TopicFile { .. } => 4,
+            Status::ReadFault { .. } => 6,
+            Status::WriteFault => 7,
+            Status::OutOfMemory => 8,
+        }
+    }
+}
