@@ -1,5 +1,6 @@
 -- A script of a form is one whose tokens are read as that form, with names that are sound.
-use Rattle.std.proofs.Common.{◌≡◌, ℕ, ◌≤◌, List, length, Some, sym, ap, ◌∙◌}
+use Rattle.std.proofs.Common.{◌≡◌, ℕ, ◌≤◌, List, length, None, Some, sym, ap, ◌∙◌, subst}
+use Rattle.std.proofs.lemmas.Option.{same_Some}
 use Rattle.ksql_types.specs.Text.{longest_text}
 use Rattle.ksql_parser.specs.declared.token.Token.{Token}
 use Rattle.ksql_parser.specs.declared.form.FirstForm.{FirstForm}
@@ -20,3 +21,14 @@ read_script text form tokens short sound lexed read =
     record {
       short = short; sound = sound; digits = spelled.0; digits_of_bound = spelled.2; emits = spelled.1; tokens = tokens; lexed = lexed; spelled = spelled.3;
     }
+
+pub none_read : (text : List ℕ) (tokens : List Token) → Lexes text tokens → form_of (kinds tokens) ≡ None → (form : FirstForm) → IsScriptOf text form → ⊥
+none_read text tokens lexed unread form script = differ form (sym unread ∙ script_read text form script tokens lexed)
+  where
+    differ : (form : FirstForm) → None ≡ Some form → ⊥
+    differ form e = cc
+
+pub unsound_read : (text : List ℕ) (tokens : List Token) (read : FirstForm) → Lexes text tokens → form_of (kinds tokens) ≡ Some read → (IsSound read → ⊥) → (form : FirstForm) → IsScriptOf text form → ⊥
+unsound_read text tokens read lexed read_is unsound form script =
+    let same : form ≡ read = same_Some form read (sym (script_read text form script tokens lexed) ∙ read_is) in
+    unsound (subst IsSound same script.sound)
