@@ -1,6 +1,7 @@
 -- The scripts of the first form.
 use Rattle.std.specs.Prelude.{◌≡◌, ◌≢◌, ℕ, ◌<◌, ◌≤◌, pos, ℤ, Bool, if◌then◌else◌, List, [], ◌∷◌, ◌++◌, length, map, IsTrue, IsFalse, codes}
-use Rattle.std.specs.Str.{all_ascii_digits}
+use Rattle.std.specs.List.{list_all}
+use Rattle.std.specs.Char.{is_ascii_digit}
 use Rattle.std.specs.Str.Parse.{digits_value}
 use Rattle.ksql_types.specs.Text.{longest_text}
 use Rattle.ksql_parser.specs.declared.token.Token.{Token}
@@ -50,7 +51,7 @@ pub record IsSound (form : FirstForm) : Type 0 where
 -- one or more decimal digits of this value, which is at most 2147483647
 pub record AreDigitsOf (digits : List ℕ) (value : ℤ) : Type 0 where
   pub present : 0 < length digits
-  pub decimal : IsTrue (all_ascii_digits digits)
+  pub decimal : IsTrue (list_all is_ascii_digit digits)
   pub value_is : value ≡ pos (digits_value 10 digits)
   pub at_most : digits_value 10 digits ≤ 2147483647
 

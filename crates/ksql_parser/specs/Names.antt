@@ -78,4 +78,4 @@ is_in_topic b = is_ascii_alphabetic b || is_ascii_digit b || b == byte "." || b 
 unfoldable pub is_topic : List ℕ → Bool
 is_topic text =
     nat_le 1 (length text) && nat_le (length text) 249 && list_all is_in_topic text
-    && not (bytes_eq text (codes ".")) && not (bytes_eq text (codes ".."))
+    && not (is_among (codes "." ∷ codes ".." ∷ []) text)

@@ -1,6 +1,8 @@
 -- How the first form is read from the front of a list of tokens: each part gives what it names, and the tokens behind it.
 use Rattle.std.specs.Prelude.{◌≡◌, ℕ, ◌<◌, nat_le, nat_lt, pos, ℤ, Bool, true, false, ◌&&◌, if◌then◌else◌, List, [], ◌∷◌, length, Option, Some, None, is_some, codes}
-use Rattle.std.specs.Str.{all_ascii_digits, bytes_eq}
+use Rattle.std.specs.Str.{bytes_eq}
+use Rattle.std.specs.List.{list_all}
+use Rattle.std.specs.Char.{is_ascii_digit}
 use Rattle.std.specs.Str.Parse.{digits_value}
 use Rattle.ksql_parser.specs.declared.token.TokenKind.{TokenKind}
 use Rattle.ksql_parser.specs.declared.token.TokenKind.TheVariants as kind
@@ -55,7 +57,7 @@ digits_of _ = None
 -- the number that digits write, if it is at most 2147483647
 unfoldable pub number_of : List ℕ → Option ℤ
 number_of digits =
-    if nat_lt 0 (length digits) && all_ascii_digits digits && nat_le (digits_value 10 digits) 2147483647
+    if list_all is_ascii_digit digits && (nat_lt 0 (length digits) && nat_le (digits_value 10 digits) 2147483647)
     then Some (pos (digits_value 10 digits)) else None
 
 -- CREATE STREAM name
@@ -116,13 +118,14 @@ bound_of number ts =
 unfoldable pub behind_emit : List TokenKind → Option (List TokenKind)
 behind_emit ts = elim (behind_word (codes "EMIT") ts) [ Some ts ↦ behind_word (codes "CHANGES") ts | None ↦ Some ts ]
 
+-- whether the tokens end here
+abbrev pub is_end : Option (List TokenKind) → Bool
+is_end (Some []) = true
+is_end _ = false
+
 -- whether a last `;` is left, with or without EMIT CHANGES before it
 unfoldable pub is_ending : List TokenKind → Bool
 is_ending ts = is_end (behind_emit ts >>= λ ts. behind_mark mark.Semicolon ts)
-  where
-    is_end : Option (List TokenKind) → Bool
-    is_end (Some []) = true
-    is_end _ = false
 
 -- the whole form
 unfoldable pub form_of : List TokenKind → Option FirstForm

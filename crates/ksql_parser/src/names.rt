@@ -1,4 +1,5 @@
-ghost use Rattle.std.specs.Prelude.{◌≡◌};
+ghost use Rattle.std.specs.Prelude.{◌≡◌, [], ◌∷◌, ◌&&◌, nat_le, length, codes};
+ghost use Rattle.std.specs.List.{list_all};
 ghost use Rattle.ksql_parser.specs.Names.{clause_words, closing_words, command_words, expression_words, is_among, is_in_topic, is_name, is_system_column, is_topic, setting_words, statement_words, type_words};
 
 /// Whether a word can be a name: it has at most 128 bytes, isn't reserved and is of no form that isn't supported.
@@ -27,8 +28,25 @@ pub fn is_system_column(word: &str) -> bool
 pub fn is_topic(text: &str) -> bool
     ensures { result ≡ is_topic text.now }
 {
-    let fits = 1 <= text.len() && text.len() <= 249;
-    fits && text.bytes().all(is_in_topic) && text != "." && text != ".."
+    has_topic_length(text) && has_topic_characters(text) && !is_folder(text)
+}
+
+fn has_topic_length(text: &str) -> bool
+    ensures { result ≡ (nat_le 1 (length text.now) && nat_le (length text.now) 249) }
+{
+    1 <= text.len() && text.len() <= 249
+}
+
+fn has_topic_characters(text: &str) -> bool
+    ensures { result ≡ list_all is_in_topic text.now }
+{
+    text.bytes().all(is_in_topic)
+}
+
+fn is_folder(text: &str) -> bool
+    ensures { result ≡ is_among (codes "." ∷ codes ".." ∷ []) text.now }
+{
+    text == "." || text == ".."
 }
 
 fn is_in_topic(byte: u8) -> bool

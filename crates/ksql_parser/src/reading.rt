@@ -1,4 +1,6 @@
 ghost use Rattle.std.specs.Prelude.{◌≡◌, Option, option_map};
+ghost use Rattle.std.specs.Char.{is_ascii_digit};
+ghost use Rattle.std.specs.List.{list_all};
 ghost use Rattle.ksql_parser.specs.Tokens.{kinds};
 ghost use Rattle.ksql_parser.specs.Reading.{behind_emit, behind_json, behind_mark, behind_partitions, behind_property, behind_selection, behind_word, bound_of, columns_of, digits_of, form_lent, form_of, is_ending, name_of, number_of, stream_of, text_of, topic_of};
 
@@ -125,11 +127,17 @@ fn digits_of(tokens: &[Token]) -> Option<(&Chars, &[Token])>
 fn number_of(digits: &str) -> Option<i32>
     ensures { result ≡ number_of digits.now }
 {
-    if digits.bytes().all(|byte| byte.is_ascii_digit()) {
+    if are_digits(digits) {
         digits.parse().ok()
     } else {
         None
     }
+}
+
+fn are_digits(text: &str) -> bool
+    ensures { result ≡ list_all is_ascii_digit text.now }
+{
+    text.bytes().all(|byte| byte.is_ascii_digit())
 }
 
 #[tactic(auto, unfolding(crate::specs::Reading::stream_of))]
