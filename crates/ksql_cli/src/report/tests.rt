@@ -164,16 +164,23 @@ fn counts_skipped_records(rt: HostRuntime) -> Result<(), Fail> {
     Ok(())
 }
 
-#[test]
-fn prints_keys_windows_and_texts(rt: HostRuntime) -> Result<(), Fail> {
-    let alloc = rt.alloc();
+// The line of a change whose value columns are a VARCHAR, a BIGINT and a BOOLEAN.
+fn line_of(alloc: Global, change: &Change) -> Result<String, AllocError> {
     let columns = vec![in alloc;
         column(alloc, "name", SqlType::Text)?,
         column(alloc, "big", SqlType::Big)?,
         column(alloc, "on", SqlType::Bool)?,
     ]?;
     let labels = labels(alloc, columns.as_slice())?;
-    let two = vec![in alloc; Value::Txt(chars(alloc, "a")?), Value::Int(-7)]?;
+    let mut line = String::new(alloc);
+    push_change(&mut line, alloc, labels.as_slice(), change)?;
+    Ok(line)
+}
+
+#[test]
+fn prints_a_window_and_a_key_of_two_columns(rt: HostRuntime) -> Result<(), Fail> {
+    let alloc = rt.alloc();
+    let key = vec![in alloc; Value::Txt(chars(alloc, "a")?), Value::Int(-7)]?;
     let row = vec![in alloc;
         Value::Txt(chars(alloc, "q\" b\\ c\u{1} l\n é")?),
         Value::Big(-9_223_372_036_854_775_808),
@@ -183,20 +190,32 @@ fn prints_keys_windows_and_texts(rt: HostRuntime) -> Result<(), Fail> {
         start: 1000,
         end: 2000,
     });
-    let first = change(alloc, stamp(3, 0, 9), 1234, Key::of(two), span, row);
-    let none = Key::of(Vec::new(alloc));
-    let nulls = vec![in alloc; Value::Null, Value::Null, Value::Bool(false)]?;
-    let second = change(alloc, stamp(0, 1, 9), 0, none, None, nulls);
-    let mut out = String::new(alloc);
-    push_change(&mut out, alloc, labels.as_slice(), &first)?;
-    push_change(&mut out, alloc, labels.as_slice(), &second)?;
+    let windowed = change(alloc, stamp(3, 0, 9), 1234, Key::of(key), span, row);
     assert_eq!(rt;
-        out.as_str(),
+        line_of(alloc, &windowed)?.as_str(),
         concat!(
             "{\"p\":3,\"t\":1234,\"k\":[\"a\",-7],\"w\":[1000,2000],",
             "\"v\":{\"name\":\"q\\\" b\\\\ c\\u0001 l\\n é\",\"big\":-9223372036854775808,\"on\":true}}\n",
-            "{\"p\":0,\"t\":0,\"k\":null,\"v\":{\"name\":null,\"big\":null,\"on\":false}}\n",
         )
+    );
+    Ok(())
+}
+
+#[test]
+fn prints_no_key_and_nulls(rt: HostRuntime) -> Result<(), Fail> {
+    let alloc = rt.alloc();
+    let row = vec![in alloc; Value::Null, Value::Null, Value::Bool(false)]?;
+    let keyless = change(
+        alloc,
+        stamp(0, 1, 9),
+        0,
+        Key::of(Vec::new(alloc)),
+        None,
+        row,
+    );
+    assert_eq!(rt;
+        line_of(alloc, &keyless)?.as_str(),
+        "{\"p\":0,\"t\":0,\"k\":null,\"v\":{\"name\":null,\"big\":null,\"on\":false}}\n"
     );
     Ok(())
 }
