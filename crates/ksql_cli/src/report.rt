@@ -177,3 +177,6 @@ fn is_skipped(topic: u32, fed: &SourceRecord) -> bool
 {
     fed.stamp.topic == topic && !matches!(&fed.value, Decoded::Good(_))
 }
+
+#[cfg(test)]
+mod tests;

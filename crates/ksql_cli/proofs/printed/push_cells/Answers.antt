@@ -1,7 +1,6 @@
-use Rattle.std.proofs.Common.{◌≡◌, List, [], ◌∷◌, ◌++◌, map, string_bytes, ℕ, refl, rules, arith, sym, ap, ◌∙◌}
+use Rattle.std.proofs.Common.{[], ◌∷◌, refl, arith}
 use Rattle.std.proofs.lemmas.Grind.{common_steps}
 use Rattle.std.proofs.lemmas.List.{map_more}
-use Rattle.ksql_cli.specs.Printed.{cell_text}
 use Rattle.ksql_cli.proofs.ReportLemmas.{comma_after, comma_after-push, joined_more}
 use Rattle.ksql_cli.proofs.printed.push_cells.Goals as goal
 

@@ -1,9 +1,8 @@
-use Rattle.std.proofs.Common.{◌≡◌, List, [], ◌∷◌, ◌++◌, ◌<◌, map, min, length, get_or, take, string_bytes, ℕ, refl, rules, arith, sym, ap, ◌∙◌}
+use Rattle.std.proofs.Common.{[], ◌∷◌, map, length, string_bytes, refl, arith, sym, ap, ◌∙◌}
 use Rattle.std.proofs.lemmas.Grind.{common_steps}
-use Rattle.std.proofs.lemmas.List.{get_or-map, length-map, length-append, length_push}
+use Rattle.std.proofs.lemmas.List.{get_or-map, length-map, length_push}
 use Rattle.std.proofs.lemmas.Slice.Zip.{zip_turn, zip_end}
-use Rattle.ksql_types.specs.declared.value.Value.{Value}
-use Rattle.ksql_cli.specs.Printed.{cell_text, fields_of}
+use Rattle.ksql_cli.specs.Printed.{fields_of}
 use Rattle.ksql_cli.proofs.ReportLemmas.{comma_after, comma_after-push, joined_more, fields_of-next, fields_of-min}
 use Rattle.ksql_cli.proofs.printed.push_fields.Goals as goal
 
@@ -11,15 +10,18 @@ pub loop-label-init : goal.loop-label-init
 unfolding comma_after fields_of
 loop-label-init c = record { written = grind (arith, common_steps); next = refl; can = (tt, tt); finite = tt; is_text = ([], (refl, refl)) }
 
+-- this pair stands at the place that was reached, so its field is the next one
 pub loop-label-preserved : goal.loop-label-preserved
 unfolding lib.Utf8.encode
 loop-label-preserved c =
-    let turn = zip_turn c.args.labels.now c.args.cells.now c.loop-label.yielded c.into_iter-label-iterator.result c.loop-label.label-iterator c.next.new.self c.next.result
+    let turn = zip_turn c.args.labels.now c.args.cells.now c.loop-label.yielded
+    c.into_iter-label-iterator.result c.loop-label.label-iterator c.next.new.self c.next.result
     (cc) (cc) c.loop-label.yielded_by (c.in-Some.label, c.in-Some.cell) c.in-Some.is c.next.ensures.steps in
-    let more = fields_of-next (map string_bytes c.args.labels.now) c.args.cells.now (length c.loop-label.yielded)
-    (length (c.loop-label.yielded ++ (c.in-Some.label, c.in-Some.cell) ∷ [])) (string_bytes c.in-Some.label.now) c.in-Some.cell.now
-    (length_push _ _) (simp length-map turn.0) turn.1
-    (ap string_bytes (turn.2 c.in-Some.label.now) ∙ sym (get_or-map string_bytes c.args.labels.now (length c.loop-label.yielded) c.in-Some.label.now _ turn.0)) (turn.3 _) in
+    let label = ap string_bytes (turn.2 c.in-Some.label.now)
+    ∙ sym (get_or-map string_bytes c.args.labels.now (length c.loop-label.yielded) c.in-Some.label.now _ turn.0) in
+    let more = fields_of-next (map string_bytes c.args.labels.now) c.args.cells.now (length c.loop-label.yielded) _
+    (string_bytes c.in-Some.label.now) c.in-Some.cell.now
+    (length_push c.loop-label.yielded (c.in-Some.label, c.in-Some.cell)) (simp length-map turn.0) turn.1 label (turn.3 c.in-Some.cell.now) in
     record {
       written = grind (arith, common_steps, joined_more, more);
       next = grind (arith, common_steps, comma_after-push, more);
@@ -28,9 +30,11 @@ loop-label-preserved c =
       is_text = (44 ∷ [], (refl, refl));
     }
 
+-- one of the two lists has come to its end
 pub returns : goal.returns
 returns c =
-    let ends = zip_end c.args.labels.now c.args.cells.now c.loop-label.yielded c.into_iter-label-iterator.result c.loop-label.label-iterator c.next.new.self c.next.result
+    let ends = zip_end c.args.labels.now c.args.cells.now c.loop-label.yielded
+    c.into_iter-label-iterator.result c.loop-label.label-iterator c.next.new.self c.next.result
     (cc) (cc) c.loop-label.yielded_by c.in-None.is c.next.ensures.steps in
     let whole = fields_of-min (map string_bytes c.args.labels.now) c.args.cells.now (length c.loop-label.yielded) (simp length-map ends) in
     grind (arith, common_steps, whole)

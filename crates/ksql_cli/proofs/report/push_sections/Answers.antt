@@ -2,7 +2,7 @@ use Rattle.std.proofs.Common.{arith, append_assoc}
 use Rattle.std.proofs.lemmas.Grind.{common_steps}
 use Rattle.std.proofs.lemmas.List.{append-nil}
 use Rattle.std.proofs.lemmas.List.Concat.{flat_map-append}
-use Rattle.ksql_cli.specs.Report.{sections, section_text}
+use Rattle.ksql_cli.specs.Report.{sections}
 use Rattle.ksql_cli.proofs.ReportLemmas.{sections-more}
 use Rattle.ksql_cli.proofs.report.push_sections.Goals as goal
 
