@@ -28,6 +28,10 @@ Files = List (List ℕ × List ℕ)
 abbrev pub longest_word : ℕ
 longest_word = 4096
 
+-- the most bytes of a legal topic name
+abbrev pub longest_topic : ℕ
+longest_topic = 249
+
 -- the script's name, where the words are: the program's name, run, --script, and the script's name
 abbrev pub script_name : List (List ℕ) → Option (List ℕ)
 script_name (program ∷ command ∷ option ∷ name ∷ []) =
@@ -70,7 +74,7 @@ IsBadFile all relation = (file : List ℕ) × (read_bytes (topic_file relation) 
 abbrev pub AreFed : Files → List Relation → List TopicLines → Type 0
 AreFed all [] files = files ≡ []
 AreFed all (relation ∷ relations) files =
-    (feds : List Fed) (others : List TopicLines) × IsFed all relation feds × AreFed all relations others
+    (feds : List Fed) × (others : List TopicLines) × IsFed all relation feds × AreFed all relations others
     × (files ≡ record { relation = relation.number; feds = feds } ∷ others)
 
 -- this relation's topic file is the first that isn't good
@@ -89,7 +93,7 @@ IsTopicDue all (relation ∷ relations) name =
 abbrev pub IsDue : List (List ℕ) → Files → List ℕ → Type 0
 IsDue words all name =
     (script_name words ≡ Some name)
-    ⊎ ((script : List ℕ) (program : Program) × IsScriptRead words all script × IsAccepted script program × IsTopicDue all (declared_of program.items) name)
+    ⊎ ((script : List ℕ) × (program : Program) × IsScriptRead words all script × IsAccepted script program × IsTopicDue all (declared_of program.items) name)
 
 -- the command runs this program on these files
 abbrev pub Runs : List (List ℕ) → Files → Program → List TopicLines → Type 0
@@ -104,13 +108,31 @@ report_of program files =
 
 -- the cause of a status, with the names that failed before and after
 abbrev pub HasCause : List (List ℕ) → Files → List (List ℕ) → List (List ℕ) → Status → Type 0
-HasCause words all old new ended.Done = (program : Program) (files : List TopicLines) × Runs words all program files
+HasCause words all old new ended.Done = (program : Program) × (files : List TopicLines) × Runs words all program files
 HasCause words all old new ended.Usage = script_name words ≡ None
 HasCause words all old new (ended.Script statement code) =
     (statement ≡ 0) × (code ≡ Unsupported) × ((script : List ℕ) × IsScriptRead words all script × ((program : Program) → IsAccepted script program → ⊥))
 HasCause words all old new (ended.TopicFile topic line why) =
     (line ≡ 0) × (why ≡ BadLine)
-    × ((script : List ℕ) (program : Program) × IsScriptRead words all script × IsAccepted script program × IsFirstBad all (declared_of program.items) topic)
+    × ((script : List ℕ) × (program : Program) × IsScriptRead words all script × IsAccepted script program × IsFirstBad all (declared_of program.items) topic)
 HasCause words all old new (ended.ReadFault name) = JoinedLast old new name × IsDue words all name
-HasCause words all old new ended.WriteFault = (program : Program) (files : List TopicLines) × Runs words all program files
+HasCause words all old new ended.WriteFault = (program : Program) × (files : List TopicLines) × Runs words all program files
 HasCause words all old new ended.OutOfMemory = Unit {0}
+
+-- an answer that the words and the files decide, whatever is read and written
+abbrev pub IsDecided : Status → Type 0
+IsDecided ended.Done = Unit {0}
+IsDecided ended.Usage = Unit {0}
+IsDecided (ended.Script statement code) = Unit {0}
+IsDecided (ended.TopicFile topic line why) = Unit {0}
+IsDecided _ = ⊥
+
+-- a status under which nothing is written
+abbrev pub IsRefusal : Status → Type 0
+IsRefusal ended.Done = ⊥
+IsRefusal ended.WriteFault = ⊥
+IsRefusal _ = Unit {0}
+
+-- no name whose turn it was is the last that joined the failed names
+abbrev pub NoDueFails : List (List ℕ) → Files → List (List ℕ) → List (List ℕ) → Type 0
+NoDueFails words all old new = (name : List ℕ) → IsDue words all name → JoinedLast old new name → ⊥

@@ -4,3 +4,4 @@ pub mod Lines
 pub mod Printed
 pub mod Report
 pub mod Status
+pub mod Steps
