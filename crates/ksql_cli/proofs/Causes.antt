@@ -44,9 +44,10 @@ pub topic_cause : (words : List (List ℕ)) (all : Files) (form : FirstForm) (ol
     IsGrown old mid → IsFormRead words all form → IsTopicFailure all form mid new status → HasCause words all old new status
 topic_cause words all form old mid new (ended.TopicFile topic line why) grown read bad =
     (bad.0, bad.1, (read.0, program_of form, read.1, (form, read.2, refl), inl (bad.3, bad.2)))
-topic_cause words all form old mid new (ended.ReadFault name) grown read failed =
-    ((grown.0, failed.1 ∙ ap (λ (names : List (List ℕ)). names ++ name ∷ []) grown.1 ∙ append_assoc old grown.0 (name ∷ [])),
-     inr (read.0, program_of form, read.1, (form, read.2, refl), inl failed.0))
+topic_cause words all form old mid new (ended.ReadFault name) grown read failed = (
+  (grown.0, failed.1 ∙ ap (λ (names : List (List ℕ)). names ++ name ∷ []) grown.1 ∙ append_assoc old grown.0 (name ∷ [])),
+  inr (read.0, program_of form, read.1, (form, read.2, refl), inl failed.0),
+)
 topic_cause words all form old mid new ended.OutOfMemory grown read failed = tt
 topic_cause words all form old mid new ended.Done grown read failed = absurd failed
 topic_cause words all form old mid new ended.Usage grown read failed = absurd failed
@@ -160,7 +161,6 @@ decided words all old new (ended.ReadFault name) status refusal cause none is ca
 decided words all old new ended.OutOfMemory status refusal cause none is caused = inr refl
 decided words all old new ended.Done status refusal cause none is caused = absurd refusal
 decided words all old new ended.WriteFault status refusal cause none is caused = absurd refusal
-
 
 -- what the clause on exact answers says, of an answer and of what keeps the writes calm
 abbrev IsExact : List (List ℕ) → List (List ℕ) → List (List ℕ) → Type 0 → Status → Files → Type 0

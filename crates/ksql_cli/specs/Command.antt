@@ -36,7 +36,7 @@ longest_topic = 249
 abbrev pub script_name : List (List ℕ) → Option (List ℕ)
 script_name (program ∷ command ∷ option ∷ name ∷ []) =
     if list_all (λ word. nat_le (length word) longest_word) (program ∷ command ∷ option ∷ name ∷ [])
-      && bytes_eq command (codes "run") && bytes_eq option (codes "--script")
+    && bytes_eq command (codes "run") && bytes_eq option (codes "--script")
     then Some name else None
 script_name _ = None
 

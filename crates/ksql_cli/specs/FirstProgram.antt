@@ -29,14 +29,28 @@ schema_of form = record { keys = one_column form.key types.Text; values = one_co
 -- the declared stream
 abbrev pub stream_of : FirstForm → Relation
 stream_of form = record {
-  number = 0; name = form.stream; kind = Stream; schema = schema_of form;
-  topic = form.topic; partitions = 1; format = Json; declared = true }
+  number = 0;
+  name = form.stream;
+  kind = Stream;
+  schema = schema_of form;
+  topic = form.topic;
+  partitions = 1;
+  format = Json;
+  declared = true;
+}
 
 -- the query's own stream
 abbrev pub result_of : FirstForm → Relation
 result_of form = record {
-  number = 1; name = form.result; kind = Stream; schema = schema_of form;
-  topic = form.result; partitions = 1; format = Json; declared = false }
+  number = 1;
+  name = form.result;
+  kind = Stream;
+  schema = schema_of form;
+  topic = form.result;
+  partitions = 1;
+  format = Json;
+  declared = false;
+}
 
 -- the column at this index
 abbrev pub column : ℕ → SqlType → Typed
@@ -46,7 +60,8 @@ column index type = record { ty = Some type; node = ColumnAt index }
 abbrev pub above_bound : ℤ → Typed
 above_bound bound = record {
   ty = Some types.Bool;
-  node = Binary Gt (column 1 types.Int) (record { ty = Some types.Int; node = Literal (values.Int bound) }) }
+  node = Binary Gt (column 1 types.Int) (record { ty = Some types.Int; node = Literal (values.Int bound) });
+}
 
 -- the key and the number of each row whose number is above the bound
 abbrev pub query_of : FirstForm → Query
@@ -54,7 +69,8 @@ query_of form = record {
   from = One 0;
   filter = Some (above_bound form.bound);
   shape = Plain (column 0 types.Text ∷ []) (column 1 types.Int ∷ []);
-  out = result_of form }
+  out = result_of form;
+}
 
 -- the stream, and then the query
 abbrev pub program_of : FirstForm → Program

@@ -8,11 +8,10 @@ mod report;
 mod run;
 mod status;
 
-pub use run::ksql;
-pub use status::{Code, LineWhy, Status};
-
 use ksql_outside::{DirFolder, NoGate, StdSink};
 use ksql_types::{Items, Word, Words};
+pub use run::ksql;
+pub use status::{Code, LineWhy, Status};
 use std::env;
 use std::io::ErrorKind;
 use std::process::ExitCode;

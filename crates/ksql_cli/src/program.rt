@@ -1,11 +1,12 @@
 ghost use Rattle.std.specs.Prelude.{◌≡◌, IfOk};
 ghost use Rattle.ksql_cli.specs.FirstProgram.{above_bound, column, one_column, program_of, query_of, result_of, schema_of, stream_of};
 
-use std::alloc::{AllocError, Global};
-
 use ksql_parser::FirstForm;
-use ksql_types::{Boxed, Chars, Column, Columns, CopyOf, Format, Items, Kind, Relation, Schema, SqlType, Value};
+use ksql_types::{
+    Boxed, Chars, Column, Columns, CopyOf, Format, Items, Kind, Relation, Schema, SqlType, Value,
+};
 use query_meaning::{BinaryOp, From, Item, Program, Query, Shape, Typed, TypedNode};
+use std::alloc::{AllocError, Global};
 
 /// The program of a script of the first form: its stream, and then its query.
 pub fn program_of(alloc: Global, form: &FirstForm) -> Result<Program, AllocError>

@@ -8,16 +8,15 @@ ghost use Rattle.ksql_cli.specs.FirstProgram.{program_of, stream_of};
 ghost use Rattle.ksql_cli.specs.Command.{HasCause, IsDecided, IsFed, IsRefusal, longest_topic, longest_word, NoDueFails, report_of, Runs, script_name};
 ghost use Rattle.ksql_cli.specs.Steps.{IsFormRead, IsGrown, IsReadFailure, IsTopicFailure, IsTopicRefusal};
 
+use crate::lines::topic_feds;
+use crate::program::program_of;
+use crate::report::report;
+use crate::status::{Code, LineWhy, Status};
 use ksql_outside::{Failed, Folder, Gate, ReadFail, Sink, write_whole};
 use ksql_parser::{FirstForm, first_form};
 use ksql_types::{Chars, CopyOf, Word, Words};
 use query_meaning::{Feds, TopicLines, order_of, slow_meaning};
 use std::alloc::{AllocError, Global};
-
-use crate::lines::topic_feds;
-use crate::program::program_of;
-use crate::report::report;
-use crate::status::{Code, LineWhy, Status};
 
 /// Runs the command that the words say: reads the script and its topic file from the folder, and writes the report.
 pub fn ksql<R, F: Folder, K: Sink, G: Gate + Sync>(
@@ -83,7 +82,11 @@ fn whole_text<F: Folder>(alloc: Global, words: &Words, folder: &mut F) -> Result
 
 /// The form of the script that the words name.
 #[tactic(auto, unfolding(ksql_types::specs::Text::longest_text))]
-fn accepted_script<F: Folder>(alloc: Global, words: &Words, folder: &mut F) -> Result<FirstForm, Status>
+fn accepted_script<F: Folder>(
+    alloc: Global,
+    words: &Words,
+    folder: &mut F,
+) -> Result<FirstForm, Status>
     ensures found { IfOk result (λ form. IfSome (F.files folder.old) (λ all. IsFormRead words.now all form)) }
     ensures cause { IfErr result (λ status. IfSome (F.files folder.old)
         (λ all. HasCause words.now all (F.failed folder.old) (F.failed folder.new) status)) }
@@ -187,7 +190,10 @@ fn script_name(words: &Words) -> Option<&str>
 {
     match words.items() {
         [program, command, option, name] => {
-            let are_short = is_short(program) && is_short(command) && is_short(option) && is_short(name);
+            let are_short = is_short(program)
+                && is_short(command)
+                && is_short(option)
+                && is_short(name);
             if are_short && command.items() == "run" && option.items() == "--script" {
                 Some(name.items())
             } else {
@@ -204,3 +210,6 @@ fn is_short(word: &Word) -> bool
 {
     word.items().len() <= 4096
 }
+
+#[cfg(test)]
+mod tests;

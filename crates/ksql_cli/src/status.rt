@@ -11,7 +11,10 @@ pub enum Status {
     /// The words aren't a command.
     Usage,
     /// The script was refused: at this statement, counted from 1 (0 is the script as a whole), for this reason.
-    Script { statement: u32, code: Code },
+    Script {
+        statement: u32,
+        code: Code,
+    },
     /// A topic file was refused: at this line, counted from 1 (0 is the file as a whole), for this reason.
     TopicFile {
         topic: Chars,
@@ -19,7 +22,9 @@ pub enum Status {
         why: LineWhy,
     },
     /// The file of this name couldn't be read.
-    ReadFault { name: Chars },
+    ReadFault {
+        name: Chars,
+    },
     /// A write of the command's text failed.
     WriteFault,
     /// Want of memory.

@@ -8,7 +8,7 @@ pub returns-in-Ok-None-clause-cause : goal.returns-in-Ok-None-clause-cause
 returns-in-Ok-None-clause-cause g c =
     let none = rw c.in-Ok-None.field-0-is at c.in-Ok-None.ensures.none in
     let none_of : (form : FirstForm) → IsScriptOf c.in-Ok.script.items form → ⊥ =
-        subst (λ (script : List ℕ). (form : FirstForm) → IsScriptOf script form → ⊥) c.as_slice.ensures.value none in
+    subst (λ (script : List ℕ). (form : FirstForm) → IsScriptOf script form → ⊥) c.as_slice.ensures.value none in
     refused (g.F.Folder.files c.args.folder.now) c.args.words.now (g.F.Folder.failed c.args.folder.now) (g.F.Folder.failed c.due_file.new.folder) c.in-Some.name.now c.in-Ok.script.items (sym c.in-Some.ensures.value) none_of c.in-Ok.ensures.told
 
 pub returns-in-Ok-Some-clause-topic : goal.returns-in-Ok-Some-clause-topic

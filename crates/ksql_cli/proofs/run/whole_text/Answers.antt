@@ -12,10 +12,10 @@ returns-in-Err-topic_of-clause-cause g c =
     let new = g.F.Folder.failed c.topic_of.new.folder in
     let failed = subst (λ (files : Option Files). IfSome files (λ all. IsTopicFailure all c.in-Ok.form mid new c.in-Err-topic_of.status)) c.in-Ok.ensures.same_files c.in-Err-topic_of.ensures.cause in
     if_some_both _ _ _ _ (λ all read why. topic_cause c.args.words.now all c.in-Ok.form (g.F.Folder.failed c.args.folder.now) mid new c.in-Err-topic_of.status c.in-Ok.ensures.grows read why)
-      c.in-Ok.ensures.found failed
+    c.in-Ok.ensures.found failed
 
 pub returns-in-Ok-report_of-clause-found : goal.returns-in-Ok-report_of-clause-found
 returns-in-Ok-report_of-clause-found g c =
     let fed = subst (λ (files : Option Files). IfSome files (λ all. IsFed all (stream_of c.in-Ok.form) c.in-Ok-topic_of.feds)) c.in-Ok.ensures.same_files c.in-Ok-topic_of.ensures.found in
     if_some_both _ _ _ _ (λ all read good. run_found c.args.words.now all c.in-Ok.form c.in-Ok-topic_of.feds _ c.in-Ok-report_of.ensures read good)
-      c.in-Ok.ensures.found fed
+    c.in-Ok.ensures.found fed

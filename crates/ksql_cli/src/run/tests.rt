@@ -1,0 +1,225 @@
+ghost use Rattle.std.specs.Prelude.{◌≡◌, ◌≤◌, length, IfOk};
+ghost use Rattle.ksql_types.specs.Text.{longest_text};
+
+use crate::run::ksql;
+use crate::status::{Code, LineWhy, Status};
+use ksql_outside::{MemFolder, MemSink, NoGate};
+use ksql_types::{Bytes, Chars, Items, Word, Words};
+use std::alloc::{AllocError, Global};
+use std::test::Fail;
+
+const SCRIPT: &str = "CREATE STREAM S (ID VARCHAR KEY, N INTEGER)
+  WITH (KAFKA_TOPIC='s', VALUE_FORMAT='JSON', PARTITIONS=1);
+CREATE STREAM BIG AS SELECT ID, N FROM S WHERE N > 1 EMIT CHANGES;
+";
+
+const LINES: &str = "{\"t\":5,\"k\":\"a\",\"v\":{\"N\":1}}
+{\"t\":7,\"k\":\"a\",\"v\":{\"N\":2}}
+";
+
+const REPORT: &str = "order 2
+1 s 0 0 5
+1 s 0 1 7
+stream S declared c=1 skipped=0 changes=2
+{\"p\":0,\"t\":5,\"k\":\"a\",\"v\":{\"N\":1}}
+{\"p\":0,\"t\":7,\"k\":\"a\",\"v\":{\"N\":2}}
+stream BIG query c=1 changes=1
+{\"p\":0,\"t\":7,\"k\":\"a\",\"v\":{\"N\":2}}
+end
+";
+
+const EMPTY_REPORT: &str = "order 0
+stream S declared c=1 skipped=0 changes=0
+stream BIG query c=1 changes=0
+end
+";
+
+fn file(alloc: Global, name: &str, bytes: &str) -> Result<(Chars, Bytes), AllocError>
+    requires { length name.now ≤ longest_text }
+    ensures { IfOk result (λ pair. pair.0 ≡ name.now) }
+{
+    let name = Chars::of(String::from_str(alloc, name)?);
+    Ok((name, Bytes::of(Vec::from_slice(alloc, bytes.as_bytes())?)))
+}
+
+/// A folder with a script and a topic file, in which the reads of these numbers fail.
+#[tactic(auto, unfolding(ksql_types::specs::Text::longest_text))]
+fn folder(
+    alloc: Global,
+    script: &str,
+    lines: &str,
+    failing: &[u64],
+) -> Result<MemFolder, AllocError> {
+    let mut files = Vec::new(alloc);
+    files.push(file(alloc, "f", script)?)?;
+    files.push(file(alloc, "./s.jsonl", lines)?)?;
+    Ok(MemFolder::new(alloc, files, Vec::from_slice(alloc, failing)?))
+}
+
+fn words(alloc: Global, texts: &[&str]) -> Result<Words, AllocError> {
+    let mut words = Vec::new(alloc);
+    for text in texts {
+        words.push(Word::of(String::from_str(alloc, text)?))?;
+    }
+    Ok(Items::of(words))
+}
+
+const RUN: [&str; 4] = ["ksql", "run", "--script", "f"];
+
+#[test]
+fn two_records_are_filtered(rt: HostRuntime) -> Result<(), Fail> {
+    let alloc = rt.alloc();
+    for (lines, report) in [(LINES, REPORT), ("", EMPTY_REPORT)] {
+        let mut files = folder(alloc, SCRIPT, lines, &[])?;
+        let mut out = MemSink::new(alloc, 1000, 1000)?;
+        let status = ksql(
+            &rt,
+            alloc,
+            &words(alloc, &RUN)?,
+            &mut files,
+            &mut out,
+            &NoGate,
+        );
+        assert_eq!(rt; status, Status::Done);
+        assert_eq!(rt; out.written(), report.as_bytes());
+        assert_eq!(rt; status.code(), 0);
+    }
+    Ok(())
+}
+
+#[test]
+fn a_sink_that_takes_a_byte_a_call_gets_the_whole_report(rt: HostRuntime) -> Result<(), Fail> {
+    let alloc = rt.alloc();
+    let mut files = folder(alloc, SCRIPT, LINES, &[])?;
+    let mut out = MemSink::new(alloc, 1000, 1)?;
+    let status = ksql(
+        &rt,
+        alloc,
+        &words(alloc, &RUN)?,
+        &mut files,
+        &mut out,
+        &NoGate,
+    );
+    assert_eq!(rt; status, Status::Done);
+    assert_eq!(rt; out.written(), REPORT.as_bytes());
+    Ok(())
+}
+
+#[test]
+fn a_sink_that_fails_has_the_front_of_the_report(rt: HostRuntime) -> Result<(), Fail> {
+    let alloc = rt.alloc();
+    for (room, front) in [(0, ""), (1, "o"), (10, "order 2\n1 ")] {
+        let mut files = folder(alloc, SCRIPT, LINES, &[])?;
+        let mut out = MemSink::new(alloc, room, 1000)?;
+        let status = ksql(
+            &rt,
+            alloc,
+            &words(alloc, &RUN)?,
+            &mut files,
+            &mut out,
+            &NoGate,
+        );
+        assert_eq!(rt; status, Status::WriteFault);
+        assert_eq!(rt; out.written(), front.as_bytes());
+        assert_eq!(rt; status.code(), 7);
+    }
+    Ok(())
+}
+
+#[test]
+fn a_read_that_fails_is_named(rt: HostRuntime) -> Result<(), Fail> {
+    let alloc = rt.alloc();
+    for (number, wanted) in [(1, "f"), (2, "./s.jsonl")] {
+        let mut files = folder(alloc, SCRIPT, LINES, &[number])?;
+        let mut out = MemSink::new(alloc, 1000, 1000)?;
+        let status = ksql(
+            &rt,
+            alloc,
+            &words(alloc, &RUN)?,
+            &mut files,
+            &mut out,
+            &NoGate,
+        );
+        assert_eq!(rt; status.code(), 6);
+        let Status::ReadFault { name } = status else {
+            return Err(Fail::from("no read fault"));
+        };
+        assert_eq!(rt; name.items(), wanted);
+        assert!(rt; out.written().is_empty());
+    }
+    Ok(())
+}
+
+#[test]
+fn words_of_another_shape_are_no_command(rt: HostRuntime) -> Result<(), Fail> {
+    let alloc = rt.alloc();
+    let long = String::from_utf8(vec![in alloc; b'f'; 4097]?)
+        .ok()
+        .ok_or("ASCII")?;
+    for shape in [
+        [].as_slice(),
+        ["ksql"].as_slice(),
+        ["ksql", "run"].as_slice(),
+        ["ksql", "run", "--script"].as_slice(),
+        ["ksql", "run", "--script", "f", ""].as_slice(),
+        ["ksql", "Run", "--script", "f"].as_slice(),
+        ["ksql", "explain", "--script", "f"].as_slice(),
+        ["ksql", "run", "--Script", "f"].as_slice(),
+        ["ksql", "run", "--script=f", "f"].as_slice(),
+        ["run", "--script", "f"].as_slice(),
+        ["ksql", "run", "--script", long.as_str()].as_slice(),
+        [long.as_str(), "run", "--script", "f"].as_slice(),
+    ] {
+        let mut files = folder(alloc, SCRIPT, LINES, &[])?;
+        let mut out = MemSink::new(alloc, 1000, 1000)?;
+        let status = ksql(
+            &rt,
+            alloc,
+            &words(alloc, shape)?,
+            &mut files,
+            &mut out,
+            &NoGate,
+        );
+        assert_eq!(rt; status, Status::Usage);
+        assert!(rt; out.written().is_empty());
+        assert_eq!(rt; status.code(), 2);
+    }
+    Ok(())
+}
+
+#[test]
+fn other_scripts_and_lines_are_refused(rt: HostRuntime) -> Result<(), Fail> {
+    let alloc = rt.alloc();
+    let mut out = MemSink::new(alloc, 1000, 1000)?;
+    let mut files = folder(alloc, "CREATE STREAM S;", LINES, &[])?;
+    let status = ksql(
+        &rt,
+        alloc,
+        &words(alloc, &RUN)?,
+        &mut files,
+        &mut out,
+        &NoGate,
+    );
+    let refused = Status::Script {
+        statement: 0,
+        code: Code::Unsupported,
+    };
+    assert_eq!(rt; status, refused);
+    assert_eq!(rt; status.code(), 3);
+    let mut files = folder(alloc, SCRIPT, "{\"k\":\"a\",\"v\":{\"N\":1}}\n", &[])?;
+    let status = ksql(
+        &rt,
+        alloc,
+        &words(alloc, &RUN)?,
+        &mut files,
+        &mut out,
+        &NoGate,
+    );
+    assert_eq!(rt; status.code(), 4);
+    let Status::TopicFile { topic, line, why } = status else {
+        return Err(Fail::from("no refused topic file"));
+    };
+    assert_eq!(rt; (topic.items(), line, why), ("s", 0, LineWhy::BadLine));
+    assert!(rt; out.written().is_empty());
+    Ok(())
+}
