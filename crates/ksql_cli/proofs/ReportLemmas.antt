@@ -1,6 +1,5 @@
 -- Lemmas on texts that are appended to.
-use Rattle.std.proofs.Common.{◌≡◌, ℕ, ◌+◌, ◌<◌, zero, suc, List, [], ◌∷◌, ◌++◌, length, get_or, take, map, min, refl, ap, sym, ◌∙◌, append_assoc, add-one, arith, rules}
-use Rattle.std.proofs.lemmas.List.{map_more}
+use Rattle.std.proofs.Common.{◌≡◌, ℕ, ◌+◌, ◌<◌, zero, suc, List, [], ◌∷◌, ◌++◌, length, get_or, take, map, min, refl, ap, sym, ◌∙◌, append_assoc, add-one, arith}
 use Rattle.ksql_types.specs.declared.value.Value.{Value}
 use Rattle.query_meaning.specs.declared.change.Change.{Change}
 use Rattle.query_meaning.specs.declared.change.SourceRecord.{SourceRecord}
