@@ -1,12 +1,10 @@
 -- Lemmas on texts that are appended to.
-use Rattle.std.proofs.Common.{◌≡◌, ℕ, ◌+◌, ◌<◌, zero, suc, List, [], ◌∷◌, ◌++◌, length, get_or, take, map, min, refl, ap, sym, ◌∙◌, append_assoc, add-one, arith, rules}
-use Rattle.std.proofs.lemmas.List.{map_more}
-use Rattle.std.specs.List.{join_with_byte}
+use Rattle.std.proofs.Common.{◌≡◌, ℕ, ◌+◌, ◌<◌, zero, suc, List, [], ◌∷◌, ◌++◌, length, get_or, take, map, min, refl, ap, sym, ◌∙◌, append_assoc, add-one, arith}
 use Rattle.ksql_types.specs.declared.value.Value.{Value}
 use Rattle.query_meaning.specs.declared.change.Change.{Change}
 use Rattle.query_meaning.specs.declared.change.SourceRecord.{SourceRecord}
 use Rattle.query_meaning.specs.declared.program.Item.{Item}
-use Rattle.ksql_cli.specs.Printed.{cell_text, fields_of}
+use Rattle.ksql_cli.specs.Printed.{comma_joined, cell_text, fields_of}
 use Rattle.ksql_cli.specs.Report.{sections, section_of}
 
 -- one text behind another, in any grouping
@@ -23,19 +21,19 @@ comma_after-push [] piece = refl
 comma_after-push (first ∷ pieces) piece = refl
 
 -- one more piece goes behind a comma, unless it is the first
-pub join_with_byte-push : (pieces : List (List ℕ)) (piece : List ℕ)
-    → join_with_byte 44 (pieces ++ piece ∷ []) ≡ join_with_byte 44 pieces ++ (comma_after pieces ++ piece)
+pub comma_joined-push : (pieces : List (List ℕ)) (piece : List ℕ)
+    → comma_joined (pieces ++ piece ∷ []) ≡ comma_joined pieces ++ (comma_after pieces ++ piece)
 unfolding comma_after
-join_with_byte-push [] piece = refl
-join_with_byte-push (first ∷ []) piece = refl
-join_with_byte-push (first ∷ second ∷ pieces) piece =
-    ap (λ text. first ++ (44 ∷ text)) (join_with_byte-push (second ∷ pieces) piece)
-    ∙ sym (append_assoc first (44 ∷ join_with_byte 44 (second ∷ pieces)) (comma_after (second ∷ pieces) ++ piece))
+comma_joined-push [] piece = refl
+comma_joined-push (first ∷ []) piece = refl
+comma_joined-push (first ∷ second ∷ pieces) piece =
+    ap (λ text. first ++ (44 ∷ text)) (comma_joined-push (second ∷ pieces) piece)
+    ∙ sym (append_assoc first (44 ∷ comma_joined (second ∷ pieces)) (comma_after (second ∷ pieces) ++ piece))
 
 -- one more piece behind a text that ends in the others
 pub joined_more : (pieces : List (List ℕ)) (piece old : List ℕ)
-    → ((old ++ join_with_byte 44 pieces) ++ comma_after pieces) ++ piece ≡ old ++ join_with_byte 44 (pieces ++ piece ∷ [])
-joined_more pieces piece old = rw (join_with_byte-push pieces piece) (simp append_assoc)
+    → ((old ++ comma_joined pieces) ++ comma_after pieces) ++ piece ≡ old ++ comma_joined (pieces ++ piece ∷ [])
+joined_more pieces piece old = rw (comma_joined-push pieces piece) (simp append_assoc)
 
 -- the fields of one more label and value
 fields_of-suc : (labels : List (List ℕ)) (cells : List Value) (i : ℕ) (label : List ℕ) (cell : Value)
@@ -48,12 +46,6 @@ fields_of-suc (l ∷ labels) [] i label cell p q = absurd (omega arith)
 fields_of-suc (l ∷ labels) (v ∷ cells) zero label cell p q = refl
 fields_of-suc (l ∷ labels) (v ∷ cells) (suc i) label cell p q =
     ap (λ fields. (l ++ cell_text v) ∷ fields) (fields_of-suc labels cells i label cell (omega arith) (omega arith))
-
-pub fields_of-more : (labels : List (List ℕ)) (cells : List Value) (i : ℕ) (label : List ℕ) (cell : Value)
-    → i < length labels → i < length cells
-    → fields_of (take (i + 1) labels) (take (i + 1) cells)
-    ≡ fields_of (take i labels) (take i cells) ++ (get_or labels i label ++ cell_text (get_or cells i cell)) ∷ []
-fields_of-more labels cells i label cell p q = rw add-one (fields_of-suc labels cells i label cell p q)
 
 -- the section of one more item
 sections-suc : (closed : ℕ) (items : List Item) (order : List SourceRecord) (lists : List (List Change)) (i : ℕ) (d : Item)
@@ -92,4 +84,6 @@ pub fields_of-next : (labels : List (List ℕ)) (cells : List Value) (n next : �
     → next ≡ n + 1 → n < length labels → n < length cells → label ≡ get_or labels n label → cell ≡ get_or cells n cell
     → fields_of (take next labels) (take next cells) ≡ fields_of (take n labels) (take n cells) ++ (label ++ cell_text cell) ∷ []
 fields_of-next labels cells n next label cell e p q is_label is_cell =
-    let more = fields_of-more labels cells n label cell p q in cc
+    let more = fields_of-suc labels cells n label cell p q in
+    let one = add-one n in
+    cc

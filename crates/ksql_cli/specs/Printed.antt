@@ -20,9 +20,13 @@ cell_text (values.Big number) = signed_decimal number
 cell_text (values.Txt text) = quoted text
 cell_text (values.Bool truth) = if truth then codes "true" else codes "false"
 
+-- pieces with a comma between each two
+abbrev pub comma_joined : List (List ℕ) → List ℕ
+comma_joined pieces = join_with_byte 44 pieces
+
 -- values with commas between
 unfoldable pub cells_text : List Value → List ℕ
-cells_text cells = join_with_byte 44 (map cell_text cells)
+cells_text cells = comma_joined (map cell_text cells)
 
 -- a key, as JSON: null, the value of one column, or an array of several
 unfoldable pub key_text : List Value → List ℕ
@@ -42,7 +46,7 @@ fields_of (label ∷ labels) (cell ∷ cells) = (label ++ cell_text cell) ∷ fi
 
 -- a row, as JSON: an object without blanks, of these labels and values
 unfoldable pub value_text : List (List ℕ) → List Value → List ℕ
-value_text labels row = codes "{" ++ (join_with_byte 44 (fields_of labels row) ++ codes "}")
+value_text labels row = codes "{" ++ (comma_joined (fields_of labels row) ++ codes "}")
 
 -- the partition that is printed with a change
 unfoldable pub shown_partition : Change → ℕ

@@ -1,9 +1,8 @@
 //! The lines of a report on records and changes.
 
 ghost use Rattle.std.specs.Prelude.{◌≡◌, ◌++◌, IfOk, OnOk, map, string_bytes};
-ghost use Rattle.std.specs.List.{join_with_byte};
 ghost use Rattle.json.specs.Print.{quoted};
-ghost use Rattle.ksql_cli.specs.Printed.{cell_text, cells_text, key_text, label_of, fields_of, value_text, span_text, body_text, labelled_line, order_line};
+ghost use Rattle.ksql_cli.specs.Printed.{comma_joined, cell_text, cells_text, key_text, label_of, fields_of, value_text, span_text, body_text, labelled_line, order_line};
 
 use ksql_types::{Column, Span, Value};
 use query_meaning::{Body, Change, SourceRecord};
@@ -92,7 +91,7 @@ fn push_fields(
     cells: &[Value],
 ) -> Result<(), AllocError>
     ensures { OnOk result (string_bytes out.new
-        ≡ string_bytes out.old ++ join_with_byte 44 (fields_of (map string_bytes labels.now) cells.now)) }
+        ≡ string_bytes out.old ++ comma_joined (fields_of (map string_bytes labels.now) cells.now)) }
 {
     let mut separator = "";
     for (label, cell) in labels.iter().zip(cells) {

@@ -1,15 +1,14 @@
 use Rattle.std.proofs.Common.{◌≡◌, ◌++◌, map, take, string_bytes}
 use denote.Text.{Utf8}
 use denote.Shadow.{shadow}
-use Rattle.std.specs.List.{join_with_byte}
-use Rattle.ksql_cli.specs.Printed.{cell_text}
+use Rattle.ksql_cli.specs.Printed.{comma_joined, cell_text}
 use Rattle.ksql_cli.proofs.ReportLemmas.{comma_after}
 use Rattle.ksql_cli.proofs.printed.push_cells.Given as goal
 
 -- the values so far are written, and a comma is next unless there is none
 abbrev pub invariant-loop-cell : goal.invariant-loop-cell
 invariant-loop-cell l = record {
-  written : string_bytes l.out ≡ string_bytes l.fn.out ++ join_with_byte 44 (map cell_text (take l.cell-index l.cells));
+  written : string_bytes l.out ≡ string_bytes l.fn.out ++ comma_joined (map cell_text (take l.cell-index l.cells));
   next : l.separator ≡ comma_after (map cell_text (take l.cell-index l.cells));
   is_text : shadow (Utf8 l.separator);
 }

@@ -1,8 +1,7 @@
 use Rattle.std.proofs.Common.{◌≡◌, ◌++◌, map, take, length, string_bytes}
 use denote.Text.{Utf8}
 use denote.Shadow.{shadow}
-use Rattle.std.specs.List.{join_with_byte}
-use Rattle.ksql_cli.specs.Printed.{fields_of}
+use Rattle.ksql_cli.specs.Printed.{comma_joined, fields_of}
 use Rattle.ksql_cli.proofs.ReportLemmas.{comma_after}
 use Rattle.ksql_cli.proofs.printed.push_fields.Given as goal
 
@@ -10,7 +9,7 @@ use Rattle.ksql_cli.proofs.printed.push_fields.Given as goal
 abbrev pub invariant-loop-label : goal.invariant-loop-label
 invariant-loop-label l = record {
   written : string_bytes l.out ≡ string_bytes l.fn.out
-      ++ join_with_byte 44 (fields_of (take (length l.yielded) (map string_bytes l.labels)) (take (length l.yielded) l.cells));
+      ++ comma_joined (fields_of (take (length l.yielded) (map string_bytes l.labels)) (take (length l.yielded) l.cells));
   next : l.separator ≡ comma_after (fields_of (take (length l.yielded) (map string_bytes l.labels)) (take (length l.yielded) l.cells));
   can : (goal.iterator-loop-label).can_next l.label-iterator;
   finite : (goal.iterator-loop-label).is_finite l.label-iterator;
