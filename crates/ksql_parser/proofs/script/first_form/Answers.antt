@@ -6,9 +6,9 @@ use Rattle.ksql_parser.specs.Reading.{form_lent, form_of}
 use Rattle.ksql_parser.proofs.Scripts.{read_script, none_read, unsound_read}
 use Rattle.ksql_parser.proofs.script.first_form.Goals as goal
 
-pub returns-then-script-gt1048576-clause-none : goal.returns-then-script-gt1048576-clause-none
+pub returns-then-script-gt-LONGEST_SCRIPT-clause-none : goal.returns-then-script-gt-LONGEST_SCRIPT-clause-none
 unfolding longest_text
-returns-then-script-gt1048576-clause-none c = λ form script. omega (arith, script.short)
+returns-then-script-gt-LONGEST_SCRIPT-clause-none c = λ form script. omega (arith, script.short)
 
 pub tokens-requires : goal.tokens-requires
 unfolding longest_text
