@@ -1,5 +1,5 @@
 -- The longest front of a text whose bytes pass a test.
-use Rattle.std.proofs.Common.{◌≡◌, ℕ, suc, ◌+◌, ◌<◌, ◌≤◌, Bool, true, false, cond, List, [], ◌∷◌, take, length, sym, refl, ap, subst, arith}
+use Rattle.std.proofs.Common.{◌≡◌, ℕ, suc, ◌+◌, ◌<◌, ◌≤◌, Bool, true, false, cond, List, [], ◌∷◌, take, length, sym, refl, subst, arith}
 use Rattle.std.specs.List.{prefix_len}
 use Rattle.std.specs.Str.{IsAscii}
 use Rattle.std.specs.Char.{is_ascii_digit}
@@ -12,7 +12,7 @@ pub front_ascii : (test : ℕ → Bool) → ((b : ℕ) → test b ≡ true → b
 front_ascii test below [] = IsAscii-nil
 front_ascii test below (b ∷ rest) =
     elim (test b) as (λ passes. test b ≡ passes → IsAscii (take (cond passes (1 + prefix_len test rest) 0) (b ∷ rest))) [
-      true ↦ λ passes.
+      | true ↦ λ passes.
           let more : 1 + prefix_len test rest ≡ suc (prefix_len test rest) = omega arith in
           subst (λ n. IsAscii (take n (b ∷ rest))) (sym more) (IsAscii-cons b _ (below b passes) (front_ascii test below rest))
       | false ↦ λ _. IsAscii-nil
@@ -34,7 +34,8 @@ front_within test [] = omega arith
 front_within test (b ∷ rest) =
     let within = front_within test rest in
     elim (test b) as (λ passes. cond passes (1 + prefix_len test rest) 0 ≤ length (b ∷ rest)) [
-      true ↦ omega arith | false ↦ omega arith
+      | true ↦ omega arith
+      | false ↦ omega arith
     ]
 
 pub word_starts : (text : List ℕ) → starts begins_word text ≡ true → starts is_in_word text ≡ true

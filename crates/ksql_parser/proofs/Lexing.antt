@@ -1,5 +1,5 @@
 -- How a text is cut into tokens from the left, and that it is so in one way.
-use Rattle.std.proofs.Common.{◌≡◌, ℕ, ◌+◌, ◌≤◌, Bool, true, false, ◌&&◌, not, List, [], ◌∷◌, ◌++◌, drop, Option, Some, None, sym, refl, ap, ◌∙◌, subst, append_assoc, length, arith}
+use Rattle.std.proofs.Common.{◌≡◌, ℕ, ◌+◌, ◌≤◌, Bool, true, false, ◌&&◌, not, List, [], ◌∷◌, ◌++◌, drop, Some, None, sym, refl, ap, ◌∙◌, subst, append_assoc, length, arith}
 use Rattle.std.specs.Prelude.{if◌then◌else◌}
 use Rattle.std.proofs.lemmas.List.{append-nil}
 use Rattle.ksql_parser.specs.declared.token.Token.{Token}
@@ -23,7 +23,13 @@ blank_inverse (token no_blank _ _ _) h = cc
 pub token_inverse : {ended : ℕ} {begun : Bool} {b : ℕ} {rest : List ℕ} {tokens : List Token} → LexesFrom ended begun (b ∷ rest) tokens → is_blank b ≡ false → Takes ended begun (b ∷ rest) tokens
 token_inverse (blank is_one _) h = cc
 token_inverse (token {first} {size} {tokens} _ token_is statement_is onward) h = record {
-  first = first; size = size; more = tokens; tokens_are = refl; token_is = token_is; statement_is = statement_is; onward = onward;
+  first = first;
+  size = size;
+  more = tokens;
+  tokens_are = refl;
+  token_is = token_is;
+  statement_is = statement_is;
+  onward = onward;
 }
 
 -- the token that stands at a place is one
@@ -37,7 +43,7 @@ one_lexing {ended} {begun} (token {b} {rest} {first} {size} {tokens} no_blank to
     let taken = token_inverse other no_blank in
     let same : (taken.first.kind, taken.size) ≡ (first.kind, size) = same_taken (sym taken.token_is ∙ token_is) in
     let further : LexesFrom (ended_behind ended begun first.kind) (goes_on first.kind) (drop size (b ∷ rest)) taken.more =
-        subst (λ (p : TokenKind × ℕ). LexesFrom (ended_behind ended begun p.0) (goes_on p.0) (drop p.1 (b ∷ rest)) taken.more) same taken.onward in
+    subst (λ (p : TokenKind × ℕ). LexesFrom (ended_behind ended begun p.0) (goes_on p.0) (drop p.1 (b ∷ rest)) taken.more) same taken.onward in
     let rest_is : tokens ≡ taken.more = one_lexing onward further in
     let kind_is : first.kind ≡ taken.first.kind = ap (λ (p : TokenKind × ℕ). p.0) (sym same) in
     let number_is : first.statement ≡ taken.first.statement = statement_is ∙ sym taken.statement_is in
@@ -69,8 +75,7 @@ module _ {text : List ℕ} {found : List Token} {ended : ℕ} {begun : Bool} whe
         let same : (taken.first.kind, taken.size) ≡ (first.kind, size) = same_taken (sym taken.token_is ∙ token_is) in
         let kind_is : taken.first.kind ≡ first.kind = ap (λ (p : TokenKind × ℕ). p.0) same in
         let number_is : taken.first.statement ≡ first.statement = taken.statement_is ∙ sym statement_is in
-        let first_is : taken.first ≡ first = λ i. record { kind = kind_is i; statement = number_is i } in
-        (
+        let first_is : taken.first ≡ first = λ i. record { kind = kind_is i; statement = number_is i } in (
           taken.more,
           k.1 ∙ ap (λ more. found ++ more) (taken.tokens_are ∙ ap (λ t. t ∷ taken.more) first_is) ∙ sym (append_assoc found (first ∷ []) taken.more),
           subst (λ (p : TokenKind × ℕ). LexesFrom (ended_behind ended begun p.0) (goes_on p.0) (drop p.1 (b ∷ rest)) taken.more) same taken.onward,
@@ -119,5 +124,6 @@ reads_at {text} r found_is ended_is begun_is left_is = rw (found_is, ended_is, b
 pub ended_by_one : (ended : ℕ) (begun : Bool) (kind : TokenKind) → ended_behind ended begun kind ≤ ended + 1
 ended_by_one ended begun kind =
     elim (begun && not (goes_on kind)) as (λ ends. (if ends then ended + 1 else ended) ≤ ended + 1) [
-      true ↦ omega arith | false ↦ omega arith
+      | true ↦ omega arith
+      | false ↦ omega arith
     ]

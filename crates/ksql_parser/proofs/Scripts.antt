@@ -19,7 +19,14 @@ pub read_script : (text : List ℕ) (form : FirstForm) (tokens : List Token) →
 read_script text form tokens short sound lexed read =
     let spelled = form_is (kinds tokens) form read in
     record {
-      short = short; sound = sound; digits = spelled.0; digits_of_bound = spelled.2; emits = spelled.1; tokens = tokens; lexed = lexed; spelled = spelled.3;
+      short = short;
+      sound = sound;
+      digits = spelled.0;
+      digits_of_bound = spelled.2;
+      emits = spelled.1;
+      tokens = tokens;
+      lexed = lexed;
+      spelled = spelled.3;
     }
 
 pub none_read : (text : List ℕ) (tokens : List Token) → Lexes text tokens → form_of (kinds tokens) ≡ None → (form : FirstForm) → IsScriptOf text form → ⊥

@@ -1,5 +1,5 @@
 -- What is read is spelled: each part of the form that is read stands at the front of the tokens.
-use Rattle.std.proofs.Common.{◌≡◌, ℕ, Bool, true, false, ◌&&◌, pos,  List, [], ◌∷◌, Option, Some, None, codes, ℤ, sym, refl, ap, ◌∙◌, subst}
+use Rattle.std.proofs.Common.{◌≡◌, ℕ, Bool, true, false, ◌&&◌, pos, List, [], ◌∷◌, Option, Some, None, codes, ℤ, sym, refl, ap, ◌∙◌, subst}
 use Rattle.std.specs.Prelude.{if◌then◌else◌, nat_lt, nat_le, length}
 use Rattle.std.specs.Str.{bytes_eq}
 use Rattle.std.proofs.lemmas.Option.{same_Some}
@@ -167,10 +167,10 @@ topic_is ts p e =
     let f = first_read (behind_partitions d.0) _ p d.2 in
     let same : (topic.0.0, f.0) ≡ p = same_Some _ _ f.2 in
     (a.1 ∙ behind _ (b.1 ∙ behind _ (property_is (codes "KAFKA_TOPIC") b.0 c.0 c.1 ∙ behind _ (behind _ (topic.1
-        ∙ behind _ (json_is topic.0.1 d.0 d.1 ∙ behind _ (behind _ (behind _ (behind _ (partitions_are d.0 f.0 f.1))))))))))
+    ∙ behind _ (json_is topic.0.1 d.0 d.1 ∙ behind _ (behind _ (behind _ (behind _ (partitions_are d.0 f.0 f.1))))))))))
     ∙ ap (λ (q : List ℕ × List TokenKind). Word (codes "WITH") ∷ kind.Mark mark.Open ∷ Word (codes "KAFKA_TOPIC") ∷ kind.Mark mark.Equal ∷ Text q.0
-        ∷ kind.Mark mark.Comma ∷ Word (codes "VALUE_FORMAT") ∷ kind.Mark mark.Equal ∷ Text (codes "JSON")
-        ∷ kind.Mark mark.Comma ∷ Word (codes "PARTITIONS") ∷ kind.Mark mark.Equal ∷ Digits (codes "1") ∷ kind.Mark mark.Close ∷ kind.Mark mark.Semicolon ∷ q.1) same
+    ∷ kind.Mark mark.Comma ∷ Word (codes "VALUE_FORMAT") ∷ kind.Mark mark.Equal ∷ Text (codes "JSON")
+    ∷ kind.Mark mark.Comma ∷ Word (codes "PARTITIONS") ∷ kind.Mark mark.Equal ∷ Digits (codes "1") ∷ kind.Mark mark.Close ∷ kind.Mark mark.Semicolon ∷ q.1) same
 
 pub selection_is : (key number stream : List ℕ) (ts rest : List TokenKind) → behind_selection key number stream ts ≡ Some rest
     → ts ≡ Word (codes "AS") ∷ Word (codes "SELECT") ∷ Word key ∷ kind.Mark mark.Comma ∷ Word number ∷ Word (codes "FROM") ∷ Word stream ∷ rest
@@ -194,8 +194,7 @@ bound_is number ts p e =
     let c = mark_first mark.Greater b.0 _ p b.2 in
     let d = digits_first c.0 _ p c.2 in
     let value = first_read (number_of d.0.0) _ p d.2 in
-    let same : (value.0, d.0.1) ≡ p = same_Some _ _ value.2 in
-    (
+    let same : (value.0, d.0.1) ≡ p = same_Some _ _ value.2 in (
       d.0.0,
       value.1 ∙ ap (λ (q : ℤ × List TokenKind). Some q.0) same,
       a.1 ∙ behind _ (b.1 ∙ behind _ (c.1 ∙ behind _ (d.1 ∙ ap (λ (q : ℤ × List TokenKind). Digits d.0.0 ∷ q.1) same))),
@@ -205,7 +204,7 @@ emit_is : (ts rest : List TokenKind) → behind_emit ts ≡ Some rest → (emits
 unfolding behind_emit
 emit_is ts rest e =
     elim (behind_word (codes "EMIT") ts) as (λ o. behind_word (codes "EMIT") ts ≡ o → (elim o [ Some us ↦ behind_word (codes "CHANGES") us | None ↦ Some ts ]) ≡ Some rest → (emits : Bool) × (ts ≡ (if emits then Word (codes "EMIT") ∷ Word (codes "CHANGES") ∷ rest else rest))) [
-      Some us ↦ λ emit changes. (true, word_is (codes "EMIT") ts us emit ∙ behind _ (word_is (codes "CHANGES") us rest changes))
+      | Some us ↦ λ emit changes. (true, word_is (codes "EMIT") ts us emit ∙ behind _ (word_is (codes "CHANGES") us rest changes))
       | None ↦ λ _ whole. let same : ts ≡ rest = cc in (false, same)
     ] refl e
 
@@ -256,21 +255,25 @@ form_is ts form e =
     let selection = first_read (behind_selection columns.0.0 columns.0.1 stream.0.0 result.0.1) _ form result.2 in
     let bound = first_read (bound_of columns.0.1 selection.0) _ form selection.2 in
     let read : FirstForm = record {
-      stream = stream.0.0; key = columns.0.0; number = columns.0.1; topic = topic.0.0; result = result.0.0; bound = bound.0.0;
+      stream = stream.0.0;
+      key = columns.0.0;
+      number = columns.0.1;
+      topic = topic.0.0;
+      result = result.0.0;
+      bound = bound.0.0;
     } in
     let t = passed (is_ending bound.0.1) (Some read) form bound.2 in
     let same : read ≡ form = same_Some _ _ t.1 in
     let digits = bound_is columns.0.1 selection.0 bound.0 bound.1 in
-    let end = ending_is bound.0.1 t.0 in
-    (
+    let end = ending_is bound.0.1 t.0 in (
       digits.0,
       end.0,
       subst (λ (f : FirstForm). AreDigitsOf digits.0 f.bound) same (value_is digits.0 bound.0.0 digits.1),
       subst (λ (f : FirstForm). ts ≡ spelling f digits.0 end.0) same (
-        stream_is ts stream.0 stream.1 ∙ behind _ (behind _ (behind _ (
-        columns_are stream.0.1 columns.0 columns.1 ∙ behind _ (behind _ (behind _ (behind _ (behind _ (behind _ (behind _ (behind _ (
-        topic_is columns.0.2 topic.0 topic.1 ∙ behind _ (behind _ (behind _ (behind _ (behind _ (behind _ (behind _ (behind _ (behind _ (behind _ (behind _ (behind _ (behind _ (behind _ (behind _ (
-        stream_is topic.0.1 result.0 result.1 ∙ behind _ (behind _ (behind _ (
-        selection_is columns.0.0 columns.0.1 stream.0.0 result.0.1 selection.0 selection.1 ∙ behind _ (behind _ (behind _ (behind _ (behind _ (behind _ (behind _ (
-        digits.2 ∙ behind _ (behind _ (behind _ (behind _ end.1)))))))))))))))))))))))))))))))))))))))),
+          stream_is ts stream.0 stream.1 ∙ behind _ (behind _ (behind _ (
+          columns_are stream.0.1 columns.0 columns.1 ∙ behind _ (behind _ (behind _ (behind _ (behind _ (behind _ (behind _ (behind _ (
+          topic_is columns.0.2 topic.0 topic.1 ∙ behind _ (behind _ (behind _ (behind _ (behind _ (behind _ (behind _ (behind _ (behind _ (behind _ (behind _ (behind _ (behind _ (behind _ (behind _ (
+          stream_is topic.0.1 result.0 result.1 ∙ behind _ (behind _ (behind _ (
+          selection_is columns.0.0 columns.0.1 stream.0.0 result.0.1 selection.0 selection.1 ∙ behind _ (behind _ (behind _ (behind _ (behind _ (behind _ (behind _ (
+          digits.2 ∙ behind _ (behind _ (behind _ (behind _ end.1)))))))))))))))))))))))))))))))))))))))),
     )

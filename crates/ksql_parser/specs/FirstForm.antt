@@ -1,5 +1,5 @@
 -- The scripts of the first form.
-use Rattle.std.specs.Prelude.{◌≡◌, ◌≢◌, ℕ, ◌<◌, ◌≤◌, pos, ℤ, Bool, if◌then◌else◌, List, [], ◌∷◌, ◌++◌, length, map, IsTrue, IsFalse, codes}
+use Rattle.std.specs.Prelude.{◌≡◌, ◌≢◌, ℕ, ◌<◌, ◌≤◌, pos, ℤ, Bool, if◌then◌else◌, List, [], ◌∷◌, length, IsTrue, IsFalse, codes}
 use Rattle.std.specs.List.{list_all}
 use Rattle.std.specs.Char.{is_ascii_digit}
 use Rattle.std.specs.Str.Parse.{digits_value}

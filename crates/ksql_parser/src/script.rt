@@ -11,12 +11,16 @@ use crate::reading::{Reading, form_of};
 use ksql_types::CopyOf;
 use std::alloc::{AllocError, Global};
 
-/// The form that a script is of, or `None` where it is no script of the first form. The only error is want of memory.
+/// The most bytes of a script.
+const LONGEST_SCRIPT: usize = 1_048_576;
+
+/// The form that a script is of, or `None` where it is no script of the first form, as where it has more than 1,048,576
+/// bytes or isn't UTF-8. The only error is want of memory.
 pub fn first_form(alloc: Global, script: &[u8]) -> Result<Option<FirstForm>, AllocError>
     ensures found { IfOk result (λ read. IfSome read (λ form. IsScriptOf script.now form)) }
     ensures none { IfOk result (λ read. IfNone read ((form : FirstForm) → IsScriptOf script.now form → ⊥)) }
 {
-    if script.len() > 1_048_576 {
+    if script.len() > LONGEST_SCRIPT {
         return Ok(None);
     }
     let Some(tokens) = tokens(alloc, script)? else {

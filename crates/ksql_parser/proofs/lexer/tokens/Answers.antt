@@ -1,8 +1,8 @@
-use Rattle.std.proofs.Common.{◌≡◌, ◌+◌, ◌≤◌, ◌∷◌, List, length, Some, sym, refl, ◌∙◌, subst, arith, rules}
+use Rattle.std.proofs.Common.{◌≡◌, ◌+◌, Some, sym, refl, ◌∙◌, subst, arith}
 use Rattle.ksql_types.specs.Text.{longest_text}
 use Rattle.ksql_parser.specs.declared.token.Token.{Token}
-use Rattle.ksql_parser.specs.Tokens.{token_at, ended_behind}
-use Rattle.ksql_parser.proofs.Lexing.{Reads, reads_none, reads_all, step_blank, step_token, step_none, reads_end, reads_at, ended_by_one}
+use Rattle.ksql_parser.specs.Tokens.{token_at}
+use Rattle.ksql_parser.proofs.Lexing.{Reads, reads_none, step_blank, step_token, step_none, reads_end, reads_at, ended_by_one}
 use Rattle.ksql_parser.proofs.lexer.tokens.Goals as goal
 
 pub loop-first-init : goal.loop-first-init

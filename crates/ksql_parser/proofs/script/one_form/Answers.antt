@@ -1,6 +1,6 @@
 use Rattle.std.proofs.Common.{sym, ◌∙◌}
 use Rattle.std.proofs.lemmas.Option.{same_Some}
-use Rattle.ksql_parser.proofs.Scripts.{script_read, read_script}
+use Rattle.ksql_parser.proofs.Scripts.{script_read}
 use Rattle.ksql_parser.proofs.script.one_form.Goals as goal
 
 -- both forms are what the tokens are read as
