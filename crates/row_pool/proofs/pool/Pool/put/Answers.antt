@@ -1,0 +1,68 @@
+use Rattle.std.proofs.Common.{◌≡◌, ℕ, ◌+◌, ◌-◌, ◌≤◌, List, length, None, arith, sym, ap, ◌∙◌, subst}
+use Rattle.std.proofs.lemmas.List.{with_items_is}
+use Rattle.std.specs.FinMap.{insert}
+use Rattle.row_pool.specs.declared.block.Block.{Block}
+use Rattle.row_pool.specs.Pool.{Texts, blocks_of, blocks_in, text_of, used_blocks}
+use Rattle.row_pool.specs.Layout.{IsChain, IsPut, IsSound, after, texts_in}
+use Rattle.row_pool.proofs.Shares.{free_chain}
+use Rattle.row_pool.proofs.Steps.{sound_at, put_fresh, put_texts, put_used, put_sound}
+use Rattle.row_pool.proofs.pool.Pool.put.Goals as goal
+
+-- there is room in the fields, too
+room : (pool : Texts) (spare n : ℕ) → spare ≡ pool.spare → n ≤ pool.spare → n ≤ spare
+room pool spare n is le = omega arith
+
+pub put_text-self-inside-requires : goal.put_text-self-inside-requires
+put_text-self-inside-requires c =
+    let n = blocks_of (length c.args.text.now) in
+    let spare = c.self.inside.spare in
+    let fits = room c.args.self.now spare n (ap (λ (t : Texts). t.spare) c.self.view_is) c.requires in
+    subst (λ (b : List Block). IsChain b c.self.inside.free n) (sym c.deref_mut.ensures.value) (free_chain c.self.inside.blocks.items c.self.inside.free spare n c.self.invariant fits)
+
+pub invariant_of-self : goal.invariant_of-self
+invariant_of-self c =
+    let old = c.self.inside.blocks.items in
+    let new = c.put_text-self-inside.new.blocks in
+    let free = c.self.inside.free in
+    let spare = c.self.inside.spare in
+    let text = c.args.text.now in
+    let fits = room c.args.self.now spare (blocks_of (length text)) (ap (λ (t : Texts). t.spare) c.self.view_is) c.requires in
+    let put = subst (λ (b : List Block). IsPut b new free text) c.deref_mut.ensures.value c.put_text-self-inside.ensures.put in
+    let items = with_items_is c.self.inside.blocks new (c.put_text-self-inside.auto.blocks ∙ c.deref_mut.ensures.len) in
+    let behind = c.put_text-self-inside.ensures.behind ∙ ap (λ (b : List Block). after b free (blocks_of (length text))) c.deref_mut.ensures.value in
+    sound_at new _ (after old free (blocks_of (length text))) _ (spare - blocks_of (length text)) _ items behind (ap (λ n. spare - n) c.blocks_for.ensures) (put_sound old new free spare text c.self.invariant fits put)
+
+pub returns-clause-fresh : goal.returns-clause-fresh
+returns-clause-fresh c =
+    let old = c.self.inside.blocks.items in
+    let new = c.put_text-self-inside.new.blocks in
+    let free = c.self.inside.free in
+    let spare = c.self.inside.spare in
+    let text = c.args.text.now in
+    let fits = room c.args.self.now spare (blocks_of (length text)) (ap (λ (t : Texts). t.spare) c.self.view_is) c.requires in
+    let put = subst (λ (b : List Block). IsPut b new free text) c.deref_mut.ensures.value c.put_text-self-inside.ensures.put in
+    ap (λ (t : Texts). text_of t free) (sym c.self.view_is) ∙ put_fresh old new free spare text c.self.invariant fits put
+
+pub returns-clause-texts : goal.returns-clause-texts
+returns-clause-texts c =
+    let old = c.self.inside.blocks.items in
+    let new = c.put_text-self-inside.new.blocks in
+    let free = c.self.inside.free in
+    let spare = c.self.inside.spare in
+    let text = c.args.text.now in
+    let fits = room c.args.self.now spare (blocks_of (length text)) (ap (λ (t : Texts). t.spare) c.self.view_is) c.requires in
+    let put = subst (λ (b : List Block). IsPut b new free text) c.deref_mut.ensures.value c.put_text-self-inside.ensures.put in
+    let items = with_items_is c.self.inside.blocks new (c.put_text-self-inside.auto.blocks ∙ c.deref_mut.ensures.len) in
+    ap texts_in items ∙ put_texts old new free spare text c.self.invariant fits put ∙ ap (λ (t : Texts). insert t.texts free text) c.self.view_is
+
+pub returns-clause-used : goal.returns-clause-used
+returns-clause-used c =
+    let old = c.self.inside.blocks.items in
+    let new = c.put_text-self-inside.new.blocks in
+    let free = c.self.inside.free in
+    let spare = c.self.inside.spare in
+    let text = c.args.text.now in
+    let fits = room c.args.self.now spare (blocks_of (length text)) (ap (λ (t : Texts). t.spare) c.self.view_is) c.requires in
+    let put = subst (λ (b : List Block). IsPut b new free text) c.deref_mut.ensures.value c.put_text-self-inside.ensures.put in
+    let items = with_items_is c.self.inside.blocks new (c.put_text-self-inside.auto.blocks ∙ c.deref_mut.ensures.len) in
+    ap (λ (b : List Block). blocks_in (texts_in b)) items ∙ put_used old new free spare text c.self.invariant fits put ∙ ap (λ (t : Texts). used_blocks t + blocks_of (length text)) c.self.view_is
