@@ -42,14 +42,14 @@ module _ (b c : List Block) (free spare : ℕ) (text : List ℕ) (sound : IsSoun
   pub put_fresh : get (texts_in b) free ≡ None
   put_fresh = get-texts_in b free ∙ ap (option_map (text_from b free)) (free_begins_none b free spare sound (omega arith))
 
-  put_other : (q : ℕ) → q ≢ free → text_at c q ≡ text_at b q
+  pub put_other : (q : ℕ) → q ≢ free → text_at c q ≡ text_at b q
   put_other q other =
       elim (cases_lt q (length b)) [
         | inl below ↦ text_stays b c q (put.lens q other) (λ v s. (put.links v, put.others v (not_free v q below s)))
         | inr past ↦ ap (option_map (text_from c q)) (put.lens q other ∙ len_at_past b q past) ∙ sym (ap (option_map (text_from b q)) (len_at_past b q past))
       ]
 
-  put_here : text_at c free ≡ Some text
+  pub put_here : text_at c free ≡ Some text
   put_here = ap (option_map (text_from c free)) put.begins ∙ ap Some put.stored
 
   pub put_texts : texts_in c ≡ insert (texts_in b) free text
@@ -118,20 +118,23 @@ module _ (b c : List Block) (free spare first len : ℕ) (sound : IsSound b free
       let none = unvisited b first (blocks_of len - 1) (blocks_of len) (text_chain b free spare first len sound live) (omega arith) in
       freed.links v (apart b last v first (blocks_of len - 1) none some)
 
-  free_other : (q : ℕ) → q ≢ first → text_at c q ≡ text_at b q
-  free_other q other =
+  pub freed_other : (q : ℕ) → q ≢ first → text_at c q ≡ text_at b q
+  freed_other q other =
       elim (cases_lt q (length b)) [
         | inl below ↦ text_stays b c q (freed.lens q other) (λ v s. (others_keep q v below other s, freed.bytes v))
         | inr past ↦ ap (option_map (text_from c q)) (freed.lens q other ∙ len_at_past b q past) ∙ sym (ap (option_map (text_from b q)) (len_at_past b q past))
       ]
+
+  pub freed_here : text_at c first ≡ None
+  freed_here = ap (option_map (text_from c first)) freed.ends
 
   pub freed_texts : texts_in c ≡ remove (texts_in b) first
   freed_texts =
       same_map nat_cmp_total nat_cmp-IsAntisymmetric _ _ (λ q.
       get-texts_in c q
       ∙ elim (cases_eq q first) [
-        | inl same ↦ ap (text_at c) same ∙ ap (option_map (text_from c first)) freed.ends ∙ sym (get-remove nat_cmp_total (texts_in b) first q ∙ grind (arith, nat_tests))
-        | inr other ↦ free_other q other ∙ sym (get-remove nat_cmp_total (texts_in b) first q ∙ grind (arith, nat_tests, get-texts_in b q))
+        | inl same ↦ ap (text_at c) same ∙ freed_here ∙ sym (get-remove nat_cmp_total (texts_in b) first q ∙ grind (arith, nat_tests))
+        | inr other ↦ freed_other q other ∙ sym (get-remove nat_cmp_total (texts_in b) first q ∙ grind (arith, nat_tests, get-texts_in b q))
       ])
 
   -- the text's blocks lead to the free ones

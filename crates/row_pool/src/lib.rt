@@ -7,5 +7,7 @@
 
 mod block;
 mod pool;
+#[cfg(test)]
+mod tests;
 
 pub use pool::{Pool, Ticket};

@@ -1,7 +1,7 @@
 //! The pool and its tickets.
 ghost use Rattle.std.specs.Prelude.{◌≡◌, ℕ, ◌+◌, ◌≤◌, None, Some, length, IsOk, OnOk, OnErr, option_map};
 ghost use Rattle.std.specs.FinMap as map;
-ghost use Rattle.row_pool.specs.Pool.{blocks_of, text_of, IsLive, blocks_under, used_blocks};
+ghost use Rattle.row_pool.specs.Pool.{blocks_of, text_of, IsLive, Updates, blocks_under, used_blocks};
 
 use crate::block::{Block, blocks_for, free_text, put_text, read_text};
 use std::alloc::{AllocError, Global};
@@ -97,7 +97,7 @@ impl Pool {
     pub fn put(&mut self, text: &[u8]) -> Ticket
         requires { blocks_of (length text.now) ≤ self.old.spare }
         ensures fresh { text_of self.old result ≡ None }
-        ensures texts { self.new.texts ≡ map.insert self.old.texts result text.now }
+        ensures updates { Updates self.old self.new result (Some text.now) }
         ensures spare { self.new.spare + blocks_of (length text.now) ≡ self.old.spare }
         ensures used { used_blocks self.new ≡ used_blocks self.old + blocks_of (length text.now) }
     {
@@ -126,7 +126,7 @@ impl Pool {
     /// Spends a ticket, and gives its blocks back.
     pub fn free(&mut self, ticket: Ticket)
         requires { IsLive self.old ticket }
-        ensures texts { self.new.texts ≡ map.remove self.old.texts ticket }
+        ensures updates { Updates self.old self.new ticket None }
         ensures spare { self.new.spare ≡ self.old.spare + blocks_under self.old ticket }
         ensures used { used_blocks self.new + blocks_under self.old ticket ≡ used_blocks self.old }
     {

@@ -1,11 +1,11 @@
 use Rattle.std.proofs.Common.{◌≡◌, ℕ, ◌+◌, ◌-◌, ◌≤◌, List, length, refl, Some, option_map, arith, sym, ap, ◌∙◌, subst}
 use Rattle.std.proofs.lemmas.List.{with_items_is}
-use Rattle.std.specs.FinMap.{remove}
+use Rattle.std.specs.FinMap.{get}
 use Rattle.row_pool.specs.declared.block.Block.{Block}
 use Rattle.row_pool.specs.Pool.{Texts, blocks_of, blocks_in, text_of, blocks_under, used_blocks}
-use Rattle.row_pool.specs.Layout.{IsChain, IsFreed, IsSound, texts_in, len_at}
-use Rattle.row_pool.proofs.Shares.{begins_with, text_chain, size_under}
-use Rattle.row_pool.proofs.Steps.{sound_at, freed_texts, freed_blocks, freed_sound}
+use Rattle.row_pool.specs.Layout.{IsChain, IsFreed, IsSound, texts_in, text_at, len_at}
+use Rattle.row_pool.proofs.Shares.{begins_with, text_chain, size_under, get-texts_in}
+use Rattle.row_pool.proofs.Steps.{sound_at, freed_here, freed_other, freed_blocks, freed_sound}
 use Rattle.row_pool.proofs.pool.Pool.free.Goals as goal
 
 pub free_text-requires-clause-chain : goal.free_text-requires-clause-chain
@@ -31,8 +31,8 @@ invariant_of-self c =
     let items = with_items_is c.self.inside.blocks new (c.free_text.auto.blocks ∙ c.deref_mut.ensures.len) in
     sound_at new _ first _ (spare + blocks_of len) _ items refl (ap (λ n. spare + n) c.blocks_for-count.ensures) (freed_sound old new free spare first len c.self.invariant live freed)
 
-pub returns-clause-texts : goal.returns-clause-texts
-returns-clause-texts c =
+pub returns-clause-updates : goal.returns-clause-updates
+returns-clause-updates c =
     let old = c.self.inside.blocks.items in
     let new = c.free_text.new.blocks in
     let first = c.ticket.inside.first in
@@ -43,10 +43,11 @@ returns-clause-texts c =
     let live = begins_with old free spare first len c.self.invariant known in
     let freed = subst (λ n. IsFreed old new first n free) c.blocks_for-count.ensures (subst (λ (b : List Block). IsFreed b new first c.blocks_for-count.result free) c.deref_mut.ensures.value c.free_text.ensures) in
     let items = with_items_is c.self.inside.blocks new (c.free_text.auto.blocks ∙ c.deref_mut.ensures.len) in
-    ap texts_in items
-    ∙ freed_texts old new free spare first len c.self.invariant live freed
-    ∙ ap (λ (t : Texts). remove t.texts first) c.self.view_is
-    ∙ ap (remove c.args.self.now.texts) c.ticket.view_is
+    let seen : (q : ℕ) → get (texts_in c.self.inside.blocks.items) q ≡ text_of c.args.self.now q = λ q. ap (λ (t : Texts). text_of t q) c.self.view_is in
+    record {
+      changed = ap (λ (b : List Block). get (texts_in b) c.args.ticket) items ∙ get-texts_in new c.args.ticket ∙ ap (text_at new) (sym c.ticket.view_is) ∙ freed_here old new free spare first len c.self.invariant live freed;
+      others = λ q other. ap (λ (b : List Block). get (texts_in b) q) items ∙ get-texts_in new q ∙ freed_other old new free spare first len c.self.invariant live freed q (λ e. other (e ∙ c.ticket.view_is)) ∙ sym (get-texts_in old q) ∙ seen q;
+    }
 
 pub returns-clause-spare : goal.returns-clause-spare
 returns-clause-spare c =

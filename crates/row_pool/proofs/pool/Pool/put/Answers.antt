@@ -1,11 +1,11 @@
 use Rattle.std.proofs.Common.{◌≡◌, ℕ, ◌+◌, ◌-◌, ◌≤◌, List, length, None, arith, sym, ap, ◌∙◌, subst}
 use Rattle.std.proofs.lemmas.List.{with_items_is}
-use Rattle.std.specs.FinMap.{insert}
+use Rattle.std.specs.FinMap.{get}
 use Rattle.row_pool.specs.declared.block.Block.{Block}
 use Rattle.row_pool.specs.Pool.{Texts, blocks_of, blocks_in, text_of, used_blocks}
 use Rattle.row_pool.specs.Layout.{IsChain, IsPut, IsSound, after, texts_in}
-use Rattle.row_pool.proofs.Shares.{free_chain}
-use Rattle.row_pool.proofs.Steps.{sound_at, put_fresh, put_texts, put_used, put_sound}
+use Rattle.row_pool.proofs.Shares.{free_chain, get-texts_in}
+use Rattle.row_pool.proofs.Steps.{sound_at, put_fresh, put_here, put_other, put_used, put_sound}
 use Rattle.row_pool.proofs.pool.Pool.put.Goals as goal
 
 -- there is room in the fields, too
@@ -43,8 +43,8 @@ returns-clause-fresh c =
     let put = subst (λ (b : List Block). IsPut b new free text) c.deref_mut.ensures.value c.put_text-self-inside.ensures.put in
     ap (λ (t : Texts). text_of t free) (sym c.self.view_is) ∙ put_fresh old new free spare text c.self.invariant fits put
 
-pub returns-clause-texts : goal.returns-clause-texts
-returns-clause-texts c =
+pub returns-clause-updates : goal.returns-clause-updates
+returns-clause-updates c =
     let old = c.self.inside.blocks.items in
     let new = c.put_text-self-inside.new.blocks in
     let free = c.self.inside.free in
@@ -53,7 +53,11 @@ returns-clause-texts c =
     let fits = room c.args.self.now spare (blocks_of (length text)) (ap (λ (t : Texts). t.spare) c.self.view_is) c.requires in
     let put = subst (λ (b : List Block). IsPut b new free text) c.deref_mut.ensures.value c.put_text-self-inside.ensures.put in
     let items = with_items_is c.self.inside.blocks new (c.put_text-self-inside.auto.blocks ∙ c.deref_mut.ensures.len) in
-    ap texts_in items ∙ put_texts old new free spare text c.self.invariant fits put ∙ ap (λ (t : Texts). insert t.texts free text) c.self.view_is
+    let seen : (q : ℕ) → get (texts_in c.self.inside.blocks.items) q ≡ text_of c.args.self.now q = λ q. ap (λ (t : Texts). text_of t q) c.self.view_is in
+    record {
+      changed = ap (λ (b : List Block). get (texts_in b) free) items ∙ get-texts_in new free ∙ put_here old new free spare text c.self.invariant fits put;
+      others = λ q other. ap (λ (b : List Block). get (texts_in b) q) items ∙ get-texts_in new q ∙ put_other old new free spare text c.self.invariant fits put q other ∙ sym (get-texts_in old q) ∙ seen q;
+    }
 
 pub returns-clause-used : goal.returns-clause-used
 returns-clause-used c =
