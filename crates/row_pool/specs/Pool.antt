@@ -1,5 +1,5 @@
 -- What a contract sees of a pool.
-use Rattle.std.specs.Prelude.{◌≡◌, ◌≢◌, ℕ, ◌+◌, ◌/◌, max, Bool, List, length, sum_by, Option, option_map, is_some, IsTrue, refl}
+use Rattle.std.specs.Prelude.{◌≡◌, ◌≢◌, ℕ, ◌+◌, ◌/◌, max, List, length, sum_by, Option, IsSome, refl}
 use Rattle.std.specs.Option.{option_map_or}
 use Rattle.std.specs.Ordering.{nat_cmp}
 use Rattle.std.specs.Coded.{Coded, code_by, coded×, coded_ℕ, coded_list}
@@ -30,7 +30,7 @@ text_of pool ticket = map.get pool.texts ticket
 
 -- the ticket is one of the pool's, and was not freed
 abbrev pub IsLive : Texts → ℕ → Type 0
-IsLive pool ticket = IsTrue (is_some (text_of pool ticket))
+IsLive pool ticket = IsSome (text_of pool ticket)
 
 -- the ticket has this text now, or none, and every other ticket keeps what it had
 pub record Updates (old new : Texts) (ticket : ℕ) (text : Option (List ℕ)) : Type 0 where

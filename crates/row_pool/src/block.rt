@@ -3,28 +3,28 @@ ghost use Rattle.std.specs.Prelude.{◌≡◌, ℕ, ◌+◌, ◌-◌, ◌<◌, �
 ghost use Rattle.row_pool.specs.Pool.{blocks_of};
 ghost use Rattle.row_pool.specs.Layout.{bytes_at, next_at, len_at, after, visits, text_from, IsChain, IsPut, IsFreed};
 
-/// The bytes of a block.
+/// How many bytes a block holds.
 pub(crate) const BLOCK: usize = 64;
 
 /// A block, which is free or holds a part of a text.
-#[derive(Clone, Copy, Debug)]
+#[derive(Clone, Copy)]
 pub(crate) struct Block {
-    pub bytes: [u8; 64],
-    /// The block that follows in the same text or in the list of free blocks, and means nothing in the last one.
+    pub bytes: [u8; BLOCK],
+    /// The block that follows in its text or in the list of free blocks. It means nothing in the last one.
     pub next: usize,
-    /// The length of the text that begins here.
+    /// The length of the text that begins here, if one does.
     pub text_len: Option<usize>,
 }
 
 impl Block {
-    /// A free block before this one.
+    /// A free block that leads to another one.
     pub fn free(next: usize) -> Self
         ensures len { length result.bytes ≡ 64 }
         ensures next { result.next ≡ next }
         ensures text_len { result.text_len ≡ None }
     {
         Block {
-            bytes: [0; 64],
+            bytes: [0; BLOCK],
             next,
             text_len: None,
         }

@@ -54,6 +54,7 @@ impl Pool {
     /// A pool with no blocks. It takes memory from `alloc` in `reserve`.
     pub fn new(alloc: Global) -> Self
         ensures empty { result.texts ≡ map.empty }
+        ensures used { used_blocks result ≡ 0 }
         ensures spare { result.spare ≡ 0 }
     {
         Pool {

@@ -9,9 +9,8 @@ bounds-blocks-last c =
 
 pub offset_bounds-blocks-last : goal.offset_bounds-blocks-last
 offset_bounds-blocks-last c =
-    let inside : c.last_of-last.result < length c.args.blocks.now =
-    rw c.last_of-last.ensures (chain_inside c.args.blocks.now c.args.first c.args.count (c.args.count - 1) c.requires.chain (omega arith)) in
-    omega arith
+    let inside = chain_inside c.args.blocks.now c.args.first c.args.count (c.args.count - 1) c.requires.chain (omega arith) in
+    rw c.last_of-last.ensures (omega arith)
 
 pub bounds-blocks-first : goal.bounds-blocks-first
 bounds-blocks-first c =

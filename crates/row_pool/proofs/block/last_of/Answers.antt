@@ -5,8 +5,8 @@ use Rattle.row_pool.proofs.block.last_of.Goals as goal
 
 pub offset_bounds-blocks-at : goal.offset_bounds-blocks-at
 offset_bounds-blocks-at c =
-    let inside : c.loop.at < length c.args.blocks.now = rw c.loop.invariant (chain_inside c.args.blocks.now c.args.first c.args.count (c.loop.counter - 1) c.requires.chain (omega arith)) in
-    omega arith
+    let inside = chain_inside c.args.blocks.now c.args.first c.args.count (c.loop.counter - 1) c.requires.chain (omega arith) in
+    rw c.loop.invariant (omega arith)
 
 pub bounds-blocks-at : goal.bounds-blocks-at
 bounds-blocks-at c = rw c.loop.invariant (chain_inside c.args.blocks.now c.args.first c.args.count (c.loop.counter - 1) c.requires.chain (omega arith))

@@ -11,9 +11,8 @@ bounds-blocks-at c =
 
 pub offset_bounds-blocks-at : goal.offset_bounds-blocks-at
 offset_bounds-blocks-at c =
-    let inside : c.loop-n.at < length c.args.blocks.now =
-    rw c.loop-n.invariant.at (chain_inside c.args.blocks.now c.args.first (blocks_of (length c.args.into.now)) c.loop-n.n c.requires (omega arith)) in
-    omega arith
+    let inside = chain_inside c.args.blocks.now c.args.first (blocks_of (length c.args.into.now)) c.loop-n.n c.requires (omega arith) in
+    rw c.loop-n.invariant.at (omega arith)
 
 pub loop-n-preserved : goal.loop-n-preserved
 loop-n-preserved c =

@@ -13,9 +13,8 @@ bounds-blocks-at c =
 
 pub offset_bounds-blocks-at : goal.offset_bounds-blocks-at
 offset_bounds-blocks-at c =
-    let inside : c.loop.at < length c.loop.blocks =
-    rw (c.loop.invariant.at, c.loop.invariant.len) (chain_inside c.args.blocks.now c.args.first (blocks_of (length c.args.text.now)) c.loop.counter c.requires (omega arith)) in
-    omega arith
+    let inside = chain_inside c.args.blocks.now c.args.first (blocks_of (length c.args.text.now)) c.loop.counter c.requires (omega arith) in
+    rw c.loop.invariant.at (omega arith)
 
 pub loop-preserved : goal.loop-preserved
 loop-preserved c =
