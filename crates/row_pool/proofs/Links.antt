@@ -1,9 +1,8 @@
 -- Walks along the links of blocks.
-use Rattle.std.proofs.Common.{◌≡◌, ℕ, zero, suc, ◌+◌, ◌-◌, ◌<◌, ◌≤◌, List, ◌++◌, length, take, refl, sym, ap, ◌∙◌, subst, cond, eqb, arith, zero-add, append_assoc, length-append, ◌*◌, inl, inr}
+use Rattle.std.proofs.Common.{◌≡◌, ℕ, zero, suc, ◌+◌, ◌-◌, ◌<◌, List, ◌++◌, length, refl, sym, ap, ◌∙◌, cond, eqb, arith, zero-add, append_assoc, length-append, ◌*◌, inl, inr}
 use Rattle.std.proofs.lemmas.Bool.{eq-eqb, cases_lt}
-use Rattle.std.proofs.lemmas.Bool.Decides.{nat_tests}
 use Rattle.row_pool.specs.declared.block.Block.{Block}
-use Rattle.row_pool.specs.Layout.{bytes_at, next_at, len_at, after, visits, bytes_from, IsChain}
+use Rattle.row_pool.specs.Layout.{bytes_at, next_at, after, visits, bytes_from, IsChain}
 
 -- a walk of m + n blocks goes m blocks, and n from there on
 pub after-split : (b : List Block) (i m n k : ℕ) → k ≡ m + n → after b i k ≡ after b (after b i m) n

@@ -1,15 +1,15 @@
 -- The texts of a pool and the blocks that they share out.
-use Rattle.std.proofs.Common.{◌≡◌, ◌≢◌, ℕ, zero, suc, ◌+◌, ◌-◌, ◌*◌, ◌<◌, ◌≤◌, Bool, true, false, cond, eqb, ltb, List, [], ◌++◌, length, take, get_or, Option, None, Some, option_map, is_some, IsTrue, refl, sym, ap, ◌∙◌, subst, arith, inl, inr, length-take, zero-add}
+use Rattle.std.proofs.Common.{◌≡◌, ◌≢◌, ℕ, zero, suc, ◌+◌, ◌-◌, ◌<◌, ◌≤◌, cond, ltb, List, length, take, Option, None, Some, option_map, is_some, IsTrue, refl, sym, ap, ◌∙◌, subst, arith, inl, inr, length-take}
 use Rattle.std.proofs.lemmas.Bool.{cases_eq, cases_lt, lt-ltb, le-ltb}
 use Rattle.std.proofs.lemmas.Bool.Decides.{nat_tests}
 use Rattle.std.proofs.lemmas.List.{get_or_past}
 use Rattle.std.specs.Option.{option_map_or}
-use Rattle.std.specs.Ordering.{nat_cmp, eq_by_cmp}
-use Rattle.std.specs.FinMap.{FinMap, get, insert, empty, get-empty, get-insert, same_map, nat_cmp-IsAntisymmetric, gets}
+use Rattle.std.specs.Ordering.{nat_cmp}
+use Rattle.std.specs.FinMap.{FinMap, get, get-empty, get-insert}
 use Rattle.std.specs.Cmp.{nat_cmp_total}
 use Rattle.row_pool.specs.declared.block.Block.{Block}
 use Rattle.row_pool.specs.Pool.{blocks_of}
-use Rattle.row_pool.specs.Layout.{no_block, bytes_at, next_at, len_at, after, visits, bytes_from, text_from, text_at, with_text, texts_below, texts_in, size_of, share, taken, IsSound, IsChain}
+use Rattle.row_pool.specs.Layout.{no_block, bytes_at, next_at, len_at, visits, bytes_from, text_from, text_at, with_text, texts_below, texts_in, size_of, share, taken, IsSound, IsChain}
 use Rattle.row_pool.proofs.Links.{visits-split, visits_first, walk_stays, bytes_stay, length-bytes_from}
 use Rattle.row_pool.proofs.Written.{visited_inside, enough_blocks}
 

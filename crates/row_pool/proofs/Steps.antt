@@ -1,17 +1,16 @@
 -- What a put, a free and a growth leave of a pool.
-use Rattle.std.proofs.Common.{◌≡◌, ◌≢◌, ℕ, zero, suc, ◌+◌, ◌-◌, ◌*◌, ◌<◌, ◌≤◌, Bool, true, false, cond, eqb, ltb, List, [], ◌∷◌, ◌++◌, length, take, get_or, set, Option, None, Some, option_map, refl, sym, ap, ◌∙◌, subst, arith, inl, inr, zero-add, add-one, add_comm, get_or-set_same, get_or-set_other, length-set}
+use Rattle.std.proofs.Common.{◌≡◌, ◌≢◌, ℕ, suc, ◌+◌, ◌-◌, ◌<◌, ◌≤◌, cond, ltb, List, [], ◌∷◌, ◌++◌, length, get_or, None, Some, option_map, refl, sym, ap, ◌∙◌, subst, arith, inl, inr, add-one, add_comm}
 use Rattle.std.proofs.lemmas.Bool.{cases_eq, cases_lt}
 use Rattle.std.proofs.lemmas.Bool.Decides.{nat_tests}
-use Rattle.std.proofs.lemmas.List.{get_or_past, get_or_push, get_or_append_left, length_push}
-use Rattle.std.specs.Ordering.{nat_cmp, eq_by_cmp}
-use Rattle.std.specs.FinMap.{FinMap, get, insert, remove, get-empty, get-insert, get-remove, same_map, nat_cmp-IsAntisymmetric, gets}
+use Rattle.std.proofs.lemmas.List.{get_or_push, get_or_append_left, length_push}
+use Rattle.std.specs.FinMap.{get, insert, remove, get-insert, get-remove, same_map, nat_cmp-IsAntisymmetric}
 use Rattle.std.specs.Cmp.{nat_cmp_total}
 use Rattle.row_pool.specs.declared.block.Block.{Block}
 use Rattle.row_pool.specs.Pool.{blocks_of, blocks_in}
-use Rattle.row_pool.specs.Layout.{no_block, bytes_at, next_at, len_at, after, visits, bytes_from, text_from, text_at, texts_in, size_of, share, taken, IsSound, IsChain, IsPut, IsFreed}
-use Rattle.row_pool.proofs.Links.{after-split, visits-split, visits_first, visits_after, walk_stays, bytes_stay}
+use Rattle.row_pool.specs.Layout.{no_block, bytes_at, next_at, len_at, after, visits, text_from, text_at, texts_in, size_of, share, taken, IsSound, IsPut, IsFreed}
+use Rattle.row_pool.proofs.Links.{visits-split, visits_first, visits_after, walk_stays}
 use Rattle.row_pool.proofs.Sums.{blocks_in-empty, blocks_in-insert, blocks_in-remove}
-use Rattle.row_pool.proofs.Written.{kept_by_set, unvisited, apart}
+use Rattle.row_pool.proofs.Written.{unvisited, apart}
 use Rattle.row_pool.proofs.Shares.{len_at_past, len_at_inside, get-texts_in, text_stays, share_stays, taken_stays, taken_changes, share_le, two_shares_le, one_owner, no_owner, free_chain, text_chain, length-text_from, free_begins_none}
 
 -- the same blocks, under other names

@@ -1,14 +1,13 @@
 -- The blocks of the texts of a map.
-use Rattle.std.proofs.Common.{◌≡◌, ℕ, ◌+◌, Bool, true, false, List, [], ◌∷◌, map, length, Option, None, Some, cond, refl, sym, ap, ◌∙◌, subst, arith}
+use Rattle.std.proofs.Common.{◌≡◌, ℕ, ◌+◌, List, [], ◌∷◌, map, length, None, Some, cond, sym, ap, ◌∙◌, arith}
 use Rattle.std.specs.List.{sum_by}
 use Rattle.std.proofs.lemmas.List.Sums.{sum_by-cons}
 use Rattle.std.proofs.lemmas.List.{nil_from_length}
 use Rattle.std.proofs.lemmas.Bool.Decides.{nat_tests}
-use Rattle.std.specs.Ordering.{nat_cmp, eq_by_cmp, is_eq}
-use Rattle.std.specs.declared.cmp.Ordering.{Ordering}
+use Rattle.std.specs.Ordering.{nat_cmp, is_eq}
 use Rattle.std.specs.declared.cmp.Ordering.TheVariants.{Less, Equal, Greater}
 use Rattle.std.specs.Cmp.{nat_cmp_total}
-use Rattle.std.specs.FinMap.{FinMap, empty, len-entries, len-empty, get, insert, remove, entries, values, entries-insert, get-insert, get-remove, get-entries, same_map, nat_cmp-IsAntisymmetric, find, put, gets}
+use Rattle.std.specs.FinMap.{FinMap, empty, len-entries, len-empty, get, insert, remove, entries, entries-insert, get-entries, same_map, nat_cmp-IsAntisymmetric, find, put, gets}
 use Rattle.std.specs.FinMap.Entries.{by_order}
 use Rattle.row_pool.specs.Pool.{blocks_of, blocks_in}
 

@@ -1,12 +1,12 @@
 -- A text on its way into the blocks of a chain.
-use Rattle.std.proofs.Common.{◌≡◌, ◌≢◌, ℕ, zero, suc, ◌+◌, ◌-◌, ◌*◌, ◌/◌, ◌<◌, ◌≤◌, min, max, List, [], ◌++◌, length, take, drop, get_or, set, refl, sym, ap, ◌∙◌, subst, arith, inl, inr, append_assoc, length-append, length-take, length-drop, length-set, get_or-set_same, get_or-set_other}
+use Rattle.std.proofs.Common.{◌≡◌, ◌≢◌, ℕ, suc, ◌+◌, ◌-◌, ◌*◌, ◌<◌, ◌≤◌, min, List, ◌++◌, length, take, drop, get_or, set, refl, sym, ap, ◌∙◌, subst, arith, inl, inr, append_assoc, length-append, length-take, length-drop, length-set, get_or-set_same, get_or-set_other}
 use Rattle.std.proofs.lemmas.Bool.{cases_eq, cases_lt}
 use Rattle.std.proofs.lemmas.List.{append-nil, take_all, take_at, drop_at, drop-drop, drop_min}
 use Rattle.std.proofs.Math.Seq.{take-add, take-append-add}
 use Rattle.row_pool.specs.declared.block.Block.{Block}
 use Rattle.row_pool.specs.Pool.{blocks_of}
-use Rattle.row_pool.specs.Layout.{no_block, bytes_at, next_at, len_at, after, visits, bytes_from, text_from, IsChain}
-use Rattle.row_pool.proofs.Links.{bytes_from-split, visits-split, visits_first, visits_after, walk_stays, bytes_stay, length-bytes_from, chain_inside, after_more}
+use Rattle.row_pool.specs.Layout.{no_block, bytes_at, next_at, len_at, after, visits, bytes_from, IsChain}
+use Rattle.row_pool.proofs.Links.{bytes_from-split, visits-split, visits_first, visits_after, walk_stays, bytes_stay, length-bytes_from, chain_inside}
 
 -- what a write to one block leaves of a field that it keeps
 pub kept_by_set : {X : Type 0} (f : Block → X) (b : List Block) (at : ℕ) (y : Block) → at < length b → f y ≡ f (get_or b at no_block) → (i : ℕ) → f (get_or (set b at y) i no_block) ≡ f (get_or b i no_block)

@@ -1,5 +1,5 @@
 -- How a pool lays out its texts in blocks. No public clause cites this module.
-use Rattle.std.specs.Prelude.{◌≡◌, ◌≢◌, ℕ, zero, suc, ◌+◌, ◌-◌, ◌<◌, ◌≤◌, Bool, ◌==◌, nat_lt, if◌then◌else◌, List, [], ◌++◌, length, take, Option, None, Some, option_map, slice_index_or}
+use Rattle.std.specs.Prelude.{◌≡◌, ◌≢◌, ℕ, zero, suc, ◌+◌, ◌-◌, ◌<◌, ◌≤◌, ◌==◌, nat_lt, if◌then◌else◌, List, [], ◌++◌, length, take, Option, None, Some, option_map, slice_index_or}
 use Rattle.std.specs.Ordering.{nat_cmp}
 use Rattle.std.specs.FinMap as map
 use Rattle.row_pool.specs.Pool.{blocks_of, blocks_in}
@@ -44,6 +44,7 @@ text_from blocks i len = take len (bytes_from blocks i (blocks_of len))
 abbrev pub text_at : List Block → ℕ → Option (List ℕ)
 text_at blocks i = option_map (text_from blocks i) (len_at blocks i)
 
+-- the texts, with one more under this block's number, if one begins in it
 abbrev pub with_text : map.FinMap nat_cmp (List ℕ) → ℕ → Option (List ℕ) → map.FinMap nat_cmp (List ℕ)
 with_text texts i None = texts
 with_text texts i (Some text) = map.insert texts i text
@@ -71,13 +72,14 @@ abbrev pub taken : List Block → ℕ → ℕ → ℕ
 taken blocks j zero = 0
 taken blocks j (suc n) = share blocks j n + taken blocks j n
 
--- so many blocks from this one on are free, and each block is free once or in a text once
+-- `spare` blocks from `free` on are free, each block is free once or in one text once, the blocks of
+-- the texts and the free ones are all, and each block holds 64 bytes
 pub record IsSound (blocks : List Block) (free spare : ℕ) : Type 0 where
   pub owned : (j : ℕ) → visits blocks j free spare + taken blocks j (length blocks) ≡ (if nat_lt j (length blocks) then 1 else 0)
   pub total : blocks_in (texts_in blocks) + spare ≡ length blocks
   pub whole : (i : ℕ) → i < length blocks → length (bytes_at blocks i) ≡ 64
 
--- the first n blocks from this one on are there, and no two of them are one
+-- the first n blocks from this one on are there, no two of them are one, and each block holds 64 bytes
 pub record IsChain (blocks : List Block) (first n : ℕ) : Type 0 where
   pub once : (j : ℕ) → visits blocks j first n ≤ 1
   pub inside : (j : ℕ) → length blocks ≤ j → visits blocks j first n ≡ 0

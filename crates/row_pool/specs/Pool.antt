@@ -9,7 +9,7 @@ use Rattle.std.specs.FinMap as map
 abbrev pub blocks_of : ℕ → ℕ
 blocks_of len = max 1 ((len + 63) / 64)
 
--- the text of each live ticket, and how many blocks are free
+-- the text of each live ticket, under its number, and how many blocks are free
 pub record Texts : Type 0 where
   pub texts : map.FinMap nat_cmp (List ℕ)
   pub spare : ℕ

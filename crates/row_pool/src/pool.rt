@@ -7,12 +7,12 @@ use crate::block::{Block, blocks_for, free_text, put_text, read_text};
 use std::alloc::{AllocError, Global};
 use std::marker::Model;
 
-/// A pool grows by at least so many blocks.
+/// A pool grows by at least so many blocks at once.
 const CHUNK: u64 = 64;
 
 /// Texts in 64-byte blocks, each under the ticket that `put` answers.
 ///
-/// A text of `n` bytes takes `max(1, ceil(n / 64))` blocks.
+/// A text of `n` bytes takes `max(1, ceil(n / 64))` blocks. Only `reserve` takes memory.
 #[derive(Drop)]
 pub struct Pool {
     blocks: Vec<Block>,
@@ -37,7 +37,10 @@ impl Model for Pool {
     ghost invariant = { λ p. IsSound p.blocks.items p.free p.spare };
 }
 
-/// The right to one text of a pool. It is used with the pool that made it, and spent by `Pool::free`.
+/// The right to one text of a pool.
+///
+/// It is used with the pool that made it, where it is live from `put` to `free`. It can't be copied
+/// or let go: only `Pool::free` spends it.
 pub struct Ticket {
     first: usize,
 }
@@ -64,7 +67,7 @@ impl Pool {
         }
     }
 
-    /// Makes `spare` at least `n`. After an `Err` it may have grown.
+    /// Makes `spare` at least `n`. After an `Err`, which is want of memory, it may have grown all the same.
     pub fn reserve(&mut self, n: u64) -> Result<(), AllocError>
         ensures ok { OnOk result (n ≤ self.new.spare) }
         ensures enough { n ≤ self.old.spare → IsOk result }
@@ -94,7 +97,7 @@ impl Pool {
         Ok(())
     }
 
-    /// Stores a text, and takes no memory.
+    /// Stores a text in free blocks. It takes no memory.
     pub fn put(&mut self, text: &[u8]) -> Ticket
         requires { blocks_of (length text.now) ≤ self.old.spare }
         ensures fresh { text_of self.old result ≡ None }
@@ -108,7 +111,7 @@ impl Pool {
         Ticket { first }
     }
 
-    /// The length of a ticket's text.
+    /// The length of a ticket's text, in bytes.
     pub fn len_of(&self, ticket: &Ticket) -> u64
         requires { IsLive self.now ticket.now }
         ensures { option_map length (text_of self.now ticket.now) ≡ Some result }
@@ -116,7 +119,7 @@ impl Pool {
         self.text_len(ticket.first) as u64
     }
 
-    /// Copies a ticket's text.
+    /// Copies a ticket's text into a slice of its length.
     pub fn get(&self, ticket: &Ticket, into: &mut [u8])
         requires { option_map length (text_of self.now ticket.now) ≡ Some (length into.old) }
         ensures { text_of self.now ticket.now ≡ Some into.new }
@@ -149,14 +152,14 @@ impl Pool {
         }
     }
 
-    /// The blocks of the live tickets.
+    /// How many blocks the texts of the live tickets take.
     pub fn used(&self) -> u64
         ensures { result ≡ used_blocks self.now }
     {
         self.blocks.len() as u64 - self.spare
     }
 
-    /// The blocks that are free.
+    /// How many blocks are free.
     pub fn spare(&self) -> u64
         ensures { result ≡ self.now.spare }
     {

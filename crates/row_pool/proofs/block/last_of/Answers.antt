@@ -1,4 +1,4 @@
-use Rattle.std.proofs.Common.{◌≡◌, ◌<◌, ◌+◌, ◌-◌, length, arith, rules, ◌∙◌, ap}
+use Rattle.std.proofs.Common.{◌≡◌, ◌+◌, ◌-◌, arith, ◌∙◌, ap}
 use Rattle.row_pool.specs.Layout.{after, next_at}
 use Rattle.row_pool.proofs.Links.{chain_inside, after_more}
 use Rattle.row_pool.proofs.block.last_of.Goals as goal

@@ -1,8 +1,8 @@
-use Rattle.std.proofs.Common.{◌≡◌, ℕ, ◌+◌, ◌-◌, ◌*◌, ◌<◌, min, List, length, take, drop, arith, refl, sym, ap, ◌∙◌, length-take, length-drop}
+use Rattle.std.proofs.Common.{◌≡◌, ◌-◌, ◌*◌, length, take, drop, arith, ap, ◌∙◌, length-take, length-drop}
 use Rattle.row_pool.specs.Pool.{blocks_of}
 use Rattle.row_pool.specs.Layout.{next_at, bytes_at, after}
 use Rattle.row_pool.proofs.Links.{chain_inside, after_more}
-use Rattle.row_pool.proofs.Written.{read_more, begun}
+use Rattle.row_pool.proofs.Written.{read_more}
 use Rattle.row_pool.proofs.block.read_text.Goals as goal
 
 pub bounds-blocks-at : goal.bounds-blocks-at

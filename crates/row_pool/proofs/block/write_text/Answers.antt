@@ -1,8 +1,8 @@
-use Rattle.std.proofs.Common.{◌≡◌, ℕ, ◌+◌, ◌*◌, ◌<◌, length, take, drop, arith, refl, sym, ap, ◌∙◌, length-set, min}
+use Rattle.std.proofs.Common.{◌≡◌, ◌+◌, ◌*◌, length, take, drop, arith, ap, ◌∙◌, length-set}
 use Rattle.std.proofs.lemmas.List.{take_min, drop_min, drop-drop}
 use Rattle.row_pool.specs.declared.block.Block.{Block}
 use Rattle.row_pool.specs.Pool.{blocks_of}
-use Rattle.row_pool.specs.Layout.{next_at, len_at, bytes_at}
+use Rattle.row_pool.specs.Layout.{next_at}
 use Rattle.row_pool.proofs.Links.{chain_inside, after_more}
 use Rattle.row_pool.proofs.Written.{written_more}
 use Rattle.row_pool.proofs.block.write_text.Goals as goal

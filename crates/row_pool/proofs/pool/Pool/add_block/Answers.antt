@@ -1,7 +1,6 @@
-use Rattle.std.proofs.Common.{◌≡◌, ℕ, ◌+◌, ◌-◌, List, [], ◌∷◌, ◌++◌, length, arith, sym, ap, ◌∙◌, subst, vec_len}
-use Rattle.row_pool.specs.declared.block.Block.{Block}
+use Rattle.std.proofs.Common.{◌≡◌, ◌-◌, [], ◌∷◌, ◌++◌, length, arith, ap, ◌∙◌}
 use Rattle.row_pool.specs.Pool.{Texts}
-use Rattle.row_pool.specs.Layout.{IsSound, texts_in}
+use Rattle.row_pool.specs.Layout.{texts_in}
 use Rattle.row_pool.proofs.Steps.{grown_sound, grown_texts}
 use Rattle.row_pool.proofs.pool.Pool.add_block.Goals as goal
 

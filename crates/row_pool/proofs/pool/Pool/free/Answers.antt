@@ -1,10 +1,10 @@
-use Rattle.std.proofs.Common.{◌≡◌, ℕ, ◌+◌, ◌-◌, ◌≤◌, List, length, refl, Some, option_map, arith, sym, ap, ◌∙◌, subst}
+use Rattle.std.proofs.Common.{◌≡◌, ℕ, ◌+◌, List, length, refl, option_map, arith, sym, ap, ◌∙◌, subst}
 use Rattle.std.proofs.lemmas.List.{with_items_is}
 use Rattle.std.specs.FinMap.{get}
 use Rattle.std.specs.Vec.{with_items}
 use Rattle.row_pool.specs.declared.block.Block.{Block}
 use Rattle.row_pool.specs.Pool.{Texts, blocks_of, blocks_in, text_of, blocks_under, used_blocks}
-use Rattle.row_pool.specs.Layout.{IsChain, IsFreed, IsSound, texts_in, text_at, len_at}
+use Rattle.row_pool.specs.Layout.{IsFreed, texts_in, text_at}
 use Rattle.row_pool.proofs.Shares.{begins_with, text_chain, size_under, get-texts_in}
 use Rattle.row_pool.proofs.Steps.{sound_at, freed_here, freed_other, freed_blocks, freed_sound}
 use Rattle.row_pool.proofs.pool.Pool.free.Goals as goal

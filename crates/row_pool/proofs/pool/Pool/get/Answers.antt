@@ -1,7 +1,7 @@
-use Rattle.std.proofs.Common.{◌≡◌, ℕ, List, length, Option, Some, option_map, sym, ap, ◌∙◌, subst}
+use Rattle.std.proofs.Common.{List, length, Some, option_map, sym, ap, ◌∙◌, subst}
 use Rattle.row_pool.specs.declared.block.Block.{Block}
 use Rattle.row_pool.specs.Pool.{Texts, blocks_of, text_of}
-use Rattle.row_pool.specs.Layout.{IsChain, texts_in, text_from, len_at}
+use Rattle.row_pool.specs.Layout.{IsChain, text_from}
 use Rattle.row_pool.proofs.Shares.{begins_with, text_chain, text_under}
 use Rattle.row_pool.proofs.pool.Pool.get.Goals as goal
 

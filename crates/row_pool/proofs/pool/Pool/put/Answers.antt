@@ -1,10 +1,10 @@
-use Rattle.std.proofs.Common.{◌≡◌, ℕ, ◌+◌, ◌-◌, ◌≤◌, List, length, None, arith, rules, sym, ap, ◌∙◌, subst}
+use Rattle.std.proofs.Common.{◌≡◌, ℕ, ◌+◌, ◌-◌, ◌≤◌, List, length, arith, rules, sym, ap, ◌∙◌, subst}
 use Rattle.std.proofs.lemmas.List.{with_items_is}
 use Rattle.std.specs.FinMap.{get}
 use Rattle.std.specs.Vec.{with_items}
 use Rattle.row_pool.specs.declared.block.Block.{Block}
 use Rattle.row_pool.specs.Pool.{Texts, blocks_of, blocks_in, text_of, used_blocks}
-use Rattle.row_pool.specs.Layout.{IsChain, IsPut, IsSound, after, texts_in, text_at}
+use Rattle.row_pool.specs.Layout.{IsChain, IsPut, after, texts_in, text_at}
 use Rattle.row_pool.proofs.Shares.{free_chain, get-texts_in}
 use Rattle.row_pool.proofs.Steps.{sound_at, put_fresh, put_here, put_other, put_used, put_sound}
 use Rattle.row_pool.proofs.pool.Pool.put.Goals as goal

@@ -1,8 +1,8 @@
-use Rattle.std.proofs.Common.{◌≡◌, ℕ, ◌<◌, List, length, get_or, Option, None, Some, IsTrue, is_some, option_map, arith, sym, ap, ◌∙◌, subst, vec_len}
+use Rattle.std.proofs.Common.{◌≡◌, length, None, Some, IsTrue, is_some, option_map, arith, sym, ap, ◌∙◌, subst}
 use Rattle.std.proofs.lemmas.List.{get_or_read}
 use Rattle.row_pool.specs.declared.block.Block.{Block}
 use Rattle.row_pool.specs.Pool.{Texts, text_of}
-use Rattle.row_pool.specs.Layout.{no_block, len_at, texts_in}
+use Rattle.row_pool.specs.Layout.{no_block, len_at}
 use Rattle.row_pool.proofs.Shares.{live_begins, len_at_inside, len_under}
 use Rattle.row_pool.proofs.pool.Pool.text_len.Goals as goal
 
