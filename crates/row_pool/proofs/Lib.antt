@@ -1,0 +1,5 @@
+pub mod Links
+pub mod Sums
+pub mod Written
+pub mod Shares
+pub mod Steps
