@@ -42,6 +42,14 @@ fn file(alloc: Global, name: &str, bytes: &str) -> Result<(Chars, Bytes), AllocE
     Ok((name, Bytes::of(Vec::from_slice(alloc, bytes.as_bytes())?)))
 }
 
+#[tactic(auto, unfolding(ksql_types::specs::Text::longest_text))]
+fn chars(alloc: Global, text: &str) -> Result<Chars, Fail> {
+    if text.len() > 100 {
+        return Err(Fail::from("a long text"));
+    }
+    Ok(Chars::of(String::from_str(alloc, text)?))
+}
+
 /// A folder with a script and a topic file, in which the reads of these numbers fail.
 #[tactic(auto, unfolding(ksql_types::specs::Text::longest_text))]
 fn folder(
@@ -56,15 +64,16 @@ fn folder(
     Ok(MemFolder::new(alloc, files, Vec::from_slice(alloc, failing)?))
 }
 
-fn words(alloc: Global, texts: &[&str]) -> Result<Words, AllocError> {
+/// The words of a line, which blanks part.
+fn words(alloc: Global, line: &str) -> Result<Words, AllocError> {
     let mut words = Vec::new(alloc);
-    for text in texts {
-        words.push(Word::of(String::from_str(alloc, text)?))?;
+    for word in line.split(' ') {
+        words.push(Word::of(String::from_str(alloc, word)?))?;
     }
     Ok(Items::of(words))
 }
 
-const RUN: [&str; 4] = ["ksql", "run", "--script", "f"];
+const RUN: &str = "ksql run --script f";
 
 #[test]
 fn two_records_are_filtered(rt: HostRuntime) -> Result<(), Fail> {
@@ -75,7 +84,7 @@ fn two_records_are_filtered(rt: HostRuntime) -> Result<(), Fail> {
         let status = ksql(
             &rt,
             alloc,
-            &words(alloc, &RUN)?,
+            &words(alloc, RUN)?,
             &mut files,
             &mut out,
             &NoGate,
@@ -95,7 +104,7 @@ fn a_sink_that_takes_a_byte_a_call_gets_the_whole_report(rt: HostRuntime) -> Res
     let status = ksql(
         &rt,
         alloc,
-        &words(alloc, &RUN)?,
+        &words(alloc, RUN)?,
         &mut files,
         &mut out,
         &NoGate,
@@ -114,7 +123,7 @@ fn a_sink_that_fails_has_the_front_of_the_report(rt: HostRuntime) -> Result<(), 
         let status = ksql(
             &rt,
             alloc,
-            &words(alloc, &RUN)?,
+            &words(alloc, RUN)?,
             &mut files,
             &mut out,
             &NoGate,
@@ -135,16 +144,14 @@ fn a_read_that_fails_is_named(rt: HostRuntime) -> Result<(), Fail> {
         let status = ksql(
             &rt,
             alloc,
-            &words(alloc, &RUN)?,
+            &words(alloc, RUN)?,
             &mut files,
             &mut out,
             &NoGate,
         );
+        let name = chars(alloc, wanted)?;
+        assert_eq!(rt; status, Status::ReadFault { name });
         assert_eq!(rt; status.code(), 6);
-        let Status::ReadFault { name } = status else {
-            return Err(Fail::from("no read fault"));
-        };
-        assert_eq!(rt; name.items(), wanted);
         assert!(rt; out.written().is_empty());
     }
     Ok(())
@@ -156,26 +163,28 @@ fn words_of_another_shape_are_no_command(rt: HostRuntime) -> Result<(), Fail> {
     let long = String::from_utf8(vec![in alloc; b'f'; 4097]?)
         .ok()
         .ok_or("ASCII")?;
-    for shape in [
-        [].as_slice(),
-        ["ksql"].as_slice(),
-        ["ksql", "run"].as_slice(),
-        ["ksql", "run", "--script"].as_slice(),
-        ["ksql", "run", "--script", "f", ""].as_slice(),
-        ["ksql", "Run", "--script", "f"].as_slice(),
-        ["ksql", "explain", "--script", "f"].as_slice(),
-        ["ksql", "run", "--Script", "f"].as_slice(),
-        ["ksql", "run", "--script=f", "f"].as_slice(),
-        ["run", "--script", "f"].as_slice(),
-        ["ksql", "run", "--script", long.as_str()].as_slice(),
-        [long.as_str(), "run", "--script", "f"].as_slice(),
+    let long_name = format!(in alloc; "ksql run --script {}", long.as_str())?;
+    let long_program = format!(in alloc; "{} run --script f", long.as_str())?;
+    for line in [
+        "",
+        "ksql",
+        "ksql run",
+        "ksql run --script",
+        "ksql run --script f ",
+        "ksql Run --script f",
+        "ksql explain --script f",
+        "ksql run --Script f",
+        "ksql run --script=f f",
+        "run --script f",
+        long_name.as_str(),
+        long_program.as_str(),
     ] {
         let mut files = folder(alloc, SCRIPT, LINES, &[])?;
         let mut out = MemSink::new(alloc, 1000, 1000)?;
         let status = ksql(
             &rt,
             alloc,
-            &words(alloc, shape)?,
+            &words(alloc, line)?,
             &mut files,
             &mut out,
             &NoGate,
@@ -195,7 +204,7 @@ fn other_scripts_and_lines_are_refused(rt: HostRuntime) -> Result<(), Fail> {
     let status = ksql(
         &rt,
         alloc,
-        &words(alloc, &RUN)?,
+        &words(alloc, RUN)?,
         &mut files,
         &mut out,
         &NoGate,
@@ -210,16 +219,18 @@ fn other_scripts_and_lines_are_refused(rt: HostRuntime) -> Result<(), Fail> {
     let status = ksql(
         &rt,
         alloc,
-        &words(alloc, &RUN)?,
+        &words(alloc, RUN)?,
         &mut files,
         &mut out,
         &NoGate,
     );
-    assert_eq!(rt; status.code(), 4);
-    let Status::TopicFile { topic, line, why } = status else {
-        return Err(Fail::from("no refused topic file"));
+    let refused = Status::TopicFile {
+        topic: chars(alloc, "s")?,
+        line: 0,
+        why: LineWhy::BadLine,
     };
-    assert_eq!(rt; (topic.items(), line, why), ("s", 0, LineWhy::BadLine));
+    assert_eq!(rt; status, refused);
+    assert_eq!(rt; status.code(), 4);
     assert!(rt; out.written().is_empty());
     Ok(())
 }
