@@ -28,10 +28,6 @@ Files = List (List ℕ × List ℕ)
 abbrev pub longest_word : ℕ
 longest_word = 4096
 
--- the most bytes of a legal topic name
-abbrev pub longest_topic : ℕ
-longest_topic = 249
-
 -- the script's name, where the words are: the program's name, run, --script, and the script's name
 abbrev pub script_name : List (List ℕ) → Option (List ℕ)
 script_name (program ∷ command ∷ option ∷ name ∷ []) =

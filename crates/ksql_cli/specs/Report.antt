@@ -9,7 +9,7 @@ use Rattle.query_meaning.specs.declared.change.Decoded.{Decoded}
 use Rattle.query_meaning.specs.declared.change.Decoded.TheVariants.{Good}
 use Rattle.query_meaning.specs.declared.change.SourceRecord.{SourceRecord}
 use Rattle.query_meaning.specs.declared.program.Item.{Item}
-use Rattle.query_meaning.specs.declared.program.Item.TheVariants.{Declared, Started}
+use Rattle.query_meaning.specs.Meaning.{relation_of}
 use Rattle.ksql_cli.specs.Printed.{change_line, order_line}
 
 -- what is shown of a relation: up to which feed, how many of its records were skipped, and its changes
@@ -18,11 +18,6 @@ pub record Section : Type 0 where
   pub closed : ℕ
   pub skipped : ℕ
   pub changes : List Change
-
--- the relation of an item
-abbrev pub relation_of : Item → Relation
-relation_of (Declared relation) = relation
-relation_of (Started query) = query.out
 
 -- the relations of a program, in their order
 abbrev pub relations_of : List Item → List Relation

@@ -8,6 +8,10 @@ use Rattle.ksql_cli.specs.declared.status.LineWhy.TheVariants.{BadLine}
 use Rattle.ksql_cli.specs.Command.{Files, IsScriptRead, IsBadFile, topic_file}
 use Rattle.ksql_cli.specs.FirstProgram.{stream_of}
 
+-- the most bytes of a legal topic name
+abbrev pub longest_topic : ℕ
+longest_topic = 249
+
 -- some names joined
 abbrev pub IsGrown : List (List ℕ) → List (List ℕ) → Type 0
 IsGrown old new = (names : List (List ℕ)) × (new ≡ old ++ names)

@@ -1,11 +1,12 @@
 //! The report on the relations of a program.
 
 ghost use Rattle.std.specs.Prelude.{◌≡◌, ◌++◌, [], IfOk, OnOk, flat_map, slice_index_or, string_bytes};
-ghost use Rattle.ksql_cli.specs.Report.{relation_of, relations_of, topic_name, is_skipped, skipped_of, section_of, sections, kind_text, origin_text, head_line, section_text, fed_line, order_text, report};
+ghost use Rattle.query_meaning.specs.Meaning.{relation_of};
+ghost use Rattle.ksql_cli.specs.Report.{relations_of, topic_name, is_skipped, skipped_of, section_of, sections, kind_text, origin_text, head_line, section_text, fed_line, order_text, report};
 
 use crate::printed::{labels, push_change, push_order_line};
 use ksql_types::{Kind, Relation};
-use query_meaning::{Change, Changes, Decoded, Item, Program, SourceRecord};
+use query_meaning::{Change, Changes, Decoded, Item, Program, SourceRecord, relation_of};
 use std::alloc::{AllocError, Global};
 
 /// The report on a program's relations: the records that were fed in their order, a head line and the changes of
@@ -51,16 +52,6 @@ fn topic_name(items: &[Item], number: u32) -> &str
     match items.get(number as usize) {
         Some(item) => relation_of(item).topic.items(),
         None => "",
-    }
-}
-
-/// The relation of an item.
-fn relation_of(item: &Item) -> &Relation
-    ensures { result.now ≡ relation_of item.now }
-{
-    match item {
-        Item::Declared(relation) => relation,
-        Item::Started(query) => &query.out,
     }
 }
 

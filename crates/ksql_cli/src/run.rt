@@ -5,8 +5,8 @@ ghost use Rattle.query_meaning.specs.declared.program.Program.{Program};
 ghost use Rattle.query_meaning.specs.declared.change.TopicLines.{TopicLines};
 ghost use Rattle.ksql_cli.specs.declared.status.Status.{Status};
 ghost use Rattle.ksql_cli.specs.FirstProgram.{program_of, stream_of};
-ghost use Rattle.ksql_cli.specs.Command.{HasCause, IsDecided, IsFed, IsRefusal, longest_topic, longest_word, NoDueFails, report_of, Runs, script_name};
-ghost use Rattle.ksql_cli.specs.Steps.{IsFormRead, IsGrown, IsReadFailure, IsTopicFailure, IsTopicRefusal};
+ghost use Rattle.ksql_cli.specs.Command.{HasCause, IsDecided, IsFed, IsRefusal, longest_word, NoDueFails, report_of, Runs, script_name};
+ghost use Rattle.ksql_cli.specs.Steps.{IsFormRead, IsGrown, IsReadFailure, IsTopicFailure, IsTopicRefusal, longest_topic};
 
 use crate::lines::topic_feds;
 use crate::program::program_of;

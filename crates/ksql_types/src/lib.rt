@@ -21,3 +21,6 @@ pub use word::{Word, Words};
 
 /// A list of bytes.
 pub type Bytes = Items<u8>;
+
+#[cfg(test)]
+mod tests;
