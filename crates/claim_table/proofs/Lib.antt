@@ -1,0 +1,4 @@
+pub mod Sums
+pub mod Totals
+pub mod Stands
+pub mod Draws

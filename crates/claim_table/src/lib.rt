@@ -1,0 +1,9 @@
+//! A round hands out items to threads, each item once, and takes the items back with the numbers that the threads drew for them.
+#![tactic(auto)]
+
+mod item;
+mod plays;
+mod table;
+
+pub use item::Item;
+pub use table::{Claim, Round};
