@@ -2,7 +2,8 @@
 use Rattle.std.proofs.Common.{◌≡◌, ◌≢◌, ℕ, zero, suc, ◌+◌, ◌%◌, ◌^◌, ◌<◌, ◌≤◌, ◌⊎◌, List, [], ◌∷◌, ◌++◌, length, get_or, set, sym, refl, ap, ◌∙◌, subst, inl, inr, ⊎_elim, arith, length-set, get_or-set_other, get_or-set_same}
 use mathlib.Core.Option.{some, none}
 use mathlib.Core.Option as maybe
-use native.Mathlib.Decide.{dec_lt, dec_le, ℕ_discrete}
+use native.Mathlib.Decide.{dec_lt, dec_le}
+use Rattle.std.proofs.Math.Nat.{mod-eq_of_lt}
 use lib.ListN.{get_elem?}
 use Rattle.std.specs.Prelude.{Option, Some, None}
 use Rattle.atomic_table.specs.Table.{State, Me, Act, step, keeps, takes, stepped, Allows, Valid, carried_after, homes_after}
@@ -47,3 +48,33 @@ module _ {T P : Type 0} (fresh done : P → ℕ → T → Type 0) (number : T �
         }
         (λ j u ne e. moves fresh done number plan claims s.homes homes' u long (λ i a. let b = drawn_below fresh done number plan claims s kept j u i e (((kept.each j u e).home i a).0) in stay i (λ z. omega arith)) (kept.each j u e));
   }
+
+  some_is : {A : Type 0} (a b : A) → Some a ≡ Some b → a ≡ b
+  some_is a b e = cc
+
+  -- a claim that hasn't passed the end may draw
+  pub draws : (slots id : ℕ) (me : Me (Option T) (View P)) → 0 < me.0.parts → me.0.plan ≡ Some plan → weigh (past slots) me.0.drawn ≡ 0
+      → Allows K slots id me 0 (λ n. (n + 1) % 2 ^ 64) (Drew fresh (step slots 0 1 0 none) me)
+  draws slots id me part planned low s kept wide at fits =
+      let n : ℕ = length s.homes in let m : ℕ = get_or s.words 0 0 in let v : View P = me.0 in let w : View P = with_drawn v m in let homes : List (maybe.Option (Option T)) = s.homes in
+      let low' : weigh (past n) v.drawn ≡ 0 = subst (λ (x : ℕ). weigh (past x) v.drawn ≡ 0) (sym wide) low in
+      let bound : m ≤ n + claims = draws_bound fresh done number plan claims s kept in let small : n + claims + 1 < 2 ^ 64 = kept.small in let room : m + 1 < 2 ^ 64 = omega arith in
+      let next : (m + 1) % 2 ^ 64 ≡ suc m = mod-eq_of_lt room ∙ (let e : m + 1 ≡ suc m = omega arith in e) in
+      let rises : AllBelow v.drawn m = λ i a. drawn_below fresh done number plan claims s kept id v i at a in
+      elim (dec_lt m n) [
+        yes h ↦ (let r = kept.waits m (let g : m ≤ m = omega arith in g) h in let x : T = r.0 in let homes' : List (maybe.Option (Option T)) = set homes m none in (
+          w,
+          takes m (Some x),
+          r.1,
+          subst (λ (y : ℕ). K record { words = set s.words 0 y; homes = homes'; views = set s.views id w }) (sym next)
+              (drawn_keeps s kept id m v homes' at refl (length-set homes m none) (λ j ne. set_else homes m j none ne) part low'),
+          (refl, rises, (λ above. absurd (omega arith)), λ _. (x, refl, λ plan' is. subst (λ (p : P). fresh p m x) (some_is plan plan' (sym planned ∙ is)) r.2)),
+        ))
+      | no h ↦ (
+          w,
+          keeps,
+          tt,
+          subst (λ (y : ℕ). K record { words = set s.words 0 y; homes = homes; views = set s.views id w }) (sym next) (drawn_keeps s kept id m v homes at refl refl (λ j ne. refl) part low'),
+          (refl, rises, (λ _. refl), λ lower. absurd (omega arith)),
+        )
+      ]

@@ -1,3 +1,4 @@
 pub mod Sums
 pub mod Rule
 pub mod Steps
+pub mod Held

@@ -24,30 +24,30 @@ Says (p ∷ ps) i k = ((i ≡ p.0) × (k ≡ p.1)) ⊎ Says ps i k
 module _ {P : Type 0} where
   -- the first view stands for all claims
   abbrev pub opened : P → ℕ → View P
-  opened plan claims = record { plan = Some plan; all = claims; parts = claims; drawn = []; returned = []; numbered = [] }
+  opened plan claims = record { plan = Some plan; parts = claims; drawn = []; returned = []; numbered = [] }
 
   -- one claim is cut off a view with empty lists
   abbrev pub parent : View P → View P
-  parent v = record { plan = v.plan; all = v.all; parts = v.parts - 1; drawn = v.drawn; returned = v.returned; numbered = v.numbered }
+  parent v = record { plan = v.plan; parts = v.parts - 1; drawn = v.drawn; returned = v.returned; numbered = v.numbered }
 
   abbrev pub child : View P → View P
-  child v = record { plan = v.plan; all = v.all; parts = 1; drawn = []; returned = []; numbered = [] }
+  child v = record { plan = v.plan; parts = 1; drawn = []; returned = []; numbered = [] }
 
   -- one view takes over all of another
   abbrev pub both : View P → View P → View P
-  both v w = record { plan = v.plan; all = v.all; parts = v.parts + w.parts; drawn = v.drawn ++ w.drawn; returned = v.returned ++ w.returned; numbered = v.numbered ++ w.numbered }
+  both v w = record { plan = v.plan; parts = v.parts + w.parts; drawn = v.drawn ++ w.drawn; returned = v.returned ++ w.returned; numbered = v.numbered ++ w.numbered }
 
   abbrev pub spent : View P
-  spent = record { plan = None; all = 0; parts = 0; drawn = []; returned = []; numbered = [] }
+  spent = record { plan = None; parts = 0; drawn = []; returned = []; numbered = [] }
 
   abbrev pub with_drawn : View P → ℕ → View P
-  with_drawn v m = record { plan = v.plan; all = v.all; parts = v.parts; drawn = m ∷ v.drawn; returned = v.returned; numbered = v.numbered }
+  with_drawn v m = record { plan = v.plan; parts = v.parts; drawn = m ∷ v.drawn; returned = v.returned; numbered = v.numbered }
 
   abbrev pub with_number : View P → ℕ → ℕ → View P
-  with_number v i k = record { plan = v.plan; all = v.all; parts = v.parts; drawn = v.drawn; returned = v.returned; numbered = (i, k) ∷ v.numbered }
+  with_number v i k = record { plan = v.plan; parts = v.parts; drawn = v.drawn; returned = v.returned; numbered = (i, k) ∷ v.numbered }
 
   abbrev pub with_returned : View P → ℕ → View P
-  with_returned v i = record { plan = v.plan; all = v.all; parts = v.parts; drawn = v.drawn; returned = i ∷ v.returned; numbered = v.numbered }
+  with_returned v i = record { plan = v.plan; parts = v.parts; drawn = v.drawn; returned = i ∷ v.returned; numbered = v.numbered }
 
 -- the item i is at home, with this value
 abbrev pub AtHome : {T : Type 0} → List (maybe.Option (Option T)) → ℕ → T → Type 0
@@ -59,7 +59,7 @@ pub record Standing {T P : Type 0} (done : P → ℕ → T → Type 0) (number :
   pub inner : weigh (past (length homes)) (firsts v.numbered) ≡ 0
   pub over : weigh (past (length homes)) v.drawn ≤ v.parts
   pub home : (i : ℕ) → Has v.returned i → Has v.drawn i × ((x : T) × AtHome homes i x × done plan i x × Says v.numbered i (number x))
-  pub planned : 0 < v.parts → (v.plan ≡ Some plan) × (v.all ≡ claims)
+  pub planned : 0 < v.parts → v.plan ≡ Some plan
   pub empty : v.parts ≡ 0 → (v.drawn ≡ []) × (v.returned ≡ []) × (v.numbered ≡ [])
 
 -- what holds of the table: all that was drawn is each number below word 0, once, and the numbers of items are each number below word 1, once; an item that no one drew is at home and fresh

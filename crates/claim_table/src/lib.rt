@@ -1,6 +1,7 @@
 //! A round hands out items to threads, each item once, and takes the items back with the numbers that the threads drew for them.
 #![tactic(auto)]
 
+mod bring;
 mod item;
 mod plays;
 mod table;

@@ -8,7 +8,6 @@ use std::snapshot::Snapshot;
 /// What a claim knows. No value of it is made.
 pub struct View<P> {
     pub plan: Option<P>,
-    pub all: u64,
     pub parts: u64,
     pub drawn: LinkedList<u64>,
     pub returned: LinkedList<u64>,
