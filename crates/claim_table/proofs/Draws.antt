@@ -14,7 +14,7 @@ use Rattle.claim_table.specs.Rule.{firsts, seconds, AtHome, Standing, Kept, with
 use Rattle.claim_table.specs.Steps.{Drew}
 use Rattle.claim_table.proofs.Sums.{has_weight, same_at, below_same_out, below_same_in, below_past, past_in, past_out}
 use Rattle.claim_table.proofs.Totals.{total_at, total_two, total_le, total_set}
-use Rattle.claim_table.proofs.Stands.{Homes, Stands, Keeps, moves, all_set, drawn_below, draws_bound}
+use Rattle.claim_table.proofs.Stands.{some_is, Homes, Stands, Keeps, moves, all_set, drawn_below, draws_bound}
 
 module _ {T P : Type 0} (fresh done : P → ℕ → T → Type 0) (number : T → ℕ) (plan : P) (claims : ℕ) where
   abbrev St : Type 0
@@ -48,9 +48,6 @@ module _ {T P : Type 0} (fresh done : P → ℕ → T → Type 0) (number : T �
         }
         (λ j u ne e. moves fresh done number plan claims s.homes homes' u long (λ i a. let b = drawn_below fresh done number plan claims s kept j u i e (((kept.each j u e).home i a).0) in stay i (λ z. omega arith)) (kept.each j u e));
   }
-
-  some_is : {A : Type 0} (a b : A) → Some a ≡ Some b → a ≡ b
-  some_is a b e = cc
 
   -- a claim that hasn't passed the end may draw
   pub draws : (slots id : ℕ) (me : Me (Option T) (View P)) → 0 < me.0.parts → me.0.plan ≡ Some plan → weigh (past slots) me.0.drawn ≡ 0

@@ -6,3 +6,5 @@ pub mod Numbers
 pub mod Returns
 pub mod Parting
 pub mod Bringing
+pub mod Holding
+pub mod Sitting

@@ -14,6 +14,9 @@ use Rattle.claim_table.specs.Rule.{firsts, seconds, AtHome, Standing, Kept}
 use Rattle.claim_table.proofs.Sums.{has_weight, same_at, below_same_out, below_same_in, below_past}
 use Rattle.claim_table.proofs.Totals.{total_at, total_two, total_le}
 
+pub some_is : {A : Type 0} (a b : A) → Some a ≡ Some b → a ≡ b
+some_is a b e = cc
+
 module _ {T P : Type 0} (fresh done : P → ℕ → T → Type 0) (number : T → ℕ) (plan : P) (claims : ℕ) where
   abbrev pub Homes : Type 0
   Homes = List (maybe.Option (Option T))

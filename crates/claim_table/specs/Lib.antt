@@ -2,3 +2,4 @@ pub mod Sums
 pub mod Rule
 pub mod Steps
 pub mod Held
+pub mod Claims

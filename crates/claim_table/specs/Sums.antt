@@ -1,5 +1,5 @@
 -- Sums over lists, at every weighing of numbers.
-use Rattle.std.specs.Prelude.{◌≡◌, ℕ, zero, suc, ◌+◌, ◌≤◌, ◌⊎◌, List, [], ◌∷◌}
+use Rattle.std.specs.Prelude.{◌≡◌, ℕ, zero, suc, ◌+◌, ◌<◌, ◌⊎◌, List, [], ◌∷◌}
 
 -- the weights of the numbers, added up
 abbrev pub weigh : (ℕ → ℕ) → List ℕ → ℕ
@@ -36,4 +36,4 @@ Has (x ∷ xs) i = (i ≡ x) ⊎ Has xs i
 
 -- each in the list is below m
 abbrev pub AllBelow : List ℕ → ℕ → Type 0
-AllBelow xs m = (i : ℕ) → Has xs i → suc i ≤ m
+AllBelow xs m = (i : ℕ) → Has xs i → i < m

@@ -3,8 +3,11 @@
 
 mod bring;
 mod item;
+mod opening;
 mod plays;
+mod steps;
 mod table;
 
 pub use item::Item;
+pub use opening::Opened;
 pub use table::{Claim, Round};

@@ -1,5 +1,5 @@
 //! A round and its claims, over a table of two words and a slot for each item.
-ghost use Rattle.std.specs.Prelude.{◌≡◌};
+ghost use Rattle.std.specs.Prelude.{◌≡◌, ◌^◌, ◌<◌};
 
 use crate::item::Item;
 use crate::plays::{Key, Rule, View};
@@ -13,6 +13,8 @@ pub struct Round<T: Item> {
     pub(crate) count: u32,
     ghost words: { table.shared.table_id.words ≡ 2 },
     ghost slots: { table.shared.table_id.slots ≡ count },
+    ghost small: { count < 2 ^ 32 },
+    ghost claimed: { 0 < table.shared.key.claims },
 }
 
 /// A seat of a round, which one thread draws with. Only its own calls change what it knows.
