@@ -8,3 +8,4 @@ pub mod Parting
 pub mod Bringing
 pub mod Holding
 pub mod Sitting
+pub mod Begins

@@ -29,7 +29,7 @@ module _ {T P : Type 0} (fresh done : P → ℕ → T → Type 0) (number : T �
   K = Keeps fresh done number plan claims
 
   -- a view with empty lists, which stands for some claims
-  bare : (homes : _) (v : View P) → v.drawn ≡ [] → v.returned ≡ [] → v.numbered ≡ [] → (0 < v.parts → v.plan ≡ Some plan) → Stands fresh done number plan claims homes v
+  pub bare : (homes : _) (v : View P) → v.drawn ≡ [] → v.returned ≡ [] → v.numbered ≡ [] → (0 < v.parts → v.plan ≡ Some plan) → Stands fresh done number plan claims homes v
   bare homes v no_draw no_return no_number planned = record {
     numbered = λ h. (let a : weigh h (firsts v.numbered) ≡ 0 = ap (λ (l : List (ℕ × ℕ)). weigh h (firsts l)) no_number in omega arith);
     inner = ap (λ (l : List (ℕ × ℕ)). weigh (past (length homes)) (firsts l)) no_number;

@@ -17,6 +17,13 @@ pub struct Opened<T: Item> {
     pub claims: Vec<Claim<T>>,
 }
 
+// Each item in a `Some`.
+fn wrapped<T: Drop>(alloc: Global, items: Vec<T>) -> Result<Vec<Option<T>>, AllocError>
+    ensures { IfOk result (λ slots. slots.items ≡ map Some items.items) }
+{
+    items.into_iter().map(Some).collect(alloc)
+}
+
 impl<T: Item> Round<T> {
     /// A round of these items, each of which is fresh at its place, with as many claims as are asked for.
     pub fn new(
@@ -38,7 +45,7 @@ impl<T: Item> Round<T> {
             claims: u64::from(claims),
             plan: Snapshot::of(plan),
         };
-        let slots = items.into_iter().map(Some).collect(alloc)?;
+        let slots = wrapped(alloc, items)?;
         match Table::new(alloc, &[0, 0], slots, &key) {
             Ok((table, seat)) => {
                 let round = Round { table, count };
