@@ -9,3 +9,4 @@ pub mod Bringing
 pub mod Holding
 pub mod Sitting
 pub mod Begins
+pub mod Ends

@@ -1,5 +1,5 @@
 -- Weights of lists, and of the numbers below a bound.
-use Rattle.std.proofs.Common.{◌≡◌, ◌≢◌, ℕ, zero, suc, ◌+◌, ◌<◌, ◌≤◌, List, [], ◌∷◌, ◌++◌, sym, refl, ap, ◌∙◌, subst, inl, inr, ⊎_elim, arith}
+use Rattle.std.proofs.Common.{◌≡◌, ◌≢◌, ℕ, zero, suc, ◌+◌, ◌<◌, ◌≤◌, List, [], ◌∷◌, ◌++◌, length, get_or, le_refl, sym, refl, ap, ◌∙◌, subst, inl, inr, ⊎_elim, arith}
 use native.Mathlib.Decide.{dec_le, ℕ_discrete}
 use mathlib.Core.Logic.{dite}
 use Rattle.claim_table.specs.Sums.{weigh, below, same, past, Has}
@@ -126,3 +126,47 @@ except_has i h (x ∷ xs) a = ⊎_elim
     (λ (e : i ≡ x). let r = except_le i h xs in let z : except i h x ≡ 0 = subst (λ (y : ℕ). except i h y ≡ 0) e (except_at i h) in let f : h i ≡ h x = ap h e in omega arith)
     (λ (b : Has xs i). let r = except_has i h xs b in dite (ℕ_discrete i x)
         (λ (e : i ≡ x). let z : except i h x ≡ 0 = subst (λ (y : ℕ). except i h y ≡ 0) e (except_at i h) in omega arith) (λ (ne : i ≢ x). let z = except_else i x h ne in omega arith)) a
+
+pub below_shift : (g : ℕ → ℕ) (n : ℕ) → below g (suc n) ≡ g 0 + below (λ i. g (suc i)) n
+below_shift g zero = omega arith
+below_shift g (suc n) = let r = below_shift g n in omega arith
+
+pub below_ext : (g h : ℕ → ℕ) (n : ℕ) → ((i : ℕ) → g i ≡ h i) → below g n ≡ below h n
+below_ext g h zero e = refl
+below_ext g h (suc n) e = let r = below_ext g h n e in let q = e n in omega arith
+
+-- the weights of a list, place by place
+pub weigh_places : (h : ℕ → ℕ) (l : List ℕ) → weigh h l ≡ below (λ i. h (get_or l i 0)) (length l)
+weigh_places h [] = refl
+weigh_places h (x ∷ xs) = let r = weigh_places h xs in let s = below_shift (λ i. h (get_or (x ∷ xs) i 0)) (length xs) in omega arith
+
+pub below_except : (g : ℕ → ℕ) (i n : ℕ) → n ≤ i → below (except i g) n ≡ below g n
+below_except g i zero h = refl
+below_except g i (suc n) h = let r = below_except g i n (omega arith) in let z = except_else i n g (λ e. omega arith) in omega arith
+
+-- a list that has each number below n weighs at least as much
+pub covers : (g : ℕ → ℕ) (n : ℕ) (xs : List ℕ) → ((i : ℕ) → i < n → Has xs i) → below g n ≤ weigh g xs
+covers g zero xs all = omega arith
+covers g (suc n) xs all = let r = covers (except n g) n xs (λ i h. all i (omega arith)) in let a = except_has n g xs (all n (omega arith)) in let b = below_except g n n (le_refl n) in omega arith
+
+-- g below n, else 0
+abbrev pub cut : ℕ → (ℕ → ℕ) → ℕ → ℕ
+cut n g x = if_none (past n x) (g x)
+
+cut_in : (n x : ℕ) (g : ℕ → ℕ) → past n x ≡ 0 → cut n g x ≡ g x
+cut_in n x g e = ap (λ (k : ℕ). if_none k (g x)) e
+
+pub weigh_cut : (n : ℕ) (g : ℕ → ℕ) (xs : List ℕ) → weigh (past n) xs ≡ 0 → weigh g xs ≡ weigh (cut n g) xs
+weigh_cut n g [] z = refl
+weigh_cut n g (x ∷ xs) z = let a : past n x ≡ 0 = omega arith in let b : weigh (past n) xs ≡ 0 = omega arith in let r = weigh_cut n g xs b in let q = cut_in n x g a in omega arith
+
+below_cut_low : (n : ℕ) (g : ℕ → ℕ) (w : ℕ) → w ≤ n → below (cut n g) w ≡ below g w
+below_cut_low n g zero h = refl
+below_cut_low n g (suc w) h = let r = below_cut_low n g w (omega arith) in let q = cut_in n w g (past_out n w (omega arith)) in omega arith
+
+pub below_cut : (n : ℕ) (g : ℕ → ℕ) (w : ℕ) → n ≤ w → below (cut n g) w ≡ below g n
+below_cut n g zero h = below_cut_low n g zero (omega arith) ∙ ap (below g) (let e : 0 ≡ n = omega arith in e)
+below_cut n g (suc w) h = elim (dec_le n w) [
+    yes le ↦ (let r = below_cut n g w le in let q : cut n g w ≡ 0 = ap (λ (k : ℕ). if_none k (g w)) (past_in n w le) in omega arith)
+  | no gt ↦ below_cut_low n g (suc w) (omega arith) ∙ ap (below g) (let e : suc w ≡ n = omega arith in e)
+  ]
