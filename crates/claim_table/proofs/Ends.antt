@@ -8,7 +8,10 @@ use Rattle.std.specs.Prelude.{Option, Some, None, slice_get}
 use Rattle.atomic_table.specs.Table.{State, Final, Seen}
 use Rattle.claim_table.specs.declared.plays.View.{View}
 use Rattle.claim_table.specs.Sums.{weigh, below, total, same, past, Has}
+use Rattle.claim_table.specs.declared.table.Claim.{Claim}
 use Rattle.claim_table.specs.Rule.{firsts, seconds, Says, AtHome, Standing, Kept}
+use Rattle.claim_table.specs.Claims.{drawn_by}
+use Rattle.claim_table.specs.Gathering.{Gathers}
 use Rattle.claim_table.proofs.Sums.{has_weight, has_of_weight, same_at, below_same_in, below_same_out, below_one, below_ext, past_in, weigh_places, covers, cut, weigh_cut, below_cut}
 use Rattle.claim_table.proofs.Totals.{total_two, total_alone}
 use Rattle.claim_table.proofs.Stands.{some_is, Keeps, drawn_below}
@@ -48,6 +51,27 @@ gather G [] f = ([], refl, λ i x e. absurd (cc))
 gather {T} G (y ∷ xs) f = let r = f 0 (omega arith) in let q = gather (λ i x. G (suc i) x) xs (λ i h. f (suc i) (omega arith)) in
     (r.0 ∷ q.0, (λ k. some-injective y (Some r.0) r.1 k ∷ q.1 k), at_each G r.0 q.0 r.2 q.2)
 
+some_same : {T : Type 0} (xs ys : List T) → map Some xs ≡ map Some ys → xs ≡ ys
+some_same [] [] e = refl
+some_same [] (y ∷ ys) e = absurd (cc)
+some_same (x ∷ xs) [] e = absurd (cc)
+some_same (x ∷ xs) (y ∷ ys) e = let a : Some x ≡ Some y = cc in let b : map Some xs ≡ map Some ys = cc in λ k. some_is x y a k ∷ some_same xs ys b k
+
+-- what the values of a closed table are, and what was drawn
+pub record Ended {T P : Type 0} (done : P → ℕ → T → Type 0) (number : T → ℕ) (plan : P) (n : ℕ) (slots : List (Option T)) (claims : List (Claim T P)) : Type 0 where
+  pub values : List T
+  pub are : slots ≡ map Some values
+  pub long : length values ≡ n
+  pub well : (i : ℕ) (x : T) → slice_get values i ≡ Some x → done plan i x
+  pub numbers : (h : ℕ → ℕ) → weigh h (map number values) ≡ below h n
+  pub drawn : (m : ℕ) × (n < m) × ((h : ℕ → ℕ) → total (λ c. weigh h (drawn_by c)) claims ≡ below h m)
+
+-- the same of the list into which the values were moved
+pub moved_to : {T P : Type 0} (done : P → ℕ → T → Type 0) (number : T → ℕ) (plan : P) (n : ℕ) (slots : List (Option T)) (claims : List (Claim T P)) → Ended done number plan n slots claims → (ys : List T) → map Some ys ≡ slots
+    → (length ys ≡ n) × ((i : ℕ) (x : T) → slice_get ys i ≡ Some x → done plan i x) × ((h : ℕ → ℕ) → weigh h (map number ys) ≡ below h n)
+moved_to {T} done number plan n slots claims e ys is = subst (λ (l : List T). (length l ≡ n) × ((i : ℕ) (x : T) → slice_get l i ≡ Some x → done plan i x) × ((h : ℕ → ℕ) → weigh h (map number l) ≡ below h n))
+    (some_same e.values ys (sym e.are ∙ sym is)) (e.long, e.well, e.numbers)
+
 module _ {T P : Type 0} (fresh done : P → ℕ → T → Type 0) (number : T → ℕ) (plan : P) (claims : ℕ) where
   module _ (s : State (Option T) (View P)) (kept : Keeps fresh done number plan claims s) (id : ℕ) (v : View P) (at : get_elem? s.views id ≡ some v) (all : v.parts ≡ claims) where
     others : (j : ℕ) (u : View P) → j ≢ id → get_elem? s.views j ≡ some u → u.parts ≡ 0
@@ -81,3 +105,20 @@ module _ {T P : Type 0} (fresh done : P → ℕ → T → Type 0) (number : T �
           let len : length (map number ys) ≡ n = length-map ys number ∙ long in
           let weights : (k : ℕ → ℕ) → weigh k (map number ys) ≡ below k (get_or s.words 1 0) = λ k. weigh_places k (map number ys) ∙ ap (below (λ i. k (num i))) len ∙ sym (counted num each k) in
           let w : get_or s.words 1 0 ≡ n = sym (below_one (get_or s.words 1 0)) ∙ counted num each (λ _. 1) ∙ below_one n in weights h ∙ ap (below h) w
+
+  pub ends : (n : ℕ) (words : List ℕ) (slots : List (Option T)) (id : ℕ) (v : View P) (cs : List (Claim T P)) → Final (Seen (Keeps fresh done number plan claims) id v) words slots → Gathers n cs v → length cs ≡ claims → length slots ≡ n
+      → Ended done number plan n slots cs
+  ends n words slots id v cs f g many long =
+      let s : State (Option T) (View P) = f.0 in let kept = f.1.0 in let at = f.1.1 in let homes : length s.homes ≡ length slots = f.3 in let size : length s.homes ≡ n = homes ∙ long in let all : v.parts ≡ claims = g.parts ∙ many in
+      let w : ℕ = get_or s.words 0 0 in let over : g.past.0 < w = drawn_below fresh done number plan claims s kept id v g.past.0 at g.past.1 in let past_n = g.past.2 in let end : length s.homes < w = omega arith in
+      let G = λ (i : ℕ) (x : T). done plan i x × Says v.numbered i (number x) in
+      let back = λ (i : ℕ) (low : i < length slots). (let r = ((kept.each id v at).home i (g.back i (drew_each s kept id v at all end i (let a : i < length s.homes = omega arith in a)) (let b : i < n = omega arith in b))).1 in
+          let there : (x : T) × (get_elem? slots i ≡ some (Some x)) × G i x = (r.0, f.4 i (Some r.0) r.1, (r.2, r.3)) in there) in
+      let ys = gather G slots back in let len : length ys.0 ≡ n = sym (ap length ys.1 ∙ length-map ys.0 Some) ∙ long in record {
+    values = ys.0;
+    are = ys.1;
+    long = len;
+    well = λ i x e. (ys.2 i x e).0;
+    numbers = λ h. numbers_are s kept id v at all end ys.0 (len ∙ sym size) (λ i x e. (ys.2 i x e).1) h ∙ ap (below h) size;
+    drawn = (w, (let a : n < w = omega arith in a), λ h. sym (g.drawn h) ∙ drew s kept id v at all h);
+  }

@@ -10,3 +10,4 @@ pub mod Holding
 pub mod Sitting
 pub mod Begins
 pub mod Ends
+pub mod Together

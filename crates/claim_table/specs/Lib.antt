@@ -3,3 +3,4 @@ pub mod Rule
 pub mod Steps
 pub mod Held
 pub mod Claims
+pub mod Gathering

@@ -2,6 +2,7 @@
 #![tactic(auto)]
 
 mod bring;
+mod closing;
 mod item;
 mod opening;
 mod plays;
