@@ -49,6 +49,7 @@ module _ {T P : Type 0} (fresh : P → ℕ → T → Type 0) (plan : P) where
     owes = λ i s h. elim h [ ];
     once = tt;
     back = λ i h. elim h [ ];
+    named = λ i h. elim h [ ];
   }
 
 module _ {T P : Type 0} (plan : P) where

@@ -8,7 +8,7 @@ use Rattle.claim_table.specs.Sums.{weigh, past, Has, AllBelow}
 use Rattle.claim_table.specs.Rule.{firsts, Says, with_drawn, with_number, with_returned}
 use Rattle.claim_table.specs.Steps.{Drew, front}
 use Rattle.claim_table.specs.Held.{Holds, Once, brought}
-use Rattle.claim_table.specs.Claims.{EndsPast, Sits}
+use Rattle.claim_table.specs.Claims.{EndsPast, left_below, Sits}
 use Rattle.claim_table.proofs.Sums.{has_weight, past_in, past_out}
 use Rattle.claim_table.proofs.Holding.{brought_to, brought_from, brought_once}
 
@@ -34,6 +34,7 @@ module _ {T P : Type 0} (fresh : P → ℕ → T → Type 0) (plan : P) (n : ℕ
         (λ (b : Holds me.1 i t). let r = s.owes i t b in (r.0, inr r.1, r.2)) h;
     once = ((λ t h. (let r = s.owes m t h in let q = d.1 m r.1 in omega arith)), s.once);
     back = λ i a. inr (s.back i a);
+    named = λ i a. inr (s.named i a);
   }
 
   -- where it drew a number past the items
@@ -47,6 +48,7 @@ module _ {T P : Type 0} (fresh : P → ℕ → T → Type 0) (plan : P) (n : ℕ
     owes = λ i t h. (let r = s.owes i t h in (r.0, inr r.1, r.2));
     once = s.once;
     back = λ i a. inr (s.back i a);
+    named = λ i a. inr (s.named i a);
   }
 
   -- where a slot has come to the front
@@ -60,6 +62,7 @@ module _ {T P : Type 0} (fresh : P → ℕ → T → Type 0) (plan : P) (n : ℕ
     owes = λ i t h. s.owes i t (brought_from k me.1 i t h);
     once = brought_once k me.1 s.once;
     back = s.back;
+    named = s.named;
   }
 
   -- where the value of the first slot was taken
@@ -74,11 +77,22 @@ module _ {T P : Type 0} (fresh : P → ℕ → T → Type 0) (plan : P) (n : ℕ
     owes = λ j u h. ⊎_elim (λ (e : (j ≡ i) × (u ≡ None)). s.owes j t (f j t (inl (e.0, refl)))) (λ (b : Holds cs j u). s.owes j u (f j u (inr b))) h;
     once = o;
     back = s.back;
+    named = s.named;
   }
 
   -- where an item has a number
-  pub sits_numbered : (over : Bool) (me : Seat) (i k : ℕ) → Sits fresh plan n over me → Sits fresh plan n over (with_number me.0 i k, me.1)
-  sits_numbered over me i k s = record { planned = s.planned; part = s.part; going = s.going; ended = s.ended; good = s.good; owes = s.owes; once = s.once; back = s.back }
+  pub sits_numbered : (over : Bool) (me : Seat) (i k : ℕ) → Has me.0.drawn i → Sits fresh plan n over me → Sits fresh plan n over (with_number me.0 i k, me.1)
+  sits_numbered over me i k has s = record {
+    planned = s.planned;
+    part = s.part;
+    going = s.going;
+    ended = s.ended;
+    good = s.good;
+    owes = s.owes;
+    once = s.once;
+    back = s.back;
+    named = λ j a. ⊎_elim (λ (e : j ≡ i). subst (Has me.0.drawn) (sym e) has) (λ (b : Has (firsts me.0.numbered) j). s.named j b) a;
+  }
 
   -- where the first slot went home
   pub sits_returned : (over : Bool) (me : Seat) (i : ℕ) (t : Option T) → Sits fresh plan n over me → me.1 ≡ (i, t) ∷ rest me.1 → Sits fresh plan n over (with_returned me.0 i, rest me.1)
@@ -93,4 +107,10 @@ module _ {T P : Type 0} (fresh : P → ℕ → T → Type 0) (plan : P) (n : ℕ
         (r.0, r.1, λ a. ⊎_elim (λ (e : j ≡ i). o.0 u (subst (λ (k : ℕ). Holds cs k u) e h)) (λ (b : Has me.0.returned j). r.2 b) a));
     once = o.1;
     back = λ j a. ⊎_elim (λ (e : j ≡ i). subst (Has me.0.drawn) (sym e) mine.1) (λ (b : Has me.0.returned j). s.back j b) a;
+    named = s.named;
   }
+
+-- each draw of an item leaves fewer
+pub fewer : (n m : ℕ) (ms : List ℕ) → AllBelow ms m → m < n → left_below n (m ∷ ms) < left_below n ms
+fewer n m [] above low = omega arith
+fewer n m (k ∷ ms) above low = let a = above k (inl refl) in omega arith

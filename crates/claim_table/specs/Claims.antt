@@ -1,10 +1,11 @@
 -- A round and its claims, as callers see them.
-use Rattle.std.specs.Prelude.{◌≡◌, ◌≢◌, ℕ, ◌<◌, ◌≤◌, ◌↔◌, Bool, true, false, List, [], ◌∷◌, Option, Some, None}
+use Rattle.std.specs.Prelude.{◌≡◌, ◌≢◌, ℕ, suc, ◌-◌, ◌<◌, ◌≤◌, ◌↔◌, Bool, true, false, List, [], ◌∷◌, Option, Some, None}
 use Rattle.atomic_table.specs.Table.{Me}
 use Rattle.claim_table.specs.declared.plays.View.{View}
 use Rattle.claim_table.specs.declared.table.Round.{Round}
 use Rattle.claim_table.specs.declared.table.Claim.{Claim}
 use Rattle.claim_table.specs.Sums.{weigh, past, Has}
+use Rattle.claim_table.specs.Rule.{firsts}
 use Rattle.claim_table.specs.Held.{Holds, Once}
 
 -- the number that was drawn last isn't below n
@@ -12,7 +13,12 @@ abbrev pub EndsPast : List ℕ → ℕ → Type 0
 EndsPast [] n = ⊥
 EndsPast (m ∷ ms) n = n ≤ m
 
--- what a claim's seat knows: the plan; that it stands for one claim; whether it drew a number that isn't below n; that the value of an item that waits with it is fresh; that what it holds it drew and has not returned, each slot once; that what it returned it drew
+-- how many numbers below n are above the one that was drawn last
+abbrev pub left_below : ℕ → List ℕ → ℕ
+left_below n [] = n
+left_below n (m ∷ ms) = n - suc m
+
+-- what a claim's seat knows: the plan; that it stands for one claim; whether it drew a number that isn't below n; that the value of an item that waits with it is fresh; that what it holds it drew and has not returned, each slot once; that what it returned and numbered it drew
 pub record Sits {T P : Type 0} (fresh : P → ℕ → T → Type 0) (plan : P) (n : ℕ) (over : Bool) (me : Me (Option T) (View P)) : Type 0 where
   pub planned : me.0.plan ≡ Some plan
   pub part : me.0.parts ≡ 1
@@ -22,6 +28,7 @@ pub record Sits {T P : Type 0} (fresh : P → ℕ → T → Type 0) (plan : P) (
   pub owes : (i : ℕ) (s : Option T) → Holds me.1 i s → (i < n) × Has me.0.drawn i × ¬ Has me.0.returned i
   pub once : Once me.1
   pub back : (i : ℕ) → Has me.0.returned i → Has me.0.drawn i
+  pub named : (i : ℕ) → Has (firsts me.0.numbered) i → Has me.0.drawn i
 
 module _ {T P : Type 0} where
   -- how many items the round has
@@ -58,6 +65,14 @@ module _ {T P : Type 0} where
   -- the claim drew the item and has not given it back
   abbrev pub IsOwed : Claim T P → ℕ → Type 0
   IsOwed c i = (s : Option T) × Holds c.seat.me.1 i s
+
+  -- the claim has drawn no number for the item
+  abbrev pub HasNoNumber : Claim T P → ℕ → Type 0
+  HasNoNumber c i = ¬ Has (firsts (numbers_of c)) i
+
+  -- how many items the claim can still draw, at most
+  abbrev pub items_left : Round T P → Claim T P → ℕ
+  items_left r c = left_below (count_of r) (drawn_by c)
 
   -- each item is with d as it is with c
   abbrev pub SameItems : Claim T P → Claim T P → Type 0

@@ -12,3 +12,6 @@ mod table;
 pub use item::Item;
 pub use opening::Opened;
 pub use table::{Claim, Round};
+
+#[cfg(test)]
+mod tests;

@@ -1,8 +1,8 @@
 //! What a claim does in a round.
 ghost use Rattle.std.specs.Prelude.{◌≡◌, ℕ, ◌<◌, ◌↔◌, ◌∷◌, IfSome, MatchOption};
-ghost use Rattle.claim_table.specs.Sums.{AllBelow, Has};
-ghost use Rattle.claim_table.specs.Rule.{Says, firsts};
-ghost use Rattle.claim_table.specs.Claims.{IsClaimOf, HasEnded, IsWaiting, IsTaken, IsOwed, SameItems, SameBut, count_of, plan_of, drawn_by, returned_by, numbers_of};
+ghost use Rattle.claim_table.specs.Sums.{AllBelow};
+ghost use Rattle.claim_table.specs.Rule.{Says};
+ghost use Rattle.claim_table.specs.Claims.{IsClaimOf, HasEnded, IsWaiting, IsTaken, IsOwed, HasNoNumber, SameItems, SameBut, count_of, items_left, plan_of, drawn_by, returned_by, numbers_of};
 
 use crate::bring::bring;
 use crate::item::Item;
@@ -24,7 +24,8 @@ impl<T: Item> Round<T> {
         ensures drawn { ¬ HasEnded self.now claim.old → (n : ℕ) × (drawn_by claim.new ≡ n ∷ drawn_by claim.old) × AllBelow (drawn_by claim.old) n }
         ensures ended { HasEnded self.now claim.old → drawn_by claim.new ≡ drawn_by claim.old }
         ensures none { (result ≡ None) ↔ HasEnded self.now claim.new }
-        ensures some { IfSome result (λ i. (drawn_by claim.new ≡ i ∷ drawn_by claim.old) × (i < count_of self.now) × IsWaiting claim.new i) }
+        ensures some { IfSome result (λ i. (drawn_by claim.new ≡ i ∷ drawn_by claim.old) × (i < count_of self.now) × IsWaiting claim.new i × HasNoNumber claim.new i) }
+        ensures fewer { IfSome result (λ _. items_left self.now claim.new < items_left self.now claim.old) }
 
         ensures items { MatchOption result (SameItems claim.old claim.new) (λ i. SameBut i claim.old claim.new) }
         ensures returned { returned_by claim.new ≡ returned_by claim.old }
@@ -70,7 +71,7 @@ impl<T: Item> Round<T> {
     pub fn commit_number(&self, claim: &mut Claim<T>, item: u32) -> u32
         requires claim { IsClaimOf T.fresh self.now claim.old }
         requires owed { IsOwed claim.old item }
-        requires first { ¬ Has (firsts (numbers_of claim.old)) item }
+        requires first { HasNoNumber claim.old item }
         ensures claim { IsClaimOf T.fresh self.now claim.new }
         ensures numbers { numbers_of claim.new ≡ (item, result) ∷ numbers_of claim.old }
         ensures below { result < count_of self.now }

@@ -28,8 +28,9 @@ overflow_cast-result g c = let a = c.fetch_add-number.ensures.2.2 in let b = c.a
 
 pub returns-clause-claim : goal.returns-clause-claim
 returns-clause-claim g c = let S = λ (m : Me (Option g.row.T.Denot) (View g.row.T-Plan.Denot)). Sits g.T.Item.fresh c.args.self.now.table.shared.key.plan.value c.args.self.now.table.shared.table_id.slots c.args.claim.now.over m in
-    let b = c.bring.new.seat.me in (c.fetch_add-number.ensures.0 ∙ c.bring.ensures.0 ∙ c.requires.claim.0,
-    subst S (λ k. (sym c.fetch_add-number.ensures.2.0 k, sym c.fetch_add-number.ensures.2.1 k)) (sits_numbered _ _ _ _ b _ _ (subst S (sym c.bring.ensures.2) (sits_brought _ _ _ _ c.args.claim.now.seat.me c.args.item c.requires.claim.1))))
+    let b = c.bring.new.seat.me in let w = c.requires.owed in let s = c.requires.claim.1 in let f : front b.1 ≡ c.args.item = ap front (now_front _ _ _ _ (λ k. (c.bring.ensures.2 k).1) s.once w.1) in
+    let has : Has b.0.drawn (front b.1) = subst (λ (z : View g.row.T-Plan.Denot × ℕ). Has z.0.drawn z.1) (λ k. ((sym c.bring.ensures.2 k).0, sym f k)) (s.owes c.args.item w.0 w.1).1 in (c.fetch_add-number.ensures.0 ∙ c.bring.ensures.0 ∙ c.requires.claim.0,
+    subst S (λ k. (sym c.fetch_add-number.ensures.2.0 k, sym c.fetch_add-number.ensures.2.1 k)) (sits_numbered _ _ _ _ b _ _ has (subst S (sym c.bring.ensures.2) (sits_brought _ _ _ _ c.args.claim.now.seat.me c.args.item c.requires.claim.1))))
 
 pub returns-clause-numbers : goal.returns-clause-numbers
 returns-clause-numbers g c = let w = c.requires.owed in let s = c.requires.claim.1 in let b = c.bring.new.seat.me in
