@@ -1,31 +1,15 @@
-ghost use Rattle.std.specs.Prelude.{◌≡◌, ℕ, ◌+◌, ◌<◌, ◌≤◌, true, [], Some, IfOk, IfSome, slice_get, vec_len};
+ghost use Rattle.std.specs.Prelude.{◌≡◌, ℕ, ◌+◌, ◌^◌, ◌<◌, Some, IfOk, IfSome, slice_get, vec_len};
+ghost use Rattle.claim_table.specs.declared.tests.parcel.Parcel.{Parcel};
 ghost use Rattle.claim_table.specs.Claims.{IsClaimOf, IsNew, HasGivenBack, HasEnded};
 
+mod parcel;
+
 use crate::{Claim, Item, Opened, Round};
+use parcel::Parcel;
 use std::alloc::{AllocError, Global};
 use std::test::*;
 use std::thread;
 use std::thread::Threads;
-
-// A parcel to be sealed. The labels count up from the plan's number.
-#[derive(Drop)]
-struct Parcel {
-    label: u32,
-    number: u32,
-    sealed: bool,
-}
-
-impl Item for Parcel {
-    type Plan = u32;
-
-    ghost use Rattle.std.specs.Prelude.{◌≡◌, ◌+◌, true};
-
-    ghost fresh = { λ first i x. x.label ≡ first + i };
-
-    ghost done = { λ first i x. (x.label ≡ first + i) × (x.sealed ≡ true) };
-
-    ghost number = { λ x. x.number };
-}
 
 // Seals parcels until there are no more.
 fn seal(round: &Round<Parcel>, mut claim: Claim<Parcel>) -> Claim<Parcel>
@@ -42,4 +26,45 @@ fn seal(round: &Round<Parcel>, mut claim: Claim<Parcel>) -> Claim<Parcel>
         round.give_back(&mut claim, place, parcel);
     }
     claim
+}
+
+// Two threads seal parcels.
+fn both<R: Threads + Sync>(
+    rt: &R,
+    round: &Round<Parcel>,
+    one: Claim<Parcel>,
+    other: Claim<Parcel>,
+) -> (Claim<Parcel>, Claim<Parcel>)
+    requires one { IsClaimOf ⟦<Parcel as Item>⟧.fresh round.now one × HasGivenBack round.now one }
+    requires other { IsClaimOf ⟦<Parcel as Item>⟧.fresh round.now other × HasGivenBack round.now other }
+    ensures one { IsClaimOf ⟦<Parcel as Item>⟧.fresh round.now result.0 × HasGivenBack round.now result.0 × HasEnded round.now result.0 }
+    ensures other { IsClaimOf ⟦<Parcel as Item>⟧.fresh round.now result.1 × HasGivenBack round.now result.1 × HasEnded round.now result.1 }
+{
+    thread::join(
+        rt,
+        move || -> Claim<Parcel>
+            requires { IsClaimOf (λ (first i : ℕ) (x : Parcel). x.label ≡ first + i) round.now one × HasGivenBack round.now one }
+            ensures { IsClaimOf (λ (first i : ℕ) (x : Parcel). x.label ≡ first + i) round.entry.now result × HasGivenBack round.entry.now result × HasEnded round.entry.now result }
+        { seal(round, one) },
+        move || -> Claim<Parcel>
+            requires { IsClaimOf (λ (first i : ℕ) (x : Parcel). x.label ≡ first + i) round.now other × HasGivenBack round.now other }
+            ensures { IsClaimOf (λ (first i : ℕ) (x : Parcel). x.label ≡ first + i) round.entry.now result × HasGivenBack round.entry.now result × HasEnded round.entry.now result }
+        { seal(round, other) },
+    )
+}
+
+fn parcels(alloc: Global, first: u32, count: u32) -> Result<Vec<Parcel>, AllocError>
+    requires { first + count < 2 ^ 32 }
+    ensures count { IfOk result (λ all. vec_len all ≡ count) }
+    ensures labels { IfOk result (λ all. (i : ℕ) (x : Parcel) → slice_get all.items i ≡ Some x → x.label ≡ first + i) }
+{
+    let mut all = Vec::new(alloc);
+    for place in 0..count {
+        all.push(Parcel {
+            label: first + place,
+            number: 0,
+            sealed: false,
+        })?;
+    }
+    Ok(all)
 }

@@ -1,5 +1,5 @@
 use Rattle.std.proofs.Common.{◌≡◌, ℕ, ◌+◌}
-use Rattle.claim_table.specs.declared.tests.Parcel.{Parcel}
+use Rattle.claim_table.specs.declared.tests.parcel.Parcel.{Parcel}
 use Rattle.claim_table.specs.Claims.{IsClaimOf, HasGivenBack, items_left}
 use Rattle.claim_table.proofs.tests.seal.Given as goal
 
