@@ -8,9 +8,10 @@ use Rattle.atomic_table.specs.Table.{State, Me, opening}
 use Rattle.claim_table.specs.declared.plays.View.{View}
 use Rattle.claim_table.specs.Sums.{weigh, below, total, past, Has}
 use Rattle.claim_table.specs.Rule.{firsts, AtHome, Standing, Kept, opened}
+use Rattle.claim_table.specs.declared.table.Round.{Round}
 use Rattle.claim_table.specs.declared.table.Claim.{Claim}
 use Rattle.claim_table.specs.Held.{Holds}
-use Rattle.claim_table.specs.Claims.{Sits, IsNew}
+use Rattle.claim_table.specs.Claims.{Sits, IsNew, HasGivenBack}
 use Rattle.claim_table.proofs.Stands.{Stands, Keeps}
 use Rattle.claim_table.proofs.Parting.{bare}
 
@@ -56,3 +57,7 @@ module _ {T P : Type 0} (plan : P) where
   pub is_new : (c : Claim T P) (k : ℕ) → c.seat.me ≡ (opened plan k, []) → IsNew c
   is_new c k is = (ap (λ (m : Me (Option T) (View P)). m.0.drawn) is, ap (λ (m : Me (Option T) (View P)). m.0.returned) is, ap (λ (m : Me (Option T) (View P)). m.0.numbered) is,
       λ i owed. (let h : Holds [] i owed.0 = subst (λ (l : List (ℕ × Option T)). Holds l i owed.0) (λ j. (is j).1) owed.1 in elim h [ ]))
+
+-- a claim that has done nothing has given back all that it drew
+pub new_returned : {T P : Type 0} (r : Round T P) (c : Claim T P) → IsNew c → HasGivenBack r c
+new_returned r c new i has low = let a : Has [] i = subst (λ (l : List ℕ). Has l i) new.0 has in elim a [ ]

@@ -68,3 +68,30 @@ fn parcels(alloc: Global, first: u32, count: u32) -> Result<Vec<Parcel>, AllocEr
     }
     Ok(all)
 }
+
+#[test]
+fn two_threads_seal_each_parcel_once(rt: HostRuntime) -> Result<(), Fail> {
+    let items = parcels(rt.alloc(), 10, 100)?;
+    let Opened { round, mut claims } = Round::new(rt.alloc(), items, 2, &10)?;
+    let Some(other) = claims.pop() else {
+        unreachable!()
+    };
+    let Some(one) = claims.pop() else {
+        unreachable!()
+    };
+    let (one, other) = both(&rt, &round, one, other);
+    claims.push(one)?;
+    claims.push(other)?;
+    let sealed = round.close(rt.alloc(), claims)?;
+    let mut numbers = Vec::new(rt.alloc());
+    for (place, parcel) in sealed.iter().enumerate() {
+        assert!(rt; parcel.label as usize == place + 10 && parcel.sealed);
+        numbers.push(parcel.number as usize)?;
+    }
+    numbers.sort()?;
+    for (place, number) in numbers.iter().enumerate() {
+        assert_eq!(rt; *number, place);
+    }
+    assert_eq!(rt; numbers.len(), 100);
+    Ok(())
+}
