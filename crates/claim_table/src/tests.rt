@@ -95,3 +95,69 @@ fn two_threads_seal_each_parcel_once(rt: HostRuntime) -> Result<(), Fail> {
     assert_eq!(rt; numbers.len(), 100);
     Ok(())
 }
+
+// Draws two parcels, and takes and numbers them in another order than it gives them back.
+fn seal_two(round: &Round<Parcel>, mut claim: Claim<Parcel>) -> Option<Claim<Parcel>>
+    requires claim { IsClaimOf ⟦<Parcel as Item>⟧.fresh round.now claim }
+    requires returned { HasGivenBack round.now claim }
+    ensures claim { IfSome result (IsClaimOf ⟦<Parcel as Item>⟧.fresh round.now) }
+    ensures returned { IfSome result (HasGivenBack round.now) }
+{
+    let first = round.draw(&mut claim)?;
+    let second = round.draw(&mut claim)?;
+    let mut later = round.take(&mut claim, second);
+    let mut earlier = round.take(&mut claim, first);
+    later.number = round.commit_number(&mut claim, second);
+    earlier.number = round.commit_number(&mut claim, first);
+    later.sealed = true;
+    earlier.sealed = true;
+    round.give_back(&mut claim, first, earlier);
+    round.give_back(&mut claim, second, later);
+    Some(claim)
+}
+
+// One claim seals four parcels, two at a time.
+fn seal_pairs(round: &Round<Parcel>, claim: Claim<Parcel>) -> Option<Claim<Parcel>>
+    requires claim { IsClaimOf ⟦<Parcel as Item>⟧.fresh round.now claim }
+    requires returned { HasGivenBack round.now claim }
+    ensures claim { IfSome result (IsClaimOf ⟦<Parcel as Item>⟧.fresh round.now) }
+    ensures returned { IfSome result (HasGivenBack round.now) }
+    ensures ended { IfSome result (HasEnded round.now) }
+{
+    let claim = seal_two(round, claim)?;
+    let claim = seal_two(round, claim)?;
+    Some(seal(round, claim))
+}
+
+#[test]
+fn a_claim_may_hold_several_parcels(rt: HostRuntime) -> Result<(), Fail> {
+    let items = parcels(rt.alloc(), 0, 4)?;
+    let Opened { round, mut claims } = Round::new(rt.alloc(), items, 1, &0)?;
+    let Some(claim) = claims.pop() else {
+        unreachable!()
+    };
+    let Some(claim) = seal_pairs(&round, claim) else {
+        panic!(rt; "a parcel was not drawn")
+    };
+    claims.push(claim)?;
+    let sealed = round.close(rt.alloc(), claims)?;
+    let numbers: Vec<u32> = sealed
+        .iter()
+        .map(|parcel| parcel.number)
+        .collect(rt.alloc())?;
+    assert_eq!(rt; numbers.as_slice(), [1, 0, 3, 2].as_slice());
+    Ok(())
+}
+
+#[test]
+fn a_round_of_no_items_ends(rt: HostRuntime) -> Result<(), Fail> {
+    let items = parcels(rt.alloc(), 0, 0)?;
+    let Opened { round, mut claims } = Round::new(rt.alloc(), items, 1, &0)?;
+    let Some(claim) = claims.pop() else {
+        unreachable!()
+    };
+    claims.push(seal(&round, claim))?;
+    let sealed = round.close(rt.alloc(), claims)?;
+    assert!(rt; sealed.is_empty());
+    Ok(())
+}
