@@ -1,18 +1,18 @@
 -- A new round keeps the rule, and its claims know nothing yet.
-use Rattle.std.proofs.Common.{◌≡◌, ℕ, zero, suc, ◌+◌, ◌^◌, ◌<◌, ◌≤◌, Bool, true, false, List, [], ◌∷◌, map, length, get_or, sym, refl, ap, ◌∙◌, subst, inl, inr, arith}
+use Rattle.std.proofs.Common.{◌≡◌, ℕ, zero, suc, ◌+◌, ◌^◌, ◌<◌, false, List, [], ◌∷◌, map, length, sym, refl, ap, ◌∙◌, subst, arith}
 use Rattle.std.proofs.lemmas.List.{length-map}
-use mathlib.Core.Option.{some, none, some-injective, some-ne-none}
+use mathlib.Core.Option.{some, some-injective, some-ne-none}
 use lib.ListN.{get_elem?}
-use Rattle.std.specs.Prelude.{Option, Some, None, slice_get}
-use Rattle.atomic_table.specs.Table.{State, Me, opening}
+use Rattle.std.specs.Prelude.{Option, Some, slice_get}
+use Rattle.atomic_table.specs.Table.{Me, opening}
 use Rattle.claim_table.specs.declared.plays.View.{View}
-use Rattle.claim_table.specs.Sums.{weigh, below, total, past, Has}
-use Rattle.claim_table.specs.Rule.{firsts, AtHome, Standing, Kept, opened}
+use Rattle.claim_table.specs.Sums.{Has}
+use Rattle.claim_table.specs.Rule.{AtHome, Kept, opened}
 use Rattle.claim_table.specs.declared.table.Round.{Round}
 use Rattle.claim_table.specs.declared.table.Claim.{Claim}
 use Rattle.claim_table.specs.Held.{Holds}
 use Rattle.claim_table.specs.Claims.{Sits, IsNew, HasGivenBack}
-use Rattle.claim_table.proofs.Stands.{Stands, Keeps}
+use Rattle.claim_table.proofs.Stands.{Stands}
 use Rattle.claim_table.proofs.Parting.{bare}
 
 -- the item at a place of the list is at home there
@@ -55,8 +55,12 @@ module _ {T P : Type 0} (fresh : P → ℕ → T → Type 0) (plan : P) where
 
 module _ {T P : Type 0} (plan : P) where
   pub is_new : (c : Claim T P) (k : ℕ) → c.seat.me ≡ (opened plan k, []) → IsNew c
-  is_new c k is = (ap (λ (m : Me (Option T) (View P)). m.0.drawn) is, ap (λ (m : Me (Option T) (View P)). m.0.returned) is, ap (λ (m : Me (Option T) (View P)). m.0.numbered) is,
-      λ i owed. (let h : Holds [] i owed.0 = subst (λ (l : List (ℕ × Option T)). Holds l i owed.0) (λ j. (is j).1) owed.1 in elim h [ ]))
+  is_new c k is = (
+    ap (λ (m : Me (Option T) (View P)). m.0.drawn) is,
+    ap (λ (m : Me (Option T) (View P)). m.0.returned) is,
+    ap (λ (m : Me (Option T) (View P)). m.0.numbered) is,
+    λ i owed. (let h : Holds [] i owed.0 = subst (λ (l : List (ℕ × Option T)). Holds l i owed.0) (λ j. (is j).1) owed.1 in elim h [ ]),
+  )
 
 -- a claim that has done nothing has given back all that it drew
 pub new_returned : {T P : Type 0} (r : Round T P) (c : Claim T P) → IsNew c → HasGivenBack r c

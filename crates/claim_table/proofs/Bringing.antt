@@ -1,11 +1,10 @@
 -- What a seat owns in one order of its slots it owns in another.
-use Rattle.atomic_table.proofs.Names.{◌≡◌, ℕ, ◌<◌, List, [], ◌∷◌, ent, sem, ‵, ◌$◌, ◌∵◌, !, qed, by, move, fsplit3, fjoin3, done, use1, Fml, RattleType, fact, Coded, id⊢}
+use Rattle.atomic_table.proofs.Names.{ℕ, ◌<◌, List, [], ◌∷◌, ent, sem, ‵, ◌$◌, ◌∵◌, !, qed, by, move, fsplit3, fjoin3, done, use1, Fml, RattleType, Coded, id⊢}
 use Rattle.std.proofs.Common.{Bool, true, false, eqb, cond}
 use seplogic.Ra.Ura.{Ura}
 use types.Logic.{Logic}
 use types.Kit.{frame}
 use base.Share.{three_quarters}
-use Rattle.atomic_table.specs.Table.{Me}
 use Rattle.atomic_table.specs.Seated as seated
 use Rattle.atomic_table.specs.Seated.{TableId, age, place, names, tracked, carried, mine, seen}
 use Rattle.claim_table.specs.Held.{behind, brought}

@@ -1,18 +1,18 @@
 -- What the table holds once one view stands for all claims, each item is back, and each claim passed the end.
-use Rattle.std.proofs.Common.{◌≡◌, ◌≢◌, ℕ, zero, suc, ◌+◌, ◌<◌, ◌≤◌, List, [], ◌∷◌, map, length, get_or, sym, refl, ap, ◌∙◌, subst, inl, inr, ⊎_elim, arith}
+use Rattle.std.proofs.Common.{◌≡◌, ◌≢◌, ℕ, zero, suc, ◌<◌, ◌≤◌, List, [], ◌∷◌, map, length, get_or, sym, refl, ap, ◌∙◌, subst, inl, inr, ⊎_elim, arith}
 use Rattle.std.proofs.lemmas.List.{length-map}
-use mathlib.Core.Option.{some, some-injective, some-ne-none}
+use mathlib.Core.Option.{some, some-injective}
 use native.Mathlib.Decide.{dec_le}
 use lib.ListN.{get_elem?}
-use Rattle.std.specs.Prelude.{Option, Some, None, slice_get}
+use Rattle.std.specs.Prelude.{Option, Some, slice_get}
 use Rattle.atomic_table.specs.Table.{State, Final, Seen}
 use Rattle.claim_table.specs.declared.plays.View.{View}
 use Rattle.claim_table.specs.Sums.{weigh, below, total, same, past, Has}
 use Rattle.claim_table.specs.declared.table.Claim.{Claim}
-use Rattle.claim_table.specs.Rule.{firsts, seconds, Says, AtHome, Standing, Kept}
+use Rattle.claim_table.specs.Rule.{firsts, seconds, Says}
 use Rattle.claim_table.specs.Claims.{drawn_by}
 use Rattle.claim_table.specs.Gathering.{Gathers}
-use Rattle.claim_table.proofs.Sums.{has_weight, has_of_weight, same_at, below_same_in, below_same_out, below_one, below_ext, past_in, weigh_places, covers, cut, weigh_cut, below_cut}
+use Rattle.claim_table.proofs.Sums.{has_weight, has_of_weight, same_at, below_same_in, below_one, past_in, weigh_places, covers, cut, weigh_cut, below_cut}
 use Rattle.claim_table.proofs.Totals.{total_two, total_alone}
 use Rattle.claim_table.proofs.Stands.{some_is, Keeps, drawn_below}
 
@@ -92,7 +92,7 @@ module _ {T P : Type 0} (fresh done : P → ℕ → T → Type 0) (number : T �
       counted : (num : ℕ → ℕ) → ((i : ℕ) → i < length s.homes → Says v.numbered i (num i)) → (h : ℕ → ℕ) → below h (get_or s.words 1 0) ≡ below (λ i. h (num i)) (length s.homes)
       counted num each h = let n : ℕ = length s.homes in let w : ℕ = get_or s.words 0 0 in let ps : List (ℕ × ℕ) = v.numbered in let mine = kept.each id v at in let g : ℕ → ℕ = λ i. h (num i) in
           let inside : (i k : ℕ) → Says ps i k → i < n = λ i k d. (let a = has_weight (past n) (firsts ps) i (says_has ps i k d) in let z = mine.inner in
-              elim (dec_le n i) [ yes le ↦ (let p = past_in n i le in absurd (omega arith)) | no gt ↦ omega arith ]) in
+          elim (dec_le n i) [ yes le ↦ (let p = past_in n i le in absurd (omega arith)) | no gt ↦ omega arith ]) in
           let once : (i : ℕ) → i < n → weigh (same i) (firsts ps) ≤ 1 = λ i low. (let a = mine.numbered (same i) in let b = drew (same i) in let c = below_same_in i w (omega arith) in omega arith) in
           let pairs = weigh_pairs h num ps (λ i k d. says_one ps i k (num i) (once i (inside i k d)) d (each i (inside i k d))) in
           let least = covers g n (firsts ps) (λ i low. says_has ps i (num i) (each i low)) in
@@ -113,12 +113,12 @@ module _ {T P : Type 0} (fresh done : P → ℕ → T → Type 0) (number : T �
       let w : ℕ = get_or s.words 0 0 in let over : g.past.0 < w = drawn_below fresh done number plan claims s kept id v g.past.0 at g.past.1 in let past_n = g.past.2 in let end : length s.homes < w = omega arith in
       let G = λ (i : ℕ) (x : T). done plan i x × Says v.numbered i (number x) in
       let back = λ (i : ℕ) (low : i < length slots). (let r = ((kept.each id v at).home i (g.back i (drew_each s kept id v at all end i (let a : i < length s.homes = omega arith in a)) (let b : i < n = omega arith in b))).1 in
-          let there : (x : T) × (get_elem? slots i ≡ some (Some x)) × G i x = (r.0, f.4 i (Some r.0) r.1, (r.2, r.3)) in there) in
+      let there : (x : T) × (get_elem? slots i ≡ some (Some x)) × G i x = (r.0, f.4 i (Some r.0) r.1, (r.2, r.3)) in there) in
       let ys = gather G slots back in let len : length ys.0 ≡ n = sym (ap length ys.1 ∙ length-map ys.0 Some) ∙ long in record {
-    values = ys.0;
-    are = ys.1;
-    long = len;
-    well = λ i x e. (ys.2 i x e).0;
-    numbers = λ h. numbers_are s kept id v at all end ys.0 (len ∙ sym size) (λ i x e. (ys.2 i x e).1) h ∙ ap (below h) size;
-    drawn = (w, (let a : n < w = omega arith in a), λ h. sym (g.drawn h) ∙ drew s kept id v at all h);
-  }
+        values = ys.0;
+        are = ys.1;
+        long = len;
+        well = λ i x e. (ys.2 i x e).0;
+        numbers = λ h. numbers_are s kept id v at all end ys.0 (len ∙ sym size) (λ i x e. (ys.2 i x e).1) h ∙ ap (below h) size;
+        drawn = (w, (let a : n < w = omega arith in a), λ h. sym (g.drawn h) ∙ drew s kept id v at all h);
+      }

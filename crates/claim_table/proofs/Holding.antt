@@ -1,7 +1,5 @@
 -- The slots that a seat holds, in another order.
 use Rattle.std.proofs.Common.{◌≡◌, ◌≢◌, ◌↔◌, ℕ, Bool, true, false, cond, eqb, eq-eqb, ne_eqb, List, [], ◌∷◌, sym, refl, ap, ◌∙◌, subst, inl, inr, ⊎_elim}
-use mathlib.Core.Logic.{dite}
-use native.Mathlib.Decide.{ℕ_discrete}
 use Rattle.atomic_table.specs.Table.{rest}
 use Rattle.claim_table.specs.Held.{Holds, Once, behind, brought}
 
@@ -47,7 +45,7 @@ module _ {S : Type 0} where
   found i s (x ∷ xs) o h = ⊎_elim
       (λ (e : (i ≡ x.0) × (s ≡ x.1)). (xs, ap (λ (b : Bool). cond b (x ∷ xs) (behind x (brought i xs))) (eq-eqb x.0 i (sym e.0)) ∙ (λ k. (sym e.0 k, sym e.1 k) ∷ xs)))
       (λ (d : Holds xs i s). let r = found i s xs o.1 d in let ne : x.0 ≢ i = λ e. o.0 s (subst (λ (j : ℕ). Holds xs j s) (sym e) d) in
-          (x ∷ r.0, ap (λ (b : Bool). cond b (x ∷ xs) (behind x (brought i xs))) (ne_eqb x.0 i ne) ∙ ap (behind x) r.1)) h
+      (x ∷ r.0, ap (λ (b : Bool). cond b (x ∷ xs) (behind x (brought i xs))) (ne_eqb x.0 i ne) ∙ ap (behind x) r.1)) h
 
   pub brought_front : (i : ℕ) (s : S) (xs : List (ℕ × S)) → Once xs → Holds xs i s → brought i xs ≡ (i, s) ∷ rest (brought i xs)
   brought_front i s xs o h = let r = found i s xs o h in r.1 ∙ (λ k. (i, s) ∷ rest (sym r.1 k))

@@ -1,13 +1,13 @@
 -- A number for an item keeps the rule.
-use Rattle.std.proofs.Common.{◌≡◌, ◌≢◌, ℕ, zero, suc, ◌+◌, ◌%◌, ◌^◌, ◌<◌, ◌≤◌, List, [], ◌∷◌, length, get_or, set, sym, refl, ap, ◌∙◌, subst, inl, inr, arith, length-set, get_or-set_other, get_or-set_same}
+use Rattle.std.proofs.Common.{◌≡◌, ℕ, suc, ◌+◌, ◌%◌, ◌^◌, ◌<◌, ◌≤◌, List, length, get_or, set, sym, refl, ap, ◌∙◌, subst, inr, arith, length-set, get_or-set_other, get_or-set_same}
 use mathlib.Core.Option.{some, none}
 use Rattle.std.proofs.Math.Nat.{mod-eq_of_lt}
 use lib.ListN.{get_elem?}
-use Rattle.std.specs.Prelude.{Option, Some, None}
+use Rattle.std.specs.Prelude.{Option}
 use Rattle.atomic_table.specs.Table.{State, Me, step, keeps, Allows}
 use Rattle.claim_table.specs.declared.plays.View.{View}
 use Rattle.claim_table.specs.Sums.{weigh, below, total, past, Has}
-use Rattle.claim_table.specs.Rule.{firsts, seconds, Standing, Kept, with_number}
+use Rattle.claim_table.specs.Rule.{firsts, seconds, with_number}
 use Rattle.claim_table.specs.Steps.{Numbered, front}
 use Rattle.claim_table.proofs.Sums.{inside, except, except_none, except_has, past_out, below_inside, weigh_inside_past, as_many, below_one}
 use Rattle.claim_table.proofs.Totals.{total_le, total_set}
@@ -42,7 +42,7 @@ module _ {T P : Type 0} (fresh done : P → ℕ → T → Type 0) (number : T �
   bounded s kept id v w at same more mine = let n : ℕ = length s.homes in let views : List (View P) = set s.views id w in
       let one = λ (u : View P). weigh (λ _. 1) (seconds u.numbered) in let in' = λ (u : View P). weigh (inside n) u.drawn in
       let a : total one views ≤ total in' views = total_le one in' views (all_set fresh done number plan claims (λ (u : View P). weigh (λ _. 1) (seconds u.numbered) ≤ weigh (inside n) u.drawn) s.views id w
-          (counted n w s.homes refl mine) (λ j u ne e. counted n u s.homes refl (kept.each j u e))) in
+      (counted n w s.homes refl mine) (λ j u ne e. counted n u s.homes refl (kept.each j u e))) in
       let b = total_set one s.views id v w at in let c = total_set in' s.views id v w at in let d = kept.numbers (λ _. 1) in let e = kept.drawn (inside n) in let f = below_one (get_or s.words 1 0) in let g = (below_inside n (get_or s.words 0 0)).1 in
       let q : weigh (inside n) w.drawn ≡ weigh (inside n) v.drawn = ap (weigh (inside n)) same in omega arith
 
@@ -52,15 +52,15 @@ module _ {T P : Type 0} (fresh done : P → ℕ → T → Type 0) (number : T �
       let w : View P = with_number v i k in
       let w0 : get_or (set s.words 1 (suc k)) 0 0 ≡ get_or s.words 0 0 = get_or-set_other s.words 1 0 (suc k) 0 (λ e. omega arith) in
       let w1 : get_or (set s.words 1 (suc k)) 1 0 ≡ suc k = get_or-set_same s.words 1 (suc k) 0 (omega (arith, kept.wide)) in record {
-    wide = length-set s.words 1 (suc k) ∙ kept.wide;
-    small = kept.small;
-    drawn = λ h. rw w0 (let d = kept.drawn h in let t = total_set (λ (u : View P). weigh h u.drawn) s.views id v w at in omega arith);
-    numbers = λ h. rw w1 (let d = kept.numbers h in let e : below h (get_or s.words 1 0) ≡ below h k = ap (below h) (sym is) in
-        let t = total_set (λ (u : View P). weigh h (seconds u.numbered)) s.views id v w at in omega arith);
-    parted = (let d = kept.parted in let t = total_set (λ (u : View P). u.parts) s.views id v w at in omega arith);
-    waits = λ i' from to. kept.waits i' (subst (λ (x : ℕ). x ≤ i') w0 from) to;
-    each = all_set fresh done number plan claims (Stands fresh done number plan claims s.homes) s.views id w mine (λ j u ne e. kept.each j u e);
-  }
+        wide = length-set s.words 1 (suc k) ∙ kept.wide;
+        small = kept.small;
+        drawn = λ h. rw w0 (let d = kept.drawn h in let t = total_set (λ (u : View P). weigh h u.drawn) s.views id v w at in omega arith);
+        numbers = λ h. rw w1 (let d = kept.numbers h in let e : below h (get_or s.words 1 0) ≡ below h k = ap (below h) (sym is) in
+            let t = total_set (λ (u : View P). weigh h (seconds u.numbered)) s.views id v w at in omega arith);
+        parted = (let d = kept.parted in let t = total_set (λ (u : View P). u.parts) s.views id v w at in omega arith);
+        waits = λ i' from to. kept.waits i' (subst (λ (x : ℕ). x ≤ i') w0 from) to;
+        each = all_set fresh done number plan claims (Stands fresh done number plan claims s.homes) s.views id w mine (λ j u ne e. kept.each j u e);
+      }
 
   -- a claim may number an item that it drew, once
   pub numbers : (slots id : ℕ) (me : Me (Option T) (View P)) → 0 < me.0.parts → Has me.0.drawn (front me.1) → front me.1 < slots → ¬ Has (firsts me.0.numbered) (front me.1)

@@ -1,13 +1,13 @@
 -- A claim that is cut off, and claims that are put together, keep the rule.
-use Rattle.std.proofs.Common.{◌≡◌, ◌≢◌, ℕ, zero, suc, ◌+◌, ◌-◌, ◌^◌, ◌<◌, ◌≤◌, ◌⊎◌, List, [], ◌∷◌, ◌++◌, length, get_or, set, sym, refl, ap, ◌∙◌, subst, inl, inr, ⊎_elim, arith}
-use mathlib.Core.Option.{some, none}
+use Rattle.std.proofs.Common.{◌≡◌, ℕ, ◌+◌, ◌<◌, ◌⊎◌, List, [], ◌∷◌, ◌++◌, length, set, sym, refl, ap, ◌∙◌, subst, inl, inr, ⊎_elim, arith}
+use mathlib.Core.Option.{some}
 use lib.ListN.{get_elem?}
-use Rattle.std.specs.Prelude.{Option, Some, None}
+use Rattle.std.specs.Prelude.{Option, Some}
 use Rattle.atomic_table.specs.Table.{State, Splits, Joins}
 use Rattle.atomic_table.proofs.Lists.{at_snoc, set_else}
 use Rattle.claim_table.specs.declared.plays.View.{View}
-use Rattle.claim_table.specs.Sums.{weigh, below, total, past, Has}
-use Rattle.claim_table.specs.Rule.{firsts, seconds, Says, AtHome, Standing, Kept, parent, child, both, spent}
+use Rattle.claim_table.specs.Sums.{weigh, total, past, Has}
+use Rattle.claim_table.specs.Rule.{firsts, seconds, Says, parent, child, both, spent}
 use Rattle.claim_table.proofs.Sums.{weigh-append, firsts-append, seconds-append, has_left, has_right}
 use Rattle.claim_table.proofs.Totals.{total_set, total_snoc}
 use Rattle.claim_table.proofs.Stands.{Stands, Keeps, all_set}
@@ -43,16 +43,16 @@ module _ {T P : Type 0} (fresh done : P → ℕ → T → Type 0) (number : T �
   pub splits : (id : ℕ) (v : View P) → 1 < v.parts → v.drawn ≡ [] → v.returned ≡ [] → v.numbered ≡ [] → Splits K id v (parent v) (child v)
   splits id v two no_draw no_return no_number s kept at = let l : View P = parent v in let r : View P = child v in let vs : List (View P) = set s.views id l in let mine = (kept.each id v at).planned (omega arith) in
       let sum : (f : View P → ℕ) → total f (vs ++ r ∷ []) + f v ≡ total f s.views + f l + f r = λ f. (let a = total_set f s.views id v l at in let b = total_snoc f vs r in omega arith) in record {
-    wide = kept.wide;
-    small = kept.small;
-    drawn = λ h. (let d = kept.drawn h in let t = sum (λ (u : View P). weigh h u.drawn) in omega arith);
-    numbers = λ h. (let d = kept.numbers h in let t = sum (λ (u : View P). weigh h (seconds u.numbered)) in omega arith);
-    parted = (let d = kept.parted in let t = sum (λ (u : View P). u.parts) in omega arith);
-    waits = kept.waits;
-    each = λ j u e. ⊎_elim
-        (λ (a : get_elem? vs j ≡ some u). all_set fresh done number plan claims (Stands fresh done number plan claims s.homes) s.views id l (bare s.homes l no_draw no_return no_number (λ _. mine)) (λ k z ne b. kept.each k z b) j u a)
-        (λ (q : r ≡ u). subst (Stands fresh done number plan claims s.homes) q (bare s.homes r refl refl refl (λ _. mine))) (at_snoc vs r u j e);
-  }
+        wide = kept.wide;
+        small = kept.small;
+        drawn = λ h. (let d = kept.drawn h in let t = sum (λ (u : View P). weigh h u.drawn) in omega arith);
+        numbers = λ h. (let d = kept.numbers h in let t = sum (λ (u : View P). weigh h (seconds u.numbered)) in omega arith);
+        parted = (let d = kept.parted in let t = sum (λ (u : View P). u.parts) in omega arith);
+        waits = kept.waits;
+        each = λ j u e. ⊎_elim
+            (λ (a : get_elem? vs j ≡ some u). all_set fresh done number plan claims (Stands fresh done number plan claims s.homes) s.views id l (bare s.homes l no_draw no_return no_number (λ _. mine)) (λ k z ne b. kept.each k z b) j u a)
+            (λ (q : r ≡ u). subst (Stands fresh done number plan claims s.homes) q (bare s.homes r refl refl refl (λ _. mine))) (at_snoc vs r u j e);
+      }
 
   together : (homes : _) (v w : View P) → 0 < v.parts → Stands fresh done number plan claims homes v → Stands fresh done number plan claims homes w → Stands fresh done number plan claims homes (both v w)
   together homes v w part a b = let n : ℕ = length homes in record {
@@ -72,13 +72,13 @@ module _ {T P : Type 0} (fresh done : P → ℕ → T → Type 0) (number : T �
   pub joins : (id other : ℕ) (v w : View P) → 0 < v.parts → Joins K id v other w (both v w) spent
   joins id other v w part s kept at apart at' = let b : View P = both v w in let e : View P = spent in let vs : List (View P) = set s.views id b in let there = sym (set_else s.views id other b apart) ∙ at' in
       let sum : (f : View P → ℕ) → total f (set vs other e) + f w + f v ≡ total f s.views + f b + f e = λ f. (let x = total_set f s.views id v b at in let y = total_set f vs other w e at' in omega arith) in record {
-    wide = kept.wide;
-    small = kept.small;
-    drawn = λ h. (let d = kept.drawn h in let t = sum (λ (u : View P). weigh h u.drawn) in let q = weigh-append h v.drawn w.drawn in omega arith);
-    numbers = λ h. (let d = kept.numbers h in let t = sum (λ (u : View P). weigh h (seconds u.numbered)) in
-        let q = ap (weigh h) (seconds-append v.numbered w.numbered) ∙ weigh-append h (seconds v.numbered) (seconds w.numbered) in omega arith);
-    parted = (let d = kept.parted in let t = sum (λ (u : View P). u.parts) in omega arith);
-    waits = kept.waits;
-    each = all_set fresh done number plan claims (Stands fresh done number plan claims s.homes) vs other e (bare s.homes e refl refl refl (λ z. absurd (omega arith)))
-        (λ j u ne q. all_set fresh done number plan claims (Stands fresh done number plan claims s.homes) s.views id b (together s.homes v w part (kept.each id v at) (kept.each other w there)) (λ k z no y. kept.each k z y) j u q);
-  }
+        wide = kept.wide;
+        small = kept.small;
+        drawn = λ h. (let d = kept.drawn h in let t = sum (λ (u : View P). weigh h u.drawn) in let q = weigh-append h v.drawn w.drawn in omega arith);
+        numbers = λ h. (let d = kept.numbers h in let t = sum (λ (u : View P). weigh h (seconds u.numbered)) in
+            let q = ap (weigh h) (seconds-append v.numbered w.numbered) ∙ weigh-append h (seconds v.numbered) (seconds w.numbered) in omega arith);
+        parted = (let d = kept.parted in let t = sum (λ (u : View P). u.parts) in omega arith);
+        waits = kept.waits;
+        each = all_set fresh done number plan claims (Stands fresh done number plan claims s.homes) vs other e (bare s.homes e refl refl refl (λ z. absurd (omega arith)))
+            (λ j u ne q. all_set fresh done number plan claims (Stands fresh done number plan claims s.homes) s.views id b (together s.homes v w part (kept.each id v at) (kept.each other w there)) (λ k z no y. kept.each k z y) j u q);
+      }

@@ -1,16 +1,15 @@
 -- What a step leaves of what holds of each view.
-use Rattle.std.proofs.Common.{◌≡◌, ◌≢◌, ℕ, zero, suc, ◌+◌, ◌^◌, ◌<◌, ◌≤◌, ◌⊎◌, List, [], ◌∷◌, ◌++◌, length, get_or, set, sym, refl, ap, ◌∙◌, subst, inl, inr, ⊎_elim, arith}
+use Rattle.std.proofs.Common.{◌≡◌, ◌≢◌, ℕ, ◌+◌, ◌<◌, ◌≤◌, List, length, get_or, set, sym, ◌∙◌, subst, ⊎_elim, arith}
 use mathlib.Core.Option.{some, none}
 use mathlib.Core.Option as maybe
-use mathlib.Core.Logic.{dite}
-use native.Mathlib.Decide.{dec_lt, dec_le, ℕ_discrete}
+use native.Mathlib.Decide.{dec_lt}
 use lib.ListN.{get_elem?}
-use Rattle.std.specs.Prelude.{Option, Some, None}
+use Rattle.std.specs.Prelude.{Option, Some}
 use Rattle.atomic_table.specs.Table.{State}
 use Rattle.atomic_table.proofs.Lists.{at_set}
 use Rattle.claim_table.specs.declared.plays.View.{View}
-use Rattle.claim_table.specs.Sums.{weigh, below, total, same, past, Has}
-use Rattle.claim_table.specs.Rule.{firsts, seconds, AtHome, Standing, Kept}
+use Rattle.claim_table.specs.Sums.{weigh, total, same, past, Has}
+use Rattle.claim_table.specs.Rule.{firsts, Standing, Kept}
 use Rattle.claim_table.proofs.Sums.{has_weight, same_at, below_same_out, below_same_in, below_past}
 use Rattle.claim_table.proofs.Totals.{total_at, total_two, total_le}
 

@@ -1,5 +1,5 @@
 -- Weights of lists, and of the numbers below a bound.
-use Rattle.std.proofs.Common.{◌≡◌, ◌≢◌, ℕ, zero, suc, ◌+◌, ◌<◌, ◌≤◌, List, [], ◌∷◌, ◌++◌, length, get_or, le_refl, sym, refl, ap, ◌∙◌, subst, inl, inr, ⊎_elim, arith}
+use Rattle.std.proofs.Common.{◌≡◌, ◌≢◌, ℕ, zero, suc, ◌+◌, ◌<◌, ◌≤◌, List, [], ◌∷◌, ◌++◌, length, get_or, le_refl, refl, ap, ◌∙◌, subst, inl, inr, ⊎_elim, arith}
 use native.Mathlib.Decide.{dec_le, ℕ_discrete}
 use mathlib.Core.Logic.{dite}
 use Rattle.claim_table.specs.Sums.{weigh, below, same, past, Has}
@@ -125,7 +125,7 @@ except_has i h [] a = elim a [ ]
 except_has i h (x ∷ xs) a = ⊎_elim
     (λ (e : i ≡ x). let r = except_le i h xs in let z : except i h x ≡ 0 = subst (λ (y : ℕ). except i h y ≡ 0) e (except_at i h) in let f : h i ≡ h x = ap h e in omega arith)
     (λ (b : Has xs i). let r = except_has i h xs b in dite (ℕ_discrete i x)
-        (λ (e : i ≡ x). let z : except i h x ≡ 0 = subst (λ (y : ℕ). except i h y ≡ 0) e (except_at i h) in omega arith) (λ (ne : i ≢ x). let z = except_else i x h ne in omega arith)) a
+    (λ (e : i ≡ x). let z : except i h x ≡ 0 = subst (λ (y : ℕ). except i h y ≡ 0) e (except_at i h) in omega arith) (λ (ne : i ≢ x). let z = except_else i x h ne in omega arith)) a
 
 pub below_shift : (g : ℕ → ℕ) (n : ℕ) → below g (suc n) ≡ g 0 + below (λ i. g (suc i)) n
 below_shift g zero = omega arith
@@ -167,6 +167,6 @@ below_cut_low n g (suc w) h = let r = below_cut_low n g w (omega arith) in let q
 pub below_cut : (n : ℕ) (g : ℕ → ℕ) (w : ℕ) → n ≤ w → below (cut n g) w ≡ below g n
 below_cut n g zero h = below_cut_low n g zero (omega arith) ∙ ap (below g) (let e : 0 ≡ n = omega arith in e)
 below_cut n g (suc w) h = elim (dec_le n w) [
-    yes le ↦ (let r = below_cut n g w le in let q : cut n g w ≡ 0 = ap (λ (k : ℕ). if_none k (g w)) (past_in n w le) in omega arith)
+  | yes le ↦ (let r = below_cut n g w le in let q : cut n g w ≡ 0 = ap (λ (k : ℕ). if_none k (g w)) (past_in n w le) in omega arith)
   | no gt ↦ below_cut_low n g (suc w) (omega arith) ∙ ap (below g) (let e : suc w ≡ n = omega arith in e)
-  ]
+]

@@ -1,19 +1,18 @@
 -- One view stands for more and more claims, and the slots' values come out one by one.
-use Rattle.std.proofs.Common.{◌≡◌, ℕ, zero, suc, ◌+◌, ◌<◌, ◌≤◌, ◌⊎◌, Bool, List, [], ◌∷◌, ◌++◌, map, length, take, get_or, All, sym, refl, ap, ◌∙◌, subst, inl, inr, ⊎_elim, arith}
+use Rattle.std.proofs.Common.{◌≡◌, ℕ, zero, suc, ◌≤◌, List, [], ◌∷◌, ◌++◌, map, take, All, sym, refl, ap, ◌∙◌, inl, ⊎_elim, arith}
 use mathlib.Core.Option.{some, some-injective, some-ne-none}
 use lib.ListN.{get_elem?}
 use Rattle.std.specs.Prelude.{Option, Some, None}
 use Rattle.claim_table.specs.declared.plays.View.{View}
 use Rattle.claim_table.specs.declared.table.Round.{Round}
 use Rattle.claim_table.specs.declared.table.Claim.{Claim}
-use Rattle.claim_table.specs.Sums.{weigh, total, Has}
+use Rattle.claim_table.specs.Sums.{Has}
 use Rattle.claim_table.specs.Rule.{both}
 use Rattle.claim_table.specs.Held.{Holds}
 use Rattle.claim_table.specs.Claims.{EndsPast, IsClaimOf, HasGivenBack, HasEnded, count_of, drawn_by}
 use Rattle.claim_table.specs.Gathering.{Gathers}
 use Rattle.claim_table.proofs.Sums.{weigh-append, has_left, has_right}
 use Rattle.claim_table.proofs.Parting.{has_either}
-use Rattle.claim_table.proofs.Stands.{some_is}
 
 last_past : (ms : List ℕ) (n : ℕ) → EndsPast ms n → (m : ℕ) × Has ms m × (n ≤ m)
 last_past [] n e = absurd e

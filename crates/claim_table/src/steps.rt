@@ -104,7 +104,11 @@ impl<T: Item> Round<T> {
     {
         let slot = item as usize;
         bring(&mut claim.seat, slot);
-        drop(self.table.shared.exchange(&mut claim.seat, slot, Some(value)));
+        drop(
+            self.table
+                .shared
+                .exchange(&mut claim.seat, slot, Some(value)),
+        );
         self.table.shared.load::<Homes>(&mut claim.seat, NUMBERS);
     }
 }

@@ -1,4 +1,4 @@
-use Rattle.std.proofs.Common.{arith, add-one, ◌≡◌, ◌≢◌, ℕ, suc, ◌+◌, ◌<◌, Bool, false, true, List, ◌∷◌, ◌++◌, map, take, length, set, get_or, get_or-set_other, get_or-set_same, sym, ap, ◌∙◌, subst, vec_len, vec_capacity}
+use Rattle.std.proofs.Common.{arith, ◌≡◌, ◌≢◌, ℕ, suc, ◌+◌, ◌<◌, Bool, false, true, List, map, take, length, set, get_or, get_or-set_other, get_or-set_same, sym, ap, ◌∙◌, subst}
 use mathlib.Core.Logic.{dite}
 use mathlib.Core.Option.{some}
 use native.Mathlib.Decide.{ℕ_discrete}

@@ -1,4 +1,4 @@
-use Rattle.std.proofs.Common.{◌≡◌, ℕ, length, sym, ◌∙◌}
+use Rattle.std.proofs.Common.{sym, ◌∙◌}
 use Rattle.claim_table.proofs.Ends.{ends, moved_to}
 use Rattle.claim_table.proofs.table.Round.close.Goals as goal
 

@@ -1,8 +1,8 @@
-use Rattle.std.proofs.Common.{rules, arith, ◌≡◌, ℕ, ◌<◌, ◌≤◌, Bool, false, sym, refl, ◌∙◌, subst}
+use Rattle.std.proofs.Common.{rules, arith, ℕ, ◌<◌, Bool, sym, ◌∙◌, subst}
 use Rattle.claim_table.specs.declared.plays.View.{View}
 use Rattle.claim_table.specs.Claims.{Sits, left_below}
 use Rattle.claim_table.proofs.Draws.{draws}
-use Rattle.claim_table.proofs.Sitting.{ends_weigh, fewer, sits_drawn, sits_past}
+use Rattle.claim_table.proofs.Sitting.{ends_weigh, fewer, sits_drawn}
 use Rattle.claim_table.proofs.table.Round.draw.Goals as goal
 
 pub fetch_add-found-requires : goal.fetch_add-found-requires

@@ -1,5 +1,4 @@
-use Rattle.std.proofs.Common.{rules, arith, ◌≡◌, ℕ, ◌<◌, List, [], ◌∷◌, ◌++◌, length, append_assoc, sym, ap, ◌∙◌, subst, All}
-use Rattle.claim_table.specs.declared.plays.View.{View}
+use Rattle.std.proofs.Common.{rules, arith, ◌≡◌, List, [], ◌∷◌, ◌++◌, append_assoc, sym, ap, ◌∙◌, subst, All}
 use Rattle.claim_table.specs.declared.table.Claim.{Claim}
 use Rattle.claim_table.specs.Claims.{IsClaimOf, HasGivenBack, HasEnded, count_of}
 use Rattle.claim_table.specs.Gathering.{Gathers}

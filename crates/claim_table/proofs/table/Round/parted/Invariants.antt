@@ -1,4 +1,4 @@
-use Rattle.std.proofs.Common.{◌≡◌, ℕ, ◌+◌, ◌-◌, [], All, vec_len}
+use Rattle.std.proofs.Common.{◌≡◌, ◌+◌, ◌-◌, [], All, vec_len}
 use Rattle.claim_table.specs.Rule.{opened}
 use Rattle.claim_table.specs.Claims.{IsClaimOf, IsNew, plan_of}
 use Rattle.claim_table.proofs.table.Round.parted.Given as goal

@@ -1,6 +1,6 @@
-use Rattle.std.proofs.Common.{◌≡◌, ℕ, List, ◌∷◌, sym, ap, ◌∙◌, subst}
+use Rattle.std.proofs.Common.{◌≡◌, sym, ◌∙◌, subst}
 use Rattle.std.specs.Prelude.{Option, Some, None}
-use Rattle.atomic_table.specs.Table.{Me, rest}
+use Rattle.atomic_table.specs.Table.{Me}
 use Rattle.claim_table.specs.declared.plays.View.{View}
 use Rattle.claim_table.specs.Claims.{Sits}
 use Rattle.claim_table.proofs.Holding.{front_value, now_front, same_but_first}
@@ -16,9 +16,10 @@ unreachable-requires g c = let w = c.requires.waiting in
     let e : c.exchange.result ≡ Some w.0 = front_value _ _ _ _ c.exchange.ensures.2 (now_front _ _ _ _ (λ k. (c.bring.ensures.2 k).1) c.requires.claim.1.once w.1) in let n : c.exchange.result ≡ None = c.in-None.is in cc
 
 pub returns-clause-claim : goal.returns-clause-claim
-returns-clause-claim g c = let S = λ (m : Me (Option g.row.T.Denot) (View g.row.T-Plan.Denot)). Sits g.T.Item.fresh c.args.self.now.table.shared.key.plan.value c.args.self.now.table.shared.table_id.slots c.args.claim.now.over m in
-    (c.exchange.ensures.0 ∙ c.bring.ensures.0 ∙ c.requires.claim.0,
-    subst S (sym c.exchange.ensures.3) (sits_taken _ _ _ _ c.bring.new.seat.me _ c.exchange.result (subst S (sym c.bring.ensures.2) (sits_brought _ _ _ _ c.args.claim.now.seat.me c.args.item c.requires.claim.1)) c.exchange.ensures.2))
+returns-clause-claim g c = let S = λ (m : Me (Option g.row.T.Denot) (View g.row.T-Plan.Denot)). Sits g.T.Item.fresh c.args.self.now.table.shared.key.plan.value c.args.self.now.table.shared.table_id.slots c.args.claim.now.over m in (
+  c.exchange.ensures.0 ∙ c.bring.ensures.0 ∙ c.requires.claim.0,
+  subst S (sym c.exchange.ensures.3) (sits_taken _ _ _ _ c.bring.new.seat.me _ c.exchange.result (subst S (sym c.bring.ensures.2) (sits_brought _ _ _ _ c.args.claim.now.seat.me c.args.item c.requires.claim.1)) c.exchange.ensures.2),
+)
 
 pub returns-clause-fresh : goal.returns-clause-fresh
 returns-clause-fresh g c = let w = c.requires.waiting in
