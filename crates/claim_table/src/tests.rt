@@ -1,4 +1,4 @@
-ghost use Rattle.std.specs.Prelude.{◌≡◌, ℕ, ◌+◌, ◌^◌, ◌<◌, Some, IfOk, IfSome, slice_get, vec_len};
+ghost use Rattle.std.specs.Prelude.{◌≡◌, ℕ, ◌+◌, ◌^◌, ◌<◌, Some, All, IfOk, IfSome, slice_get, vec_len};
 ghost use Rattle.claim_table.specs.declared.tests.parcel.Parcel.{Parcel};
 ghost use Rattle.claim_table.specs.Claims.{IsClaimOf, IsNew, HasGivenBack, HasEnded};
 
@@ -28,29 +28,24 @@ fn seal(round: &Round<Parcel>, mut claim: Claim<Parcel>) -> Claim<Parcel>
     claim
 }
 
-// Two threads seal parcels.
-fn both<R: Threads + Sync>(
+// Each claim seals parcels in a thread of its own, where one can be made.
+fn seal_all<R: Threads + Sync>(
     rt: &R,
     round: &Round<Parcel>,
-    one: Claim<Parcel>,
-    other: Claim<Parcel>,
-) -> (Claim<Parcel>, Claim<Parcel>)
-    requires one { IsClaimOf ⟦<Parcel as Item>⟧.fresh round.now one × HasGivenBack round.now one }
-    requires other { IsClaimOf ⟦<Parcel as Item>⟧.fresh round.now other × HasGivenBack round.now other }
-    ensures one { IsClaimOf ⟦<Parcel as Item>⟧.fresh round.now result.0 × HasGivenBack round.now result.0 × HasEnded round.now result.0 }
-    ensures other { IsClaimOf ⟦<Parcel as Item>⟧.fresh round.now result.1 × HasGivenBack round.now result.1 × HasEnded round.now result.1 }
+    claims: Vec<Claim<Parcel>>,
+) -> Result<Vec<Claim<Parcel>>, AllocError>
+    requires own { All (IsClaimOf ⟦<Parcel as Item>⟧.fresh round.now) claims.items }
+    requires returned { All (HasGivenBack round.now) claims.items }
+    ensures count { IfOk result (λ all. vec_len all ≡ vec_len claims) }
+    ensures own { IfOk result (λ all. All (IsClaimOf ⟦<Parcel as Item>⟧.fresh round.now) all.items) }
+    ensures returned { IfOk result (λ all. All (HasGivenBack round.now) all.items) }
+    ensures ended { IfOk result (λ all. All (HasEnded round.now) all.items) }
 {
-    thread::join(
-        rt,
-        move || -> Claim<Parcel>
-            requires { IsClaimOf (λ (first i : ℕ) (x : Parcel). x.label ≡ first + i) round.now one × HasGivenBack round.now one }
-            ensures { IsClaimOf (λ (first i : ℕ) (x : Parcel). x.label ≡ first + i) round.entry.now result × HasGivenBack round.entry.now result × HasEnded round.entry.now result }
-        { seal(round, one) },
-        move || -> Claim<Parcel>
-            requires { IsClaimOf (λ (first i : ℕ) (x : Parcel). x.label ≡ first + i) round.now other × HasGivenBack round.now other }
-            ensures { IsClaimOf (λ (first i : ℕ) (x : Parcel). x.label ≡ first + i) round.entry.now result × HasGivenBack round.entry.now result × HasEnded round.entry.now result }
-        { seal(round, other) },
-    )
+    let work = move |claim: Claim<Parcel>| -> Claim<Parcel>
+        requires { IsClaimOf (λ (first i : ℕ) (x : Parcel). x.label ≡ first + i) round.now claim × HasGivenBack round.now claim }
+        ensures { IsClaimOf (λ (first i : ℕ) (x : Parcel). x.label ≡ first + i) round.entry.now result × HasGivenBack round.entry.now result × HasEnded round.entry.now result }
+    { seal(round, claim) };
+    thread::map_vec(rt, claims, &work)
 }
 
 fn parcels(alloc: Global, first: u32, count: u32) -> Result<Vec<Parcel>, AllocError>
@@ -70,18 +65,10 @@ fn parcels(alloc: Global, first: u32, count: u32) -> Result<Vec<Parcel>, AllocEr
 }
 
 #[test]
-fn two_threads_seal_each_parcel_once(rt: HostRuntime) -> Result<(), Fail> {
+fn threads_seal_each_parcel_once(rt: HostRuntime) -> Result<(), Fail> {
     let items = parcels(rt.alloc(), 10, 100)?;
-    let Opened { round, mut claims } = Round::new(rt.alloc(), items, 2, &10)?;
-    let Some(other) = claims.pop() else {
-        unreachable!()
-    };
-    let Some(one) = claims.pop() else {
-        unreachable!()
-    };
-    let (one, other) = both(&rt, &round, one, other);
-    claims.push(one)?;
-    claims.push(other)?;
+    let Opened { round, claims } = Round::new(rt.alloc(), items, 4, &10)?;
+    let claims = seal_all(&rt, &round, claims)?;
     let sealed = round.close(rt.alloc(), claims)?;
     let mut numbers = Vec::new(rt.alloc());
     for (place, parcel) in sealed.iter().enumerate() {
