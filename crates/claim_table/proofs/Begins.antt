@@ -6,12 +6,10 @@ use lib.ListN.{get_elem?}
 use Rattle.std.specs.Prelude.{Option, Some, slice_get}
 use Rattle.atomic_table.specs.Table.{Me, opening}
 use Rattle.claim_table.specs.declared.plays.View.{View}
-use Rattle.claim_table.specs.Sums.{Has}
 use Rattle.claim_table.specs.Rule.{AtHome, Kept, opened}
-use Rattle.claim_table.specs.declared.table.Round.{Round}
 use Rattle.claim_table.specs.declared.table.Claim.{Claim}
 use Rattle.claim_table.specs.Held.{Holds}
-use Rattle.claim_table.specs.Claims.{Sits, IsNew, HasGivenBack}
+use Rattle.claim_table.specs.Claims.{Sits, IsNew}
 use Rattle.claim_table.proofs.Stands.{Stands}
 use Rattle.claim_table.proofs.Parting.{bare}
 
@@ -61,7 +59,3 @@ module _ {T P : Type 0} (plan : P) where
     ap (λ (m : Me (Option T) (View P)). m.0.numbered) is,
     λ i owed. (let h : Holds [] i owed.0 = subst (λ (l : List (ℕ × Option T)). Holds l i owed.0) (λ j. (is j).1) owed.1 in elim h [ ]),
   )
-
--- a claim that has done nothing has given back all that it drew
-pub new_returned : {T P : Type 0} (r : Round T P) (c : Claim T P) → IsNew c → HasGivenBack r c
-new_returned r c new i has low = let a : Has [] i = subst (λ (l : List ℕ). Has l i) new.0 has in elim a [ ]

@@ -1,5 +1,5 @@
 -- What a claim's seat knows after each step.
-use Rattle.std.proofs.Common.{◌≡◌, ℕ, ◌<◌, ◌≤◌, Bool, true, false, List, [], ◌∷◌, sym, refl, subst, inl, inr, ⊎_elim, arith}
+use Rattle.std.proofs.Common.{◌≡◌, ℕ, ◌<◌, Bool, false, List, [], ◌∷◌, sym, refl, subst, inl, inr, ⊎_elim, arith}
 use Rattle.std.specs.Prelude.{Option, Some, None}
 use mathlib.Core.Option.{none}
 use Rattle.atomic_table.specs.Table.{Me, step, rest}
@@ -36,20 +36,6 @@ module _ {T P : Type 0} (fresh : P → ℕ → T → Type 0) (plan : P) (n : ℕ
         back = λ i a. inr (s.back i a);
         named = λ i a. inr (s.named i a);
       }
-
-  -- where it drew a number past the items
-  pub sits_past : (me me' : Seat) (m : ℕ) → Sits fresh plan n false me → Drew fresh (step n 0 1 0 none) me m me' → n ≤ m → Sits fresh plan n true me'
-  sits_past me me' m s d high = let w : View P = with_drawn me.0 m in subst (Sits fresh plan n true) (let e : (w, me.1) ≡ me' = λ k. (sym d.0 k, sym (d.2 high) k) in e) record {
-    planned = s.planned;
-    part = s.part;
-    going = λ e. absurd (cc);
-    ended = λ _. high;
-    good = s.good;
-    owes = λ i t h. (let r = s.owes i t h in (r.0, inr r.1, r.2));
-    once = s.once;
-    back = λ i a. inr (s.back i a);
-    named = λ i a. inr (s.named i a);
-  }
 
   -- where a slot has come to the front
   pub sits_brought : (over : Bool) (me : Seat) (k : ℕ) → Sits fresh plan n over me → Sits fresh plan n over (me.0, brought k me.1)

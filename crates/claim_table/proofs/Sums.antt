@@ -131,10 +131,6 @@ pub below_shift : (g : ℕ → ℕ) (n : ℕ) → below g (suc n) ≡ g 0 + belo
 below_shift g zero = omega arith
 below_shift g (suc n) = let r = below_shift g n in omega arith
 
-pub below_ext : (g h : ℕ → ℕ) (n : ℕ) → ((i : ℕ) → g i ≡ h i) → below g n ≡ below h n
-below_ext g h zero e = refl
-below_ext g h (suc n) e = let r = below_ext g h n e in let q = e n in omega arith
-
 -- the weights of a list, place by place
 pub weigh_places : (h : ℕ → ℕ) (l : List ℕ) → weigh h l ≡ below (λ i. h (get_or l i 0)) (length l)
 weigh_places h [] = refl

@@ -40,7 +40,3 @@ module _ {A : Type 0} where
   total_alone f [] k v e h = absurd (some-ne-none v (sym e))
   total_alone f (x ∷ xs) zero v e h = let q : f x ≡ f v = ap f (some-injective x v e) in let r = total_none f xs (λ j w b. h (suc j) w (λ z. omega arith) b) in omega arith
   total_alone f (x ∷ xs) (suc k) v e h = let r = total_alone f xs k v e (λ j w n b. h (suc j) w (λ z. n (omega arith)) b) in let q = h 0 x (λ z. omega arith) refl in omega arith
-
-  pub total_ext : (f g : A → ℕ) (l : List A) → ((v : A) → f v ≡ g v) → total f l ≡ total g l
-  total_ext f g [] h = refl
-  total_ext f g (x ∷ xs) h = let r = total_ext f g xs h in let q = h x in omega arith

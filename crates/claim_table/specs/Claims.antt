@@ -39,6 +39,7 @@ module _ {T P : Type 0} where
   abbrev pub claims_of : Round T P → ℕ
   claims_of r = r.table.shared.key.claims
 
+  -- what the items of the round belong to
   abbrev pub plan_of : Round T P → P
   plan_of r = r.table.shared.key.plan.value
 
