@@ -1,0 +1,13 @@
+pub mod Sums
+pub mod Totals
+pub mod Stands
+pub mod Draws
+pub mod Numbers
+pub mod Returns
+pub mod Parting
+pub mod Bringing
+pub mod Holding
+pub mod Sitting
+pub mod Begins
+pub mod Ends
+pub mod Together

@@ -1,0 +1,17 @@
+//! What a round hands out.
+ghost use Rattle.std.specs.Prelude.{ℕ};
+
+/// An item of a round. It has no functions, only three meanings.
+pub trait Item: Drop {
+    /// What the items of one round belong to. The round keeps it for its contracts alone.
+    type Plan;
+
+    // The value may be handed out at this place.
+    ghost fresh: { Self.Plan → ℕ → Self → Type 0 };
+
+    // The value may be given back at this place.
+    ghost done: { Self.Plan → ℕ → Self → Type 0 };
+
+    // The number that the value keeps.
+    ghost number: { Self → ℕ };
+}
