@@ -1,0 +1,4 @@
+pub mod Numbering
+pub mod Piece
+pub mod Place
+pub mod Script

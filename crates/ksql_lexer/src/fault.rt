@@ -1,0 +1,34 @@
+use std::alloc::{AllocError, AllocFailed};
+
+/// Why a text has no tokens.
+#[derive(Clone, Copy, Debug, PartialEq, Eq)]
+pub enum LexFault {
+    /// At some place of the text neither a token, a blank nor a comment begins. `statement` is the number of the
+    /// statement of the first such place: one more than the number of the non-empty lists of tokens that ended by
+    /// `;` before it.
+    Bad { statement: u32 },
+    /// Want of memory.
+    OutOfMemory,
+}
+
+impl From<AllocError> for LexFault {
+    ghost use Rattle.std.specs.Prelude.{◌≡◌};
+    ghost use Rattle.ksql_lexer.specs.declared.fault.LexFault.TheVariants.{OutOfMemory};
+
+    ghost from_gives = { λ _ e. e ≡ OutOfMemory };
+
+    fn from(_error: AllocError) -> LexFault {
+        LexFault::OutOfMemory
+    }
+}
+
+impl<T: Drop> From<AllocFailed<T>> for LexFault {
+    ghost use Rattle.std.specs.Prelude.{◌≡◌};
+    ghost use Rattle.ksql_lexer.specs.declared.fault.LexFault.TheVariants.{OutOfMemory};
+
+    ghost from_gives = { λ _ e. e ≡ OutOfMemory };
+
+    fn from(_error: AllocFailed<T>) -> LexFault {
+        LexFault::OutOfMemory
+    }
+}

@@ -1,0 +1,96 @@
+ghost use Rattle.std.specs.Prelude.{◌≡◌, ℕ, ◌<◌, ◌≤◌, ◌^◌, List, length, Ok, Err};
+ghost use Rattle.ksql_types.specs.Text.{longest_text};
+ghost use Rattle.ksql_lexer.specs.declared.token.Token.{Token as OneToken};
+ghost use Rattle.ksql_lexer.specs.Script.{AreTokens, BreaksIn, IsReading, Answers, is_semicolon};
+ghost use Rattle.ksql_lexer.specs.Numbering.{moved};
+
+use crate::fault::LexFault;
+use crate::place::{Found, read_place};
+use crate::token::{Mark, Token, TokenKind};
+use std::alloc::Global;
+
+// Where a place is among the statements: the number of its statement, and whether that has tokens before it.
+#[derive(Clone, Copy)]
+struct Numbering {
+    statement: u32,
+    begun: bool,
+}
+
+fn is_semicolon(kind: &TokenKind) -> bool
+    ensures { result ≡ is_semicolon kind.now }
+{
+    matches!(kind, TokenKind::Mark(Mark::Semicolon))
+}
+
+impl Numbering {
+    // Behind a token.
+    fn behind(self, kind: &TokenKind) -> Numbering
+        requires { self.statement < 2 ^ 31 }
+        ensures { result ≡ moved self kind.now }
+    {
+        let ends = is_semicolon(kind);
+        Numbering {
+            statement: if ends && self.begun {
+                self.statement + 1
+            } else {
+                self.statement
+            },
+            begun: !ends,
+        }
+    }
+}
+
+fn read_script(alloc: Global, text: &str) -> Result<Vec<Token>, LexFault>
+    requires { length text.now ≤ longest_text }
+    ensures { IsReading text.now result }
+{
+    let mut tokens = Vec::new(alloc);
+    let mut at = Numbering {
+        statement: 1,
+        begun: false,
+    };
+    let mut closes = true;
+    let mut rest = text;
+    while !rest.is_empty() {
+        let found = match read_place(alloc, rest, &mut closes) {
+            Ok(Some(found)) => found,
+            Ok(None) => {
+                return Err(LexFault::Bad {
+                    statement: at.statement,
+                });
+            }
+            Err(_) => return Err(LexFault::OutOfMemory),
+        };
+        let Found { kind, rest: behind } = found;
+        rest = behind;
+        let Some(kind) = kind else {
+            continue;
+        };
+        let statement = at.statement;
+        at = at.behind(&kind);
+        tokens.push(Token { kind, statement })?;
+    }
+    Ok(tokens)
+}
+
+/// The tokens of a text of at most 1,048,576 bytes, in their order: the longest token at each place, where blanks
+/// and comments are passed over. A `/*` with no `*/` behind it is the two signs `/` and `*`. A quote or backquote
+/// with no other behind it begins no token, nor do digits directly followed by a letter or `_`. Takes a time linear
+/// in the text.
+pub fn tokens(alloc: Global, text: &str) -> Result<Vec<Token>, LexFault>
+    requires { length text.now ≤ longest_text }
+    // What is answered is so: these are its tokens, or this is the statement of its first bad place.
+    ensures found { IsReading text.now result }
+    // What is so is answered, unless memory runs out.
+    ensures only { (ts : List OneToken) → AreTokens text.now ts → Answers result (Ok ts) }
+    ensures bad { (s : ℕ) → BreaksIn text.now s → Answers result (Err (LexFault.Bad s)) }
+{
+    read_script(alloc, text)
+}
+
+/// A text has one list of tokens, or one statement in which its first bad place is, and not both.
+pub fn one_reading()
+    ensures one_list { (text : List ℕ) (ts us : List OneToken) → AreTokens text ts → AreTokens text us → ts ≡ us }
+    ensures one_fault { (text : List ℕ) (s n : ℕ) → BreaksIn text s → BreaksIn text n → s ≡ n }
+    ensures not_both { (text : List ℕ) (ts : List OneToken) (s : ℕ) → AreTokens text ts → BreaksIn text s → ⊥ }
+{}

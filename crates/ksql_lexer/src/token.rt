@@ -1,0 +1,68 @@
+use ksql_types::{Chars, CopyOf};
+use std::alloc::{AllocError, Global};
+
+/// A sign. `!=` is `NotEqual`, as `<>` is, and `||` is `Concat`.
+#[derive(Clone, Copy, Debug, PartialEq, Eq)]
+pub enum Mark {
+    Open,
+    Close,
+    Comma,
+    Semicolon,
+    Dot,
+    Equal,
+    NotEqual,
+    Less,
+    LessEqual,
+    Greater,
+    GreaterEqual,
+    Plus,
+    Minus,
+    Star,
+    Slash,
+    Percent,
+    Concat,
+}
+
+/// What a token is.
+#[derive(Debug, Drop)]
+pub enum TokenKind {
+    /// A word, with its letters upper-cased: words are matched, and names taken, in any case.
+    Word(Chars),
+    /// The name between two backquotes, in the case in which it is written.
+    Quoted(Chars),
+    /// The text between two single quotes, where two quotes inside stand for one.
+    Text(Chars),
+    /// Decimal digits, as they are written.
+    Digits(Chars),
+    /// A sign.
+    Mark(Mark),
+}
+
+/// A token, with the number of its statement: one more than the number of the non-empty lists of tokens that
+/// ended by `;` before it. So a `;` has the number of the statement that it ends.
+#[derive(Debug, Drop)]
+pub struct Token {
+    pub kind: TokenKind,
+    pub statement: u32,
+}
+
+impl CopyOf for TokenKind {
+    fn copy(&self, alloc: Global) -> Result<TokenKind, AllocError> {
+        match self {
+            TokenKind::Word(name) => Ok(TokenKind::Word(name.copy(alloc)?)),
+            TokenKind::Quoted(name) => Ok(TokenKind::Quoted(name.copy(alloc)?)),
+            TokenKind::Text(content) => Ok(TokenKind::Text(content.copy(alloc)?)),
+            TokenKind::Digits(digits) => Ok(TokenKind::Digits(digits.copy(alloc)?)),
+            TokenKind::Mark(mark) => Ok(TokenKind::Mark(*mark)),
+        }
+    }
+}
+
+impl CopyOf for Token {
+    fn copy(&self, alloc: Global) -> Result<Token, AllocError> {
+        Ok(Token {
+            kind: self.kind.copy(alloc)?,
+            statement: self.statement,
+        })
+    }
+}
