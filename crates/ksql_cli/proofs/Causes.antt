@@ -4,10 +4,11 @@ use Rattle.std.specs.Prelude.{codes}
 use Rattle.ksql_types.specs.Text.{longest_text}
 use Rattle.std.specs.Prelude.{◌⊎◌, Option, None, Some, IfSome, ◌≤◌, IsTrue}
 use Rattle.std.proofs.lemmas.Option.{same_Some}
+use Rattle.std.proofs.lemmas.List.{append-nil}
 use Rattle.std.proofs.lemmas.Bool.Decides.{nat_tests}
 use Rattle.ksql_parser.specs.Names.{is_topic}
 use Rattle.ksql_types.specs.declared.relation.Relation.{Relation}
-use Rattle.ksql_outside.specs.Outside.{read_bytes, JoinedLast, Rose}
+use Rattle.ksql_outside.specs.Outside.{read_bytes, JoinedLast, MayJoin, Rose}
 use Rattle.ksql_parser.specs.declared.form.FirstForm.{FirstForm}
 use Rattle.ksql_parser.specs.FirstForm.{IsScriptOf}
 use Rattle.ksql_parser.proofs.Scripts.{script_read, read_script}
@@ -21,8 +22,8 @@ use Rattle.ksql_cli.specs.declared.status.Code.TheVariants.{Unsupported}
 use Rattle.ksql_cli.specs.declared.status.LineWhy.{LineWhy}
 use Rattle.ksql_cli.specs.FirstProgram.{program_of, stream_of}
 use Rattle.ksql_cli.specs.Lines.{feds_of}
-use Rattle.ksql_cli.specs.Command.{Files, script_name, IsScriptRead, IsAccepted, declared_of, topic_file, first_value, IsFed, IsBadFile, AreFed, IsFirstBad, IsTopicDue, IsDue, Runs, report_of, HasCause, IsDecided, IsRefusal, NoDueFails}
-use Rattle.ksql_cli.specs.Steps.{IsGrown, IsFormRead, IsTopicFailure}
+use Rattle.ksql_cli.specs.Command.{Files, script_name, IsScriptRead, IsAccepted, declared_of, topic_file, first_value, IsFed, IsBadFile, AreFed, IsFirstBad, IsTopicDue, IsDue, AreDue, Runs, report_of, HasCause, IsDecided, IsRefusal, NoDueFails}
+use Rattle.ksql_cli.specs.Steps.{IsFormRead, IsJoined, IsTopicFailure, MayJoinScript}
 
 pub if_some_both : {A : Type 0} (o : Option A) (P Q R : A → Type 0) → ((x : A) → P x → Q x → R x) → IfSome o P → IfSome o Q → IfSome o R
 if_some_both None P Q R both p q = tt
@@ -39,20 +40,63 @@ pub refused : (known : Option Files) (words old new : List (List ℕ)) (name scr
 refused None words old new name script named none read = tt
 refused (Some all) words old new name script named none read = (refl, refl, (script, (name, named, read), not_accepted script none))
 
+-- the names that joined while the script was read, and one more behind them
+joined_later : (words old mid new : List (List ℕ)) (name : List ℕ) → MayJoinScript words old mid → new ≡ mid ++ name ∷ [] → JoinedLast old new name
+joined_later words old mid new name (inl same) is = ([], is ∙ ap (λ (names : List (List ℕ)). names ++ name ∷ []) same)
+joined_later words old mid new name (inr script) is =
+    (script.0 ∷ [], is ∙ ap (λ (names : List (List ℕ)). names ++ name ∷ []) script.2 ∙ append_assoc old (script.0 ∷ []) (name ∷ []))
+
 -- a failure at the topic file, behind a script that was read
 pub topic_cause : (words : List (List ℕ)) (all : Files) (form : FirstForm) (old mid new : List (List ℕ)) (status : Status) →
-    IsGrown old mid → IsFormRead words all form → IsTopicFailure all form mid new status → HasCause words all old new status
+    MayJoinScript words old mid → IsFormRead words all form → IsTopicFailure all form mid new status → HasCause words all old new status
 topic_cause words all form old mid new (ended.TopicFile topic line why) grown read bad =
     (bad.0, bad.1, (read.0, program_of form, read.1, (form, read.2, refl), inl (bad.3, bad.2)))
-topic_cause words all form old mid new (ended.ReadFault name) grown read failed = (
-  (grown.0, failed.1 ∙ ap (λ (names : List (List ℕ)). names ++ name ∷ []) grown.1 ∙ append_assoc old grown.0 (name ∷ [])),
-  inr (read.0, program_of form, read.1, (form, read.2, refl), inl failed.0),
-)
+topic_cause words all form old mid new (ended.ReadFault name) grown read failed =
+    inr ((read.0, program_of form, read.1, (form, read.2, refl), inl failed.0), joined_later words old mid new name grown failed.1)
 topic_cause words all form old mid new ended.OutOfMemory grown read failed = tt
 topic_cause words all form old mid new ended.Done grown read failed = absurd failed
 topic_cause words all form old mid new ended.Usage grown read failed = absurd failed
 topic_cause words all form old mid new (ended.Script statement code) grown read failed = absurd failed
 topic_cause words all form old mid new ended.WriteFault grown read failed = absurd failed
+
+-- a read fault at the topic file is the last name that joined, from before the script was read
+pub topic_joined : (words old mid new : List (List ℕ)) (status : Status) → MayJoinScript words old mid → IsJoined mid new status → IsJoined old new status
+topic_joined words old mid new (ended.ReadFault name) (inl same) joined =
+    (joined.0, joined.1 ∙ ap (λ (names : List (List ℕ)). names ++ (joined.0 ++ name ∷ [])) same)
+topic_joined words old mid new (ended.ReadFault name) (inr script) joined =
+    (script.0 ∷ joined.0, joined.1 ∙ ap (λ (names : List (List ℕ)). names ++ (joined.0 ++ name ∷ [])) script.2 ∙ append_assoc old (script.0 ∷ []) (joined.0 ++ name ∷ []))
+topic_joined words old mid new ended.Done grown joined = tt
+topic_joined words old mid new ended.Usage grown joined = tt
+topic_joined words old mid new (ended.Script statement code) grown joined = tt
+topic_joined words old mid new (ended.TopicFile topic line why) grown joined = tt
+topic_joined words old mid new ended.WriteFault grown joined = tt
+topic_joined words old mid new ended.OutOfMemory grown joined = tt
+
+-- the script's name is due
+script_due : (words : List (List ℕ)) (all : Files) (old new : List (List ℕ)) → MayJoinScript words old new → AreDue words all old new
+script_due words all old new (inl same) = ([], same ∙ sym (append-nil old), tt)
+script_due words all old new (inr script) = (script.0 ∷ [], script.2, (inl script.1, tt))
+
+-- and behind it the topic file's
+topic_due : (words : List (List ℕ)) (all : Files) (form : FirstForm) (old mid new : List (List ℕ)) → MayJoinScript words old mid →
+    MayJoin mid new (topic_file (stream_of form)) → IsFormRead words all form → AreDue words all old new
+topic_due words all form old mid new script (inl same) read =
+    let due = script_due words all old mid script in (due.0, same ∙ due.1, due.2)
+topic_due words all form old mid new (inl none) (inr topic) read = (
+  topic_file (stream_of form) ∷ [],
+  topic ∙ ap (λ (names : List (List ℕ)). names ++ topic_file (stream_of form) ∷ []) none,
+  (inr (read.0, program_of form, read.1, (form, read.2, refl), inl refl), tt),
+)
+topic_due words all form old mid new (inr script) (inr topic) read = (
+  script.0 ∷ topic_file (stream_of form) ∷ [],
+  topic ∙ ap (λ (names : List (List ℕ)). names ++ topic_file (stream_of form) ∷ []) script.2 ∙ append_assoc old (script.0 ∷ []) (topic_file (stream_of form) ∷ []),
+  (inl script.1, (inr (read.0, program_of form, read.1, (form, read.2, refl), inl refl), tt)),
+)
+
+pub topics_due : (known : Option Files) (words : List (List ℕ)) (form : FirstForm) (old mid new : List (List ℕ)) → MayJoinScript words old mid →
+    MayJoin mid new (topic_file (stream_of form)) → IfSome known (λ all. IsFormRead words all form) → IfSome known (λ all. AreDue words all old new)
+topics_due None words form old mid new script topic read = tt
+topics_due (Some all) words form old mid new script topic read = topic_due words all form old mid new script topic read
 
 -- the report of a form's program on its records
 pub run_found : (words : List (List ℕ)) (all : Files) (form : FirstForm) (feds : List Fed) (text : List ℕ) →
@@ -157,7 +201,8 @@ pub decided : (words : List (List ℕ)) (all : Files) (old new : List (List ℕ)
 decided words all old new ended.Usage status refusal cause none is caused = inl (agree words all old new ended.Usage status tt is cause caused)
 decided words all old new (ended.Script s c) status refusal cause none is caused = inl (agree words all old new (ended.Script s c) status tt is cause caused)
 decided words all old new (ended.TopicFile t l w) status refusal cause none is caused = inl (agree words all old new (ended.TopicFile t l w) status tt is cause caused)
-decided words all old new (ended.ReadFault name) status refusal cause none is caused = absurd (none name cause.1 cause.0)
+decided words all old new (ended.ReadFault name) status refusal (inl script) none is caused = absurd (none name (inl script.0) ([], script.1))
+decided words all old new (ended.ReadFault name) status refusal (inr topic) none is caused = absurd (none name (inr topic.0) topic.1)
 decided words all old new ended.OutOfMemory status refusal cause none is caused = inr refl
 decided words all old new ended.Done status refusal cause none is caused = absurd refusal
 decided words all old new ended.WriteFault status refusal cause none is caused = absurd refusal

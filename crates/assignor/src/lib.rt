@@ -1,0 +1,16 @@
+//! Which worker owns which task: the assignment made at the beginning, and whenever a worker comes or goes.
+#![tactic(auto)]
+
+mod assigning;
+mod assignment;
+mod laws;
+mod loads;
+mod places;
+mod previous;
+
+pub use assigning::assign;
+pub use assignment::{Assignment, Owned};
+pub use laws::{balanced, each_task_owned, keeps_all, stays_within_share};
+
+#[cfg(test)]
+mod tests;
