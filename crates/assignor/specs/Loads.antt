@@ -61,7 +61,7 @@ kept_place_with share loads owner (Some kept) =
     then Some owner
     else None
 
--- where a task kept_place, by the loads
+-- where a task stays, by the loads
 abbrev pub kept_place_by : Share → List Load → Option ℕ → Option ℕ
 kept_place_by share loads None = None
 kept_place_by share loads (Some owner) = kept_place_with share loads owner (load_among owner loads)

@@ -7,7 +7,7 @@ use crate::assignment::Share;
 use crate::loads::{Load, add_task, lightest, load_among, no_loads, workers_with};
 use std::alloc::{AllocError, Global};
 
-/// The first pass: where each task kept_place, from the worker that had it. The only error is want of memory.
+/// The first pass: where each task stays, from the worker that had it. The only error is want of memory.
 pub fn first_pass(
     alloc: Global,
     share: Share,
@@ -58,7 +58,7 @@ pub fn second_pass(
     Ok(places)
 }
 
-/// The place of the next task: where it kept_place, or with the worker that has the fewest tasks and now has one more.
+/// The place of the next task: where it stays, or with the worker that has the fewest tasks and now has one more.
 fn next_place(loads: &mut [Load], place: Option<u32>) -> Option<u32>
     requires { All (λ load. load.tasks + 1 < 2 ^ 64) loads.old }
     ensures place { result ≡ next_place place loads.old }
