@@ -1,3 +1,5 @@
 pub mod Causes
 pub mod LineLemmas
+pub mod Refusals
 pub mod ReportLemmas
+pub mod StatementLaws

@@ -1,10 +1,19 @@
 -- What a command reads, what it writes, and the cause of each way in which it ends.
-use Rattle.std.specs.Prelude.{◌≡◌, ◌⊎◌, ℕ, length, nat_le, Bool, ◌&&◌, List, [], ◌∷◌, ◌++◌, map, codes, bytes_eq, Option, None, Some, if◌then◌else◌, slice_get, option_map, unwrap_or}
-use Rattle.std.specs.List.{list_all, AllByRecursion}
+use Rattle.std.specs.Prelude.{◌≡◌, ◌⊎◌, ℕ, ◌<◌, ◌≤◌, length, nat_le, Bool, ◌&&◌, List, [], ◌∷◌, ◌++◌, map, codes, bytes_eq, Option, None, Some, if◌then◌else◌, slice_get, option_map, unwrap_or}
+use Rattle.std.specs.List.{list_all}
+use Rattle.std.specs.Str.{IsUtf8}
+use Rattle.ksql_types.specs.Text.{longest_text}
 use Rattle.ksql_types.specs.declared.relation.Relation.{Relation}
 use Rattle.ksql_outside.specs.Outside.{read_bytes, JoinedLast}
-use Rattle.ksql_parser.specs.declared.form.FirstForm.{FirstForm}
-use Rattle.ksql_parser.specs.FirstForm.{IsScriptOf}
+use Rattle.first_form.specs.declared.form.FirstForm.{FirstForm}
+use Rattle.first_form.specs.FirstForm.{IsFormOf}
+use Rattle.ksql_lexer.specs.declared.token.Token.{Token}
+use Rattle.ksql_lexer.specs.declared.token.TokenKind.{TokenKind}
+use Rattle.ksql_lexer.specs.Script.{AreTokens, BreaksIn, kinds}
+use Rattle.ksql_grammar.specs.declared.tree.Statement.{Statement}
+use Rattle.ksql_parser.specs.declared.fault.Code.{Code}
+use Rattle.ksql_parser.specs.declared.fault.Code.TheVariants.{Syntax, TooLarge, Unsupported}
+use Rattle.ksql_parser.specs.Script.{AreTrees, FirstRefused, statements}
 use Rattle.query_meaning.specs.declared.change.Fed.{Fed}
 use Rattle.query_meaning.specs.declared.change.TopicLines.{TopicLines}
 use Rattle.query_meaning.specs.declared.program.Item.{Item}
@@ -14,7 +23,6 @@ use Rattle.query_meaning.specs.Order.{order_of}
 use Rattle.query_meaning.specs.Meaning.{meaning}
 use Rattle.ksql_cli.specs.declared.status.Status.{Status}
 use Rattle.ksql_cli.specs.declared.status.Status.TheVariants as ended
-use Rattle.ksql_cli.specs.declared.status.Code.TheVariants.{Unsupported}
 use Rattle.ksql_cli.specs.declared.status.LineWhy.TheVariants.{BadLine}
 use Rattle.ksql_cli.specs.FirstProgram.{program_of}
 use Rattle.ksql_cli.specs.Lines.{feds_of}
@@ -39,6 +47,39 @@ script_name _ = None
 -- the script that was read: the words name it, and these are its bytes
 abbrev pub IsScriptRead : List (List ℕ) → Files → List ℕ → Type 0
 IsScriptRead words all script = (name : List ℕ) × (script_name words ≡ Some name) × (read_bytes name all ≡ Some script)
+
+-- Tokens are refused: by the first statement that a rule refuses, or else because they are not of the first form.
+abbrev pub IsRefusedForm : List TokenKind → ℕ → Code → Type 0
+IsRefusedForm ts statement code =
+    FirstRefused (statements ts) statement code
+    ⊎ (((trees : List Statement) × AreTrees (statements ts) trees) × ((form : FirstForm) → IsFormOf ts form → ⊥)
+       × (statement ≡ 0) × (code ≡ Unsupported))
+
+-- A text is refused: at its first place where no token begins, or else as its tokens are.
+abbrev pub IsRefusedText : List ℕ → ℕ → Code → Type 0
+IsRefusedText text statement code =
+    (BreaksIn text statement × (code ≡ Syntax)) ⊎ ((ts : List Token) × AreTokens text ts × IsRefusedForm (kinds ts) statement code)
+
+-- Bytes are refused as a whole where they aren't UTF-8, or else as the text that they are.
+abbrev pub IsRefusedBytes : List ℕ → ℕ → Code → Type 0
+IsRefusedBytes bytes statement code =
+    ((IsUtf8 bytes → ⊥) × (statement ≡ 0) × (code ≡ Syntax)) ⊎ (IsUtf8 bytes × IsRefusedText bytes statement code)
+
+-- A script is refused as a whole where it is too long, or else as its bytes are: in this statement, by this code.
+abbrev pub IsRefused : List ℕ → ℕ → Code → Type 0
+IsRefused script statement code =
+    ((longest_text < length script) × (statement ≡ 0) × (code ≡ TooLarge))
+    ⊎ ((length script ≤ longest_text) × IsRefusedBytes script statement code)
+
+-- no step refuses the script, and it is of this form
+pub record IsScriptOf (script : List ℕ) (form : FirstForm) : Type 0 where
+  pub short : length script ≤ longest_text
+  pub utf8 : IsUtf8 script
+  pub tokens : List Token
+  pub lexed : AreTokens script tokens
+  pub trees : List Statement
+  pub parsed : AreTrees (statements (kinds tokens)) trees
+  pub of_form : IsFormOf (kinds tokens) form
 
 -- the script is accepted, and this is its program
 abbrev pub IsAccepted : List ℕ → Program → Type 0
@@ -85,19 +126,11 @@ IsTopicDue all [] name = ⊥
 IsTopicDue all (relation ∷ relations) name =
     (name ≡ topic_file relation) ⊎ (((feds : List Fed) × IsFed all relation feds) × IsTopicDue all relations name)
 
--- this topic file is due: the script is accepted, and the topic files before it are good
-abbrev pub IsFileDue : List (List ℕ) → Files → List ℕ → Type 0
-IsFileDue words all name =
-    (script : List ℕ) × (program : Program) × IsScriptRead words all script × IsAccepted script program
-    × IsTopicDue all (declared_of program.items) name
-
--- a file of this name is due: the script, or a topic file
+-- this name is the next to be read, and what comes before it is good: the script, and then each topic file
 abbrev pub IsDue : List (List ℕ) → Files → List ℕ → Type 0
-IsDue words all name = (script_name words ≡ Some name) ⊎ IsFileDue words all name
-
--- the names that joined are all due
-abbrev pub AreDue : List (List ℕ) → Files → List (List ℕ) → List (List ℕ) → Type 0
-AreDue words all old new = (names : List (List ℕ)) × (new ≡ old ++ names) × AllByRecursion (IsDue words all) names
+IsDue words all name =
+    (script_name words ≡ Some name)
+    ⊎ ((script : List ℕ) × (program : Program) × IsScriptRead words all script × IsAccepted script program × IsTopicDue all (declared_of program.items) name)
 
 -- the command runs this program on these files
 abbrev pub Runs : List (List ℕ) → Files → Program → List TopicLines → Type 0
@@ -115,12 +148,11 @@ abbrev pub HasCause : List (List ℕ) → Files → List (List ℕ) → List (Li
 HasCause words all old new ended.Done = (program : Program) × (files : List TopicLines) × Runs words all program files
 HasCause words all old new ended.Usage = script_name words ≡ None
 HasCause words all old new (ended.Script statement code) =
-    (statement ≡ 0) × (code ≡ Unsupported) × ((script : List ℕ) × IsScriptRead words all script × ((program : Program) → IsAccepted script program → ⊥))
+    (script : List ℕ) × IsScriptRead words all script × IsRefused script statement code
 HasCause words all old new (ended.TopicFile topic line why) =
     (line ≡ 0) × (why ≡ BadLine)
     × ((script : List ℕ) × (program : Program) × IsScriptRead words all script × IsAccepted script program × IsFirstBad all (declared_of program.items) topic)
-HasCause words all old new (ended.ReadFault name) =
-    ((script_name words ≡ Some name) × (new ≡ old ++ name ∷ [])) ⊎ (IsFileDue words all name × JoinedLast old new name)
+HasCause words all old new (ended.ReadFault name) = JoinedLast old new name × IsDue words all name
 HasCause words all old new ended.WriteFault = (program : Program) × (files : List TopicLines) × Runs words all program files
 HasCause words all old new ended.OutOfMemory = Unit {0}
 

@@ -8,7 +8,7 @@ use Rattle.ksql_types.specs.declared.relation.Schema.{Schema}
 use Rattle.ksql_types.specs.declared.relation.Relation.{Relation}
 use Rattle.ksql_types.specs.declared.relation.Kind.TheVariants.{Stream}
 use Rattle.ksql_types.specs.declared.relation.Format.TheVariants.{Json}
-use Rattle.ksql_parser.specs.declared.form.FirstForm.{FirstForm}
+use Rattle.first_form.specs.declared.form.FirstForm.{FirstForm}
 use Rattle.query_meaning.specs.declared.expression.BinaryOp.TheVariants.{Gt}
 use Rattle.query_meaning.specs.declared.expression.Typed.{Typed}
 use Rattle.query_meaning.specs.declared.expression.TypedNode.TheVariants.{Literal, Column as ColumnAt, Binary}

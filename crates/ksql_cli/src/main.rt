@@ -6,12 +6,13 @@ mod printed;
 mod program;
 mod report;
 mod run;
+mod script;
 mod status;
 
 use ksql_outside::{DirFolder, NoGate, StdSink};
 use ksql_types::{Items, Word, Words};
 pub use run::ksql;
-pub use status::{Code, LineWhy, Status};
+pub use status::{LineWhy, Status};
 use std::env;
 use std::io::ErrorKind;
 use std::process::ExitCode;

@@ -1,7 +1,7 @@
 ghost use Rattle.std.specs.Prelude.{◌≡◌, IfOk};
 ghost use Rattle.ksql_cli.specs.FirstProgram.{above_bound, column, one_column, program_of, query_of, result_of, schema_of, stream_of};
 
-use ksql_parser::FirstForm;
+use first_form::FirstForm;
 use ksql_types::{
     Boxed, Chars, Column, Columns, CopyOf, Format, Items, Kind, Relation, Schema, SqlType, Value,
 };

@@ -1,6 +1,7 @@
 ghost use Rattle.std.specs.Prelude.{◌≡◌};
 ghost use Rattle.ksql_cli.specs.Status.{exit_code};
 
+use ksql_parser::Code;
 use ksql_types::Chars;
 
 /// How a command ended.
@@ -29,27 +30,6 @@ pub enum Status {
     WriteFault,
     /// Want of memory.
     OutOfMemory,
-}
-
-/// Why a script is refused. Their printed codes are S1 to S16, in this order.
-#[derive(Clone, Copy, Debug, PartialEq, Eq)]
-pub enum Code {
-    Syntax,
-    TooLarge,
-    UnknownRelation,
-    NameTaken,
-    UnknownColumn,
-    AmbiguousColumn,
-    DuplicateColumn,
-    TypeMismatch,
-    WrongKind,
-    KeyMissing,
-    JoinNotOnKey,
-    PartitionMismatch,
-    AggregateMisuse,
-    BadWindow,
-    Unsupported,
-    BadProperty,
 }
 
 /// Why a line of a topic file is refused.

@@ -1,7 +1,10 @@
-pub mod Fronts
-pub mod Lexing
-pub mod Quoted
+pub mod Found
 pub mod Numbers
-pub mod Spelled
-pub mod Respelled
-pub mod Scripts
+pub mod OneTree
+pub mod Only
+pub mod Parts
+pub mod Runs
+pub mod Settling
+pub mod Steps
+pub mod Tables
+pub mod Texts

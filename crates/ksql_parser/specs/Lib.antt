@@ -1,4 +1,5 @@
-pub mod FirstForm
-pub mod Names
-pub mod Reading
-pub mod Tokens
+pub mod Limits
+pub mod Script
+pub mod Settled
+pub mod Statements
+pub mod Words

@@ -1,17 +1,15 @@
-//! Reads scripts: the tokens of a text, and the scripts of the first form.
+//! The trees of a script, or its first refusal.
 #![tactic(auto)]
 
-mod form;
-mod lexer;
-mod names;
-mod reading;
-mod script;
-mod token;
+mod fault;
+mod limits;
+mod parsing;
+mod statement;
+mod symbols;
+mod words;
 
-pub use form::FirstForm;
-pub use lexer::{one_list, tokens};
-pub use script::{first_form, one_form};
-pub use token::{Mark, Token, TokenKind};
+pub use fault::{Code, ParseFault};
+pub use parsing::{one_list, one_tree, parse};
 
 #[cfg(test)]
 mod tests;

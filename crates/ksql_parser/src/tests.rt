@@ -1,97 +1,66 @@
-use crate::{Mark, TokenKind, first_form, tokens};
+use crate::{ParseFault, parse};
+use ksql_lexer::tokens;
+use std::alloc::Global;
 use std::test::Fail;
 
-const SCRIPT: &str = "CREATE STREAM S (ID VARCHAR KEY, N INTEGER)
-  WITH (KAFKA_TOPIC='s', VALUE_FORMAT='JSON', PARTITIONS=1);
-CREATE STREAM BIG AS SELECT ID, N FROM S WHERE N > 1 EMIT CHANGES;
-";
-
-#[test]
-fn a_script_of_the_first_form_is_read(rt: HostRuntime) -> Result<(), Fail> {
-    let form = first_form(rt.alloc(), SCRIPT.as_bytes())?.ok_or("no form")?;
-    assert_eq!(rt; form.stream.items(), "S");
-    assert_eq!(rt; form.key.items(), "ID");
-    assert_eq!(rt; form.number.items(), "N");
-    assert_eq!(rt; form.topic.items(), "s");
-    assert_eq!(rt; form.result.items(), "BIG");
-    assert_eq!(rt; form.bound, 1);
-    Ok(())
-}
-
-#[test]
-fn words_are_in_any_case_and_emit_changes_may_be_left_out(rt: HostRuntime) -> Result<(), Fail> {
-    let script =
-        "create stream s(id varchar key,n integer)with(kafka_topic='Clicks.1',value_format='JSON',
-partitions=1);create stream big as select Id,N from S where n>0002147483647;";
-    let form = first_form(rt.alloc(), script.as_bytes())?.ok_or("no form")?;
-    assert_eq!(rt; form.stream.items(), "S");
-    assert_eq!(rt; form.key.items(), "ID");
-    assert_eq!(rt; form.topic.items(), "Clicks.1");
-    assert_eq!(rt; form.result.items(), "BIG");
-    assert_eq!(rt; form.bound, 2147483647);
-    Ok(())
-}
-
-#[test]
-fn other_scripts_are_refused(rt: HostRuntime) -> Result<(), Fail> {
-    let long = "A".repeat(rt.alloc(), 129)?;
-    let changes = [
-        ("CREATE", "-- a comment\nCREATE"),
-        ("'s'", "'s''s'"),
-        ("=1", "=01"),
-        ("(ID", "(N"),
-        ("BIG", "LEFT"),
-        ("BIG", "ARRAY"),
-        ("BIG", long.as_str()),
-        ("BIG", "S"),
-        ("BIG", "`BIG`"),
-        ("BIG", "1a"),
-        ("ID", "RowKey"),
-        ("> 1", "> 2147483648"),
-        ("> 1", ">= 1"),
-        ("CHANGES;", "CHANGES"),
-        ("'s'", "'BIG'"),
-        ("'s'", "'..'"),
-        ("'JSON'", "'json'"),
-        (SCRIPT, ""),
-    ];
-    for (from, to) in changes {
-        let script = SCRIPT.replace(rt.alloc(), from, to)?;
-        assert!(rt;
-            first_form(rt.alloc(), script.as_bytes())?.is_none(),
-            "{to}"
-        );
-    }
-    assert!(rt; first_form(rt.alloc(), b"CREATE STREAM \xff")?.is_none());
-    Ok(())
-}
-
-#[test]
-fn a_script_has_at_most_1048576_bytes(rt: HostRuntime) -> Result<(), Fail> {
-    let mut script = Vec::from_slice(rt.alloc(), SCRIPT.as_bytes())?;
-    for _ in script.len()..1_048_576 {
-        script.push(b' ')?;
-    }
-    assert!(rt; first_form(rt.alloc(), script.as_slice())?.is_some());
-    script.push(b' ')?;
-    assert!(rt; first_form(rt.alloc(), script.as_slice())?.is_none());
-    Ok(())
-}
-
-#[test]
+// How many trees a script has, or its refusal.
 #[tactic(auto, unfolding(ksql_types::specs::Text::longest_text))]
-fn tokens_have_the_number_of_their_statement(rt: HostRuntime) -> Result<(), Fail> {
-    let read = tokens(rt.alloc(), b";;a ;; != 'x';.")?.ok_or("no tokens")?;
-    let mut statements = Vec::new(rt.alloc());
-    for token in &read {
-        statements.push(token.statement)?;
+fn answer(alloc: Global, text: &str) -> Result<String, Fail> {
+    if text.len() > 1_048_576 {
+        return Ok(String::from_str(alloc, "too long")?);
     }
+    let Ok(tokens) = tokens(alloc, text) else {
+        return Ok(String::from_str(alloc, "no tokens")?);
+    };
+    match parse(alloc, tokens.as_slice()) {
+        Ok(trees) => Ok(format!(in alloc; "{} trees", trees.len())?),
+        Err(ParseFault::Refused { statement, code }) => {
+            Ok(format!(in alloc; "{code:?} at {statement}")?)
+        }
+        Err(ParseFault::OutOfMemory) => Ok(String::from_str(alloc, "out of memory")?),
+    }
+}
+
+#[test]
+fn statements_nest_no_deeper_than_64(rt: HostRuntime) -> Result<(), Fail> {
+    let alloc = rt.alloc();
+    let parentheses = "(".repeat(alloc, 65)?;
+    let cases = "CASE ".repeat(alloc, 65)?;
     assert_eq!(rt;
-        statements.as_slice(),
-        [1, 1, 1, 1, 2, 2, 2, 2, 3].as_slice()
+        answer(alloc, parentheses.as_str())?.as_str(),
+        "TooLarge at 1"
     );
-    assert!(rt;
-        matches!(read.get(5), Some(token) if matches!(token.kind, TokenKind::Mark(Mark::NotEqual)))
+    assert_eq!(rt; answer(alloc, cases.as_str())?.as_str(), "TooLarge at 1");
+    Ok(())
+}
+
+#[test]
+fn a_token_past_its_limit_is_too_large(rt: HostRuntime) -> Result<(), Fail> {
+    let alloc = rt.alloc();
+    let name = "a".repeat(alloc, 129)?;
+    let text = "b".repeat(alloc, 65_537)?;
+    let quoted = format!(in alloc; "`{name}`")?;
+    let literal = format!(in alloc; "'{text}'")?;
+    assert_eq!(rt; answer(alloc, name.as_str())?.as_str(), "TooLarge at 1");
+    assert_eq!(rt; answer(alloc, quoted.as_str())?.as_str(), "TooLarge at 1");
+    assert_eq!(rt; answer(alloc, literal.as_str())?.as_str(), "TooLarge at 1");
+    assert_eq!(rt;
+        answer(alloc, "9223372036854775808")?.as_str(),
+        "TooLarge at 1"
     );
+    assert_eq!(rt;
+        answer(alloc, "99999999999999999999999")?.as_str(),
+        "TooLarge at 1"
+    );
+    Ok(())
+}
+
+#[test]
+fn empty_statements_have_no_number(rt: HostRuntime) -> Result<(), Fail> {
+    let alloc = rt.alloc();
+    let words = "a ".repeat(alloc, 2001)?;
+    let later = format!(in alloc; ";;{words};")?;
+    assert_eq!(rt; answer(alloc, ";;")?.as_str(), "0 trees");
+    assert_eq!(rt; answer(alloc, later.as_str())?.as_str(), "TooLarge at 1");
     Ok(())
 }

@@ -2,7 +2,8 @@ ghost use Rattle.std.specs.Prelude.{◌≡◌, ◌≤◌, length, IfOk};
 ghost use Rattle.ksql_types.specs.Text.{longest_text};
 
 use crate::run::ksql;
-use crate::status::{Code, LineWhy, Status};
+use crate::status::{LineWhy, Status};
+use ksql_parser::Code;
 use ksql_outside::{MemFolder, MemSink, NoGate};
 use ksql_types::{Bytes, Chars, Items, Word, Words};
 use std::alloc::{AllocError, Global};

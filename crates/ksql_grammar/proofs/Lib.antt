@@ -1,0 +1,10 @@
+pub mod Begins
+pub mod Chains
+pub mod Ends
+pub mod Errors
+pub mod Found
+pub mod Only
+pub mod Steps
+pub mod Takes
+pub mod Whole
+pub mod Words

@@ -1,0 +1,7 @@
+pub mod Symbols
+pub mod Grammar
+pub mod Reading
+pub mod Expressions
+pub mod Nests
+pub mod Limits
+pub mod Script

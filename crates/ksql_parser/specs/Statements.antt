@@ -1,0 +1,247 @@
+-- How the parts of a statement that hold no expression are read from the front of some symbols.
+use Rattle.std.specs.Prelude.{◌≡◌, ◌≤◌, ℕ, Bool, true, false, if◌then◌else◌, List, [], ◌∷◌, Option, Some, None, option_map, bytes_eq, codes}
+use Rattle.std.specs.Borrow.{Bor}
+use Rattle.ksql_lexer.specs.declared.token.Mark.TheVariants as mark
+use Rattle.ksql_grammar.specs.declared.symbol.Keyword.{Keyword}
+use Rattle.ksql_grammar.specs.declared.symbol.Keyword.TheVariants as key
+use Rattle.ksql_grammar.specs.declared.symbol.Symbol.{Symbol}
+use Rattle.ksql_grammar.specs.declared.symbol.Symbol.TheVariants.{Key, Word, Text, Number, Sign}
+use Rattle.ksql_grammar.specs.declared.tree.ColumnText.{ColumnText}
+use Rattle.ksql_grammar.specs.declared.tree.KeyMark.{KeyMark}
+use Rattle.ksql_grammar.specs.declared.tree.KeyMark.TheVariants as keyed
+use Rattle.ksql_grammar.specs.declared.tree.Property.{Property}
+use Rattle.ksql_grammar.specs.declared.tree.PropertyValue.{PropertyValue}
+use Rattle.ksql_grammar.specs.declared.tree.PropertyValue.TheVariants as value
+use Rattle.ksql_grammar.specs.declared.tree.Source.{Source}
+use Rattle.ksql_grammar.specs.declared.tree.JoinWord.{JoinWord}
+use Rattle.ksql_grammar.specs.declared.tree.JoinWord.TheVariants as how
+use Rattle.ksql_grammar.specs.declared.tree.WindowText.{WindowText}
+use Rattle.ksql_grammar.specs.declared.tree.WindowText.TheVariants.{Tumbling, Hopping}
+use Rattle.ksql_grammar.specs.declared.tree.SpanText.{SpanText}
+use Rattle.ksql_grammar.specs.Symbols.{name_of, type_of, unit_of}
+use Rattle.ksql_grammar.specs.declared.tree.StatementBody.{StatementBody}
+use Rattle.ksql_grammar.specs.declared.tree.StatementBody.TheVariants.{Declared, Query}
+use Rattle.ksql_grammar.specs.Grammar.{Spells, table_of, columns, props, with_props, select}
+use Rattle.ksql_grammar.specs.Expressions.{◌>>=◌, Reader, behind_key, behind_sign, first}
+
+-- a value and the symbols behind it, both lent
+abbrev pub lent : {A : Type 0} → Bor A × Bor (List Symbol) → A × List Symbol
+lent x = (x.0.now, x.1.now)
+
+-- behind this word, which isn't reserved
+unfoldable pub behind_word : List ℕ → List Symbol → Option (List Symbol)
+behind_word w (Word found ∷ ts) = if bytes_eq found w then Some ts else None
+behind_word w _ = None
+
+-- behind both, one after the other
+unfoldable pub behind_words : List ℕ → List ℕ → List Symbol → Option (List Symbol)
+behind_words v w ts = behind_word v ts >>= behind_word w
+
+abbrev pub key_mark_at : List Symbol → Option (List Symbol) → Option (List Symbol) → KeyMark × List Symbol
+key_mark_at ts (Some us) _ = (keyed.Key, us)
+key_mark_at ts None (Some us) = (keyed.PrimaryKey, us)
+key_mark_at ts None None = (keyed.Plain, ts)
+
+-- [KEY | PRIMARY KEY]
+unfoldable pub key_mark : List Symbol → KeyMark × List Symbol
+key_mark ts = key_mark_at ts (behind_word (codes "KEY") ts) (behind_words (codes "PRIMARY") (codes "KEY") ts)
+
+unfoldable pub column : Reader ColumnText
+column ts = do
+  n ← first name_of ts
+  t ← first type_of n.1
+  let m = key_mark t.1
+  Some (record { name = n.0; ty = t.0; mark = m.0 }, m.1)
+
+unfoldable pub property_value : Reader PropertyValue
+property_value (Text content ∷ ts) = Some (value.Text content, ts)
+property_value (Number n ∷ ts) = Some (value.Digits n, ts)
+property_value _ = None
+
+unfoldable pub property : Reader Property
+property ts = do
+  n ← first name_of ts
+  us ← behind_sign mark.Equal n.1
+  v ← property_value us
+  Some (record { name = n.0; value = v.0 }, v.1)
+
+-- behind AS, a name
+unfoldable pub behind_as : Reader (List ℕ)
+behind_as ts = behind_key key.As ts >>= first name_of
+
+abbrev pub alias_at : List Symbol → Option (List ℕ × List Symbol) → Option (List ℕ × List Symbol) → Option (Option (List ℕ) × List Symbol)
+alias_at ts (Some n) _ = Some (Some n.0, n.1)
+alias_at ts None (Some n) = Some (Some n.0, n.1)
+alias_at ts None None = Some (None, ts)
+
+-- [[AS] name]
+unfoldable pub alias : Reader (Option (List ℕ))
+alias ts = alias_at ts (behind_as ts) (first name_of ts)
+
+unfoldable pub source : Reader Source
+source ts = do
+  n ← first name_of ts
+  a ← alias n.1
+  Some (record { name = n.0; alias = a.0 }, a.1)
+
+-- [INNER | LEFT [OUTER] | FULL [OUTER]] JOIN
+unfoldable pub join_words : Reader JoinWord
+join_words (Key key.Join ∷ ts) = Some (how.Inner, ts)
+join_words (Key key.Inner ∷ Key key.Join ∷ ts) = Some (how.Inner, ts)
+join_words (Key key.Left ∷ Key key.Join ∷ ts) = Some (how.Left, ts)
+join_words (Key key.Left ∷ Key key.Outer ∷ Key key.Join ∷ ts) = Some (how.Left, ts)
+join_words (Key key.Full ∷ Key key.Join ∷ ts) = Some (how.Full, ts)
+join_words (Key key.Full ∷ Key key.Outer ∷ Key key.Join ∷ ts) = Some (how.Full, ts)
+join_words _ = None
+
+abbrev pub digits_of : Symbol → Option ℕ
+digits_of (Number n) = Some n
+digits_of _ = None
+
+unfoldable pub span : Reader SpanText
+span ts = do
+  n ← first digits_of ts
+  u ← first unit_of n.1
+  Some (record { digits = n.0; unit = u.0 }, u.1)
+
+abbrev pub span_at : List Symbol → Option (List Symbol) → Option (Option SpanText × List Symbol)
+span_at ts (Some us) = span us >>= λ s. Some (Some s.0, s.1)
+span_at ts None = Some (None, ts)
+
+unfoldable pub behind_retention : List Symbol → Option (List Symbol)
+behind_retention ts = behind_sign mark.Comma ts >>= behind_word (codes "RETENTION")
+
+unfoldable pub behind_grace : List Symbol → Option (List Symbol)
+behind_grace ts = behind_sign mark.Comma ts >>= behind_words (codes "GRACE") (codes "PERIOD")
+
+-- [retention] [grace] ")"
+unfoldable pub limits : Reader (Option SpanText × Option SpanText)
+limits ts = do
+  r ← span_at ts (behind_retention ts)
+  g ← span_at r.1 (behind_grace r.1)
+  us ← behind_sign mark.Close g.1
+  Some ((r.0, g.0), us)
+
+-- "(" SIZE span
+unfoldable pub size : Reader SpanText
+size ts = do
+  us ← behind_sign mark.Open ts
+  vs ← behind_word (codes "SIZE") us
+  span vs
+
+-- behind TUMBLING
+unfoldable pub tumbling : Reader WindowText
+tumbling ts = do
+  s ← size ts
+  l ← limits s.1
+  Some (Tumbling s.0 l.0.0 l.0.1, l.1)
+
+-- "," ADVANCE BY span
+unfoldable pub advance : Reader SpanText
+advance ts = do
+  us ← behind_sign mark.Comma ts
+  vs ← behind_word (codes "ADVANCE") us
+  ws ← behind_key key.By vs
+  span ws
+
+-- behind HOPPING
+unfoldable pub hopping : Reader WindowText
+hopping ts = do
+  s ← size ts
+  a ← advance s.1
+  l ← limits a.1
+  Some (Hopping s.0 a.0 l.0.0 l.0.1, l.1)
+
+abbrev pub window_at : Option (List Symbol) → Option (List Symbol) → Option (WindowText × List Symbol)
+window_at (Some us) _ = tumbling us
+window_at None (Some us) = hopping us
+window_at None None = None
+
+-- behind WINDOW
+unfoldable pub window : Reader WindowText
+window ts = window_at (behind_word (codes "TUMBLING") ts) (behind_word (codes "HOPPING") ts)
+
+abbrev pub windowed_at : List Symbol → Option (List Symbol) → Option (Option WindowText × List Symbol)
+windowed_at ts (Some us) = window us >>= λ w. Some (Some w.0, w.1)
+windowed_at ts None = Some (None, ts)
+
+-- [WINDOW window]
+unfoldable pub windowed : Reader (Option WindowText)
+windowed ts = windowed_at ts (behind_key key.Window ts)
+
+-- the rest behind an optional part
+abbrev pub behind_or_here : List Symbol → Option (List Symbol) → List Symbol
+behind_or_here ts (Some us) = us
+behind_or_here ts None = ts
+
+unfoldable pub behind_changes : List Symbol → Option (List Symbol)
+behind_changes ts = behind_key key.Emit ts >>= behind_word (codes "CHANGES")
+
+-- [EMIT CHANGES]
+unfoldable pub emit : List Symbol → List Symbol
+emit ts = behind_or_here ts (behind_changes ts)
+
+-- this reserved word and BY
+unfoldable pub behind_by : Keyword → List Symbol → Option (List Symbol)
+behind_by k ts = behind_key k ts >>= behind_key key.By
+
+-- name "." "*"
+unfoldable pub star_of : Reader (List ℕ)
+star_of ts = do
+  n ← first name_of ts
+  us ← behind_sign mark.Dot n.1
+  vs ← behind_sign mark.Star us
+  Some (n.0, vs)
+
+-- CREATE (STREAM | TABLE) name
+unfoldable pub head : Reader (Bool × List ℕ)
+head ts = do
+  us ← behind_key key.Create ts
+  t ← first table_of us
+  n ← first name_of t.1
+  Some ((t.0, n.0), n.1)
+
+-- the place of a clause among those of a query, by the word that begins it; 0 if none does
+abbrev pub place_of : Symbol → ℕ
+place_of (Key key.Join) = 1
+place_of (Key key.Inner) = 1
+place_of (Key key.Left) = 1
+place_of (Key key.Full) = 1
+place_of (Key key.Window) = 2
+place_of (Key key.Where) = 3
+place_of (Key key.Group) = 4
+place_of (Key key.Partition) = 5
+place_of (Key key.Having) = 6
+place_of (Key key.Emit) = 7
+place_of _ = 0
+
+-- nothing stands there, or a clause of this place or a later one
+abbrev pub BeginsFrom : ℕ → List Symbol → Type 0
+BeginsFrom n [] = Unit {0}
+BeginsFrom n (s ∷ ss) = n ≤ place_of s
+
+-- behind an item stands a comma or FROM
+abbrev pub ends_item : Symbol → Bool
+ends_item (Sign mark.Comma) = true
+ends_item (Key key.From) = true
+ends_item _ = false
+
+abbrev pub EndsItem : List Symbol → Type 0
+EndsItem [] = ⊥
+EndsItem (s ∷ ss) = ends_item s ≡ true
+
+-- behind the name of a statement and `(`: columns, `)`, WITH and properties
+abbrev pub SpellsDeclared : StatementBody → List Symbol → List Symbol → Type 0
+SpellsDeclared (Declared cs ps) ts vs =
+    (us : List Symbol) × Spells (columns cs) ts (Sign mark.Close ∷ Key key.With ∷ us) × Spells (props ps) us vs
+SpellsDeclared (Query ps q) ts vs = ⊥
+
+-- behind the name of a statement: [WITH props] AS select
+abbrev pub SpellsQuery : StatementBody → List Symbol → List Symbol → Type 0
+SpellsQuery (Declared cs ps) ts vs = ⊥
+SpellsQuery (Query ps q) ts vs = (us : List Symbol) × Spells (with_props ps) ts (Key key.As ∷ us) × Spells (select q) us vs
+
+-- behind the name of a statement
+abbrev pub SpellsBody : StatementBody → List Symbol → List Symbol → Type 0
+SpellsBody (Declared cs ps) ts vs = (us : List Symbol) × (ts ≡ Sign mark.Open ∷ us) × SpellsDeclared (Declared cs ps) us vs
+SpellsBody (Query ps q) ts vs = SpellsQuery (Query ps q) ts vs

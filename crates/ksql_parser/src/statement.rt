@@ -1,0 +1,98 @@
+//! Statements.
+
+ghost use Rattle.std.specs.Prelude.{◌≡◌, List, [], ◌∷◌, Some, IfOk, option_map};
+ghost use Rattle.ksql_lexer.specs.declared.token.Mark.TheVariants as mark;
+ghost use Rattle.ksql_grammar.specs.declared.symbol.Keyword.TheVariants as key;
+ghost use Rattle.ksql_grammar.specs.declared.symbol.Symbol.{Symbol as OneSymbol};
+ghost use Rattle.ksql_grammar.specs.declared.symbol.Symbol.TheVariants.{Key, Sign};
+ghost use Rattle.ksql_grammar.specs.declared.tree.Statement.{Statement as OneStatement};
+ghost use Rattle.ksql_grammar.specs.declared.tree.StatementBody.{StatementBody as OneBody};
+ghost use Rattle.ksql_grammar.specs.Grammar.{Spells, statement, table_of as creates};
+ghost use Rattle.ksql_grammar.specs.Expressions as read;
+ghost use Rattle.ksql_grammar.specs.Reading.{Gives, with_rest};
+ghost use Rattle.ksql_parser.specs.Statements as part;
+
+mod clauses;
+mod declaration;
+mod queries;
+mod step;
+mod windows;
+
+use crate::statement::declaration::{optional_properties, read_columns, read_properties};
+use crate::statement::queries::read_select;
+use crate::statement::step::{key, name, sign};
+use ksql_grammar::{Keyword, ReadError, Statement, StatementBody, Symbol, behind_sign};
+use ksql_lexer::Mark;
+use ksql_types::{Chars, CopyOf};
+use std::alloc::Global;
+
+/// Whether STREAM or TABLE stands first, and the symbols behind it: true for TABLE.
+#[tactic(auto, unfolding(ksql_grammar::specs::Expressions::first))]
+fn table(symbols: &[Symbol]) -> Result<(bool, &[Symbol]), ReadError>
+    ensures { Gives with_rest result (read.first creates symbols.now) }
+{
+    match symbols {
+        [Symbol::Key(Keyword::Stream), rest @ ..] => Ok((false, rest)),
+        [Symbol::Key(Keyword::Table), rest @ ..] => Ok((true, rest)),
+        _ => Err(ReadError::Unspelled),
+    }
+}
+
+/// CREATE, what it creates and its name: whether it is a table, the name, and the symbols behind it.
+#[tactic(auto, unfolding(crate::specs::Statements::head))]
+fn head(alloc: Global, symbols: &[Symbol]) -> Result<((bool, Chars), &[Symbol]), ReadError>
+    ensures { Gives with_rest result (part.head symbols.now) }
+{
+    let rest = key(Keyword::Create, symbols)?;
+    let (table, rest) = table(rest)?;
+    let (name, rest) = name(rest)?;
+    Ok(((table, name.copy(alloc)?), rest))
+}
+
+/// Columns, `)`, WITH and properties.
+fn declared(alloc: Global, symbols: &[Symbol]) -> Result<(StatementBody, &[Symbol]), ReadError>
+    ensures found { IfOk result (λ x. part.SpellsDeclared x.0 symbols.now x.1.now) }
+    ensures only { (b : OneBody) (rest : List OneSymbol) → part.SpellsDeclared b symbols.now rest
+        → Gives with_rest result (Some (b, rest)) }
+{
+    let (columns, rest) = read_columns(alloc, symbols)?;
+    let rest = sign(Mark::Close, rest)?;
+    let rest = key(Keyword::With, rest)?;
+    let (props, rest) = read_properties(alloc, rest)?;
+    Ok((StatementBody::Declared { columns, props }, rest))
+}
+
+/// WITH and properties, where they are there, AS and a query.
+fn query(alloc: Global, symbols: &[Symbol]) -> Result<(StatementBody, &[Symbol]), ReadError>
+    ensures found { IfOk result (λ x. part.SpellsQuery x.0 symbols.now x.1.now) }
+    ensures only { (b : OneBody) → part.SpellsQuery b symbols.now [] → Gives with_rest result (Some (b, [])) }
+{
+    let (props, rest) = optional_properties(alloc, symbols)?;
+    let rest = key(Keyword::As, rest)?;
+    let (select, rest) = read_select(alloc, rest)?;
+    Ok((StatementBody::Query { props, select }, rest))
+}
+
+/// What stands behind the name of a statement.
+fn body(alloc: Global, symbols: &[Symbol]) -> Result<(StatementBody, &[Symbol]), ReadError>
+    ensures found { IfOk result (λ x. part.SpellsBody x.0 symbols.now x.1.now) }
+    ensures only { (b : OneBody) → part.SpellsBody b symbols.now [] → Gives with_rest result (Some (b, [])) }
+{
+    match behind_sign(Mark::Open, symbols) {
+        Some(rest) => declared(alloc, rest),
+        None => query(alloc, symbols),
+    }
+}
+
+/// The tree of a statement whose symbols are these, all of them.
+pub(crate) fn read_statement(alloc: Global, symbols: &[Symbol]) -> Result<Statement, ReadError>
+    ensures found { IfOk result (λ s. Spells (statement s) symbols.now []) }
+    ensures only { (s : OneStatement) → Spells (statement s) symbols.now [] → Gives (λ x. x) result (Some s) }
+{
+    let ((table, name), rest) = head(alloc, symbols)?;
+    let (body, rest) = body(alloc, rest)?;
+    if !rest.is_empty() {
+        return Err(ReadError::Unspelled);
+    }
+    Ok(Statement { table, name, body })
+}

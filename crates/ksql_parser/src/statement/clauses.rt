@@ -1,0 +1,154 @@
+//! The clauses of a query, each where it is there. A clause ends where nothing stands, or a later clause.
+
+ghost use Rattle.std.specs.Prelude.{◌≡◌, List, Option, Some, IfOk};
+ghost use Rattle.std.specs.Option.{option_copied};
+ghost use Rattle.ksql_grammar.specs.declared.symbol.Symbol.{Symbol as OneSymbol};
+ghost use Rattle.ksql_grammar.specs.declared.tree.Expr.{Expr as Tree};
+ghost use Rattle.ksql_grammar.specs.declared.tree.JoinText.{JoinText as OneJoin};
+ghost use Rattle.ksql_grammar.specs.Grammar.{Spells, joined, filter, group, partition, having};
+ghost use Rattle.ksql_grammar.specs.Reading.{Gives, with_rest, option_with_rest};
+ghost use Rattle.ksql_parser.specs.Statements.{BeginsFrom};
+ghost use Rattle.ksql_parser.specs.Statements as part;
+
+use crate::statement::step::{alias, behind_by, behind_word, key, name};
+use ksql_grammar::{
+    Expr, ExprTexts, JoinText, JoinWord, Keyword, ReadError, Source, Symbol, behind_key,
+    read_expression, read_expressions,
+};
+use ksql_types::{CopyOf, Items};
+use std::alloc::Global;
+
+/// A relation and its alias.
+#[tactic(auto, unfolding(crate::specs::Statements::source))]
+pub(crate) fn read_source(
+    alloc: Global,
+    symbols: &[Symbol],
+) -> Result<(Source, &[Symbol]), ReadError>
+    ensures { Gives with_rest result (part.source symbols.now) }
+{
+    let (name, rest) = name(symbols)?;
+    let (alias, rest) = alias(alloc, rest)?;
+    let name = name.copy(alloc)?;
+    Ok((Source { name, alias }, rest))
+}
+
+/// How the next source is joined, where one is, and the symbols behind JOIN.
+#[tactic(auto, unfolding(crate::specs::Statements::join_words))]
+fn join_words(symbols: &[Symbol]) -> Option<(JoinWord, &[Symbol])>
+    ensures { option_with_rest result ≡ part.join_words symbols.now }
+{
+    match symbols {
+        [Symbol::Key(Keyword::Join), rest @ ..] => Some((JoinWord::Inner, rest)),
+        [Symbol::Key(Keyword::Inner), Symbol::Key(Keyword::Join), rest @ ..] => {
+            Some((JoinWord::Inner, rest))
+        }
+        [Symbol::Key(Keyword::Left), Symbol::Key(Keyword::Join), rest @ ..] => {
+            Some((JoinWord::Left, rest))
+        }
+        [Symbol::Key(Keyword::Left), Symbol::Key(Keyword::Outer), Symbol::Key(Keyword::Join), rest @ ..] => {
+            Some((JoinWord::Left, rest))
+        }
+        [Symbol::Key(Keyword::Full), Symbol::Key(Keyword::Join), rest @ ..] => {
+            Some((JoinWord::Full, rest))
+        }
+        [Symbol::Key(Keyword::Full), Symbol::Key(Keyword::Outer), Symbol::Key(Keyword::Join), rest @ ..] => {
+            Some((JoinWord::Full, rest))
+        }
+        _ => None,
+    }
+}
+
+pub(crate) fn read_join(
+    alloc: Global,
+    symbols: &[Symbol],
+) -> Result<(Option<JoinText>, &[Symbol]), ReadError>
+    ensures found { IfOk result (λ x. Spells (joined x.0) symbols.now x.1.now) }
+    ensures only { (j : Option OneJoin) (rest : List OneSymbol) → Spells (joined j) symbols.now rest → BeginsFrom 2 rest
+        → Gives with_rest result (Some (j, rest)) }
+{
+    let Some((kind, rest)) = join_words(symbols) else {
+        return Ok((None, symbols));
+    };
+    let (source, rest) = read_source(alloc, rest)?;
+    let rest = key(Keyword::On, rest)?;
+    let (on, rest) = read_expression(alloc, rest)?;
+    Ok((Some(JoinText { kind, source, on }), rest))
+}
+
+pub(crate) fn read_filter(
+    alloc: Global,
+    symbols: &[Symbol],
+) -> Result<(Option<Expr>, &[Symbol]), ReadError>
+    ensures found { IfOk result (λ x. Spells (filter x.0) symbols.now x.1.now) }
+    ensures only { (f : Option Tree) (rest : List OneSymbol) → Spells (filter f) symbols.now rest → BeginsFrom 4 rest
+        → Gives with_rest result (Some (f, rest)) }
+{
+    let Some(rest) = behind_key(Keyword::Where, symbols) else {
+        return Ok((None, symbols));
+    };
+    let (condition, rest) = read_expression(alloc, rest)?;
+    Ok((Some(condition), rest))
+}
+
+pub(crate) fn read_group(
+    alloc: Global,
+    symbols: &[Symbol],
+) -> Result<(ExprTexts, &[Symbol]), ReadError>
+    ensures found { IfOk result (λ x. Spells (group x.0) symbols.now x.1.now) }
+    ensures only { (g : List Tree) (rest : List OneSymbol) → Spells (group g) symbols.now rest → BeginsFrom 5 rest
+        → Gives with_rest result (Some (g, rest)) }
+{
+    match behind_by(Keyword::Group, symbols) {
+        Some(rest) => read_expressions(alloc, rest),
+        None => Ok((Items::of(Vec::new(alloc)), symbols)),
+    }
+}
+
+pub(crate) fn read_partition(
+    alloc: Global,
+    symbols: &[Symbol],
+) -> Result<(Option<Expr>, &[Symbol]), ReadError>
+    ensures found { IfOk result (λ x. Spells (partition x.0) symbols.now x.1.now) }
+    ensures only { (p : Option Tree) (rest : List OneSymbol) → Spells (partition p) symbols.now rest → BeginsFrom 6 rest
+        → Gives with_rest result (Some (p, rest)) }
+{
+    let Some(rest) = behind_by(Keyword::Partition, symbols) else {
+        return Ok((None, symbols));
+    };
+    let (column, rest) = read_expression(alloc, rest)?;
+    Ok((Some(column), rest))
+}
+
+pub(crate) fn read_having(
+    alloc: Global,
+    symbols: &[Symbol],
+) -> Result<(Option<Expr>, &[Symbol]), ReadError>
+    ensures found { IfOk result (λ x. Spells (having x.0) symbols.now x.1.now) }
+    ensures only { (h : Option Tree) (rest : List OneSymbol) → Spells (having h) symbols.now rest → BeginsFrom 7 rest
+        → Gives with_rest result (Some (h, rest)) }
+{
+    let Some(rest) = behind_key(Keyword::Having, symbols) else {
+        return Ok((None, symbols));
+    };
+    let (condition, rest) = read_expression(alloc, rest)?;
+    Ok((Some(condition), rest))
+}
+
+#[tactic(auto, unfolding(crate::specs::Statements::behind_changes))]
+fn behind_changes(symbols: &[Symbol]) -> Option<&[Symbol]>
+    ensures { option_copied result ≡ part.behind_changes symbols.now }
+{
+    let rest = behind_key(Keyword::Emit, symbols)?;
+    behind_word("CHANGES", rest)
+}
+
+/// The symbols behind EMIT CHANGES, where it is there.
+#[tactic(auto, unfolding(crate::specs::Statements::emit))]
+pub(crate) fn behind_emit(symbols: &[Symbol]) -> &[Symbol]
+    ensures { result.now ≡ part.emit symbols.now }
+{
+    match behind_changes(symbols) {
+        Some(rest) => rest,
+        None => symbols,
+    }
+}

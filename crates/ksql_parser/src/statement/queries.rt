@@ -1,0 +1,102 @@
+//! SELECT and what stands behind it.
+
+ghost use Rattle.std.specs.Prelude.{◌≡◌, List, [], ◌∷◌, Some, IfOk, option_map};
+ghost use Rattle.ksql_grammar.specs.declared.symbol.Keyword.TheVariants as key;
+ghost use Rattle.ksql_grammar.specs.declared.symbol.Symbol.{Symbol as OneSymbol};
+ghost use Rattle.ksql_grammar.specs.declared.symbol.Symbol.TheVariants.{Key};
+ghost use Rattle.ksql_grammar.specs.declared.tree.Select.{Select as OneSelect};
+ghost use Rattle.ksql_grammar.specs.declared.tree.SelectItem.{SelectItem as OneItem};
+ghost use Rattle.ksql_grammar.specs.Grammar.{Spells, select, items, item};
+ghost use Rattle.ksql_grammar.specs.Reading.{Gives, with_rest};
+ghost use Rattle.ksql_parser.specs.Statements.{EndsItem, lent};
+ghost use Rattle.ksql_parser.specs.Statements as part;
+
+use crate::statement::clauses::{
+    behind_emit, read_filter, read_group, read_having, read_join, read_partition, read_source,
+};
+use crate::statement::step::{alias, behind_name, key};
+use crate::statement::windows::read_window;
+use ksql_grammar::{
+    Keyword, ReadError, Select, SelectItem, SelectItems, Symbol, behind_sign, read_expression,
+};
+use ksql_lexer::Mark;
+use ksql_types::{Chars, CopyOf, Items};
+use std::alloc::Global;
+
+/// The name before `. *`, and the symbols behind.
+#[tactic(auto, unfolding(crate::specs::Statements::star_of))]
+fn behind_star_of(symbols: &[Symbol]) -> Option<(&Chars, &[Symbol])>
+    ensures { option_map lent result ≡ part.star_of symbols.now }
+{
+    let (name, rest) = behind_name(symbols)?;
+    let rest = behind_sign(Mark::Dot, rest)?;
+    let rest = behind_sign(Mark::Star, rest)?;
+    Some((name, rest))
+}
+
+/// An item: all columns, those of a source, or an expression and its alias.
+fn read_item(alloc: Global, symbols: &[Symbol]) -> Result<(SelectItem, &[Symbol]), ReadError>
+    ensures found { IfOk result (λ x. Spells (item x.0) symbols.now x.1.now) }
+    ensures only { (i : OneItem) (rest : List OneSymbol) → Spells (item i) symbols.now rest → EndsItem rest
+        → Gives with_rest result (Some (i, rest)) }
+{
+    if let Some(rest) = behind_sign(Mark::Star, symbols) {
+        return Ok((SelectItem::Star, rest));
+    }
+    if let Some((name, rest)) = behind_star_of(symbols) {
+        return Ok((SelectItem::StarOf(name.copy(alloc)?), rest));
+    }
+    let (expr, rest) = read_expression(alloc, symbols)?;
+    let (alias, rest) = alias(alloc, rest)?;
+    Ok((SelectItem::One { expr, alias }, rest))
+}
+
+/// One or more items with commas between them.
+fn read_items(alloc: Global, symbols: &[Symbol]) -> Result<(SelectItems, &[Symbol]), ReadError>
+    ensures found { IfOk result (λ x. Spells (items x.0) symbols.now x.1.now) }
+    ensures only { (is : List OneItem) (rest : List OneSymbol) → Spells (items is) symbols.now (Key key.From ∷ rest)
+        → Gives with_rest result (Some (is, Key key.From ∷ rest)) }
+{
+    let mut items = Vec::new(alloc);
+    let mut rest = symbols;
+    loop {
+        let (item, behind) = read_item(alloc, rest)?;
+        items.push(item)?;
+        match behind_sign(Mark::Comma, behind) {
+            Some(after) => rest = after,
+            None => return Ok((Items::of(items), behind)),
+        }
+    }
+}
+
+/// A query, which ends where nothing more stands.
+pub(crate) fn read_select(
+    alloc: Global,
+    symbols: &[Symbol],
+) -> Result<(Select, &[Symbol]), ReadError>
+    ensures found { IfOk result (λ x. Spells (select x.0) symbols.now x.1.now) }
+    ensures only { (q : OneSelect) → Spells (select q) symbols.now [] → Gives with_rest result (Some (q, [])) }
+{
+    let rest = key(Keyword::Select, symbols)?;
+    let (items, rest) = read_items(alloc, rest)?;
+    let rest = key(Keyword::From, rest)?;
+    let (source, rest) = read_source(alloc, rest)?;
+    let (join, rest) = read_join(alloc, rest)?;
+    let (window, rest) = read_window(rest)?;
+    let (filter, rest) = read_filter(alloc, rest)?;
+    let (group, rest) = read_group(alloc, rest)?;
+    let (partition, rest) = read_partition(alloc, rest)?;
+    let (having, rest) = read_having(alloc, rest)?;
+    let rest = behind_emit(rest);
+    let select = Select {
+        items,
+        source,
+        join,
+        window,
+        filter,
+        group,
+        partition,
+        having,
+    };
+    Ok((select, rest))
+}

@@ -1,0 +1,119 @@
+//! What is read from the front of some symbols without an expression: names, words and aliases.
+
+ghost use Rattle.std.specs.Prelude.{◌≡◌, Some, None, option_map};
+ghost use Rattle.std.specs.Option.{option_copied};
+ghost use Rattle.ksql_grammar.specs.Symbols.{name_of as named, type_of as typed};
+ghost use Rattle.ksql_grammar.specs.Reading.{Gives, with_rest};
+ghost use Rattle.ksql_grammar.specs.Expressions as read;
+ghost use Rattle.ksql_parser.specs.Statements as part;
+
+use ksql_grammar::{Keyword, ReadError, Symbol, behind_key, behind_sign, name_of, type_of};
+use ksql_lexer::Mark;
+use ksql_types::{Chars, CopyOf, SqlType};
+use std::alloc::Global;
+
+/// The symbols behind this reserved word, which has to stand there.
+pub(crate) fn key(key: Keyword, symbols: &[Symbol]) -> Result<&[Symbol], ReadError>
+    ensures { Gives (λ rest. rest.now) result (read.behind_key key symbols.now) }
+{
+    behind_key(key, symbols).ok_or(ReadError::Unspelled)
+}
+
+/// The symbols behind this sign, which has to stand there.
+pub(crate) fn sign(sign: Mark, symbols: &[Symbol]) -> Result<&[Symbol], ReadError>
+    ensures { Gives (λ rest. rest.now) result (read.behind_sign sign symbols.now) }
+{
+    behind_sign(sign, symbols).ok_or(ReadError::Unspelled)
+}
+
+/// The symbols behind this word.
+#[tactic(auto, unfolding(crate::specs::Statements::behind_word))]
+pub(crate) fn behind_word<'a>(word: &str, symbols: &'a [Symbol]) -> Option<&'a [Symbol]>
+    ensures { option_copied result ≡ part.behind_word word.now symbols.now }
+{
+    match symbols {
+        [Symbol::Word(found), rest @ ..] if found.items() == word => Some(rest),
+        _ => None,
+    }
+}
+
+/// The symbols behind these two words.
+#[tactic(auto, unfolding(crate::specs::Statements::behind_words))]
+pub(crate) fn behind_words<'a>(
+    word: &str,
+    next: &str,
+    symbols: &'a [Symbol],
+) -> Option<&'a [Symbol]>
+    ensures { option_copied result ≡ part.behind_words word.now next.now symbols.now }
+{
+    let rest = behind_word(word, symbols)?;
+    behind_word(next, rest)
+}
+
+/// The symbols behind this reserved word and BY.
+#[tactic(auto, unfolding(crate::specs::Statements::behind_by))]
+pub(crate) fn behind_by(key: Keyword, symbols: &[Symbol]) -> Option<&[Symbol]>
+    ensures { option_copied result ≡ part.behind_by key symbols.now }
+{
+    let rest = behind_key(key, symbols)?;
+    behind_key(Keyword::By, rest)
+}
+
+/// The symbols behind this word, which has to stand there.
+pub(crate) fn word<'a>(word: &str, symbols: &'a [Symbol]) -> Result<&'a [Symbol], ReadError>
+    ensures { Gives (λ rest. rest.now) result (part.behind_word word.now symbols.now) }
+{
+    behind_word(word, symbols).ok_or(ReadError::Unspelled)
+}
+
+/// A name, and the symbols behind it.
+#[tactic(auto, unfolding(ksql_grammar::specs::Expressions::first))]
+pub(crate) fn behind_name(symbols: &[Symbol]) -> Option<(&Chars, &[Symbol])>
+    ensures { option_map part.lent result ≡ read.first named symbols.now }
+{
+    let (symbol, rest) = symbols.split_first()?;
+    Some((name_of(symbol)?, rest))
+}
+
+/// A name, which has to stand there, and the symbols behind it.
+pub(crate) fn name(symbols: &[Symbol]) -> Result<(&Chars, &[Symbol]), ReadError>
+    ensures { Gives part.lent result (read.first named symbols.now) }
+{
+    behind_name(symbols).ok_or(ReadError::Unspelled)
+}
+
+/// A type, and the symbols behind it.
+#[tactic(auto, unfolding(ksql_grammar::specs::Expressions::first))]
+pub(crate) fn sql_type(symbols: &[Symbol]) -> Result<(SqlType, &[Symbol]), ReadError>
+    ensures { Gives with_rest result (read.first typed symbols.now) }
+{
+    let (symbol, rest) = symbols.split_first().ok_or(ReadError::Unspelled)?;
+    let ty = type_of(symbol).ok_or(ReadError::Unspelled)?;
+    Ok((ty, rest))
+}
+
+/// The name behind AS, and the symbols behind it.
+#[tactic(auto, unfolding(crate::specs::Statements::behind_as))]
+fn behind_as(symbols: &[Symbol]) -> Option<(&Chars, &[Symbol])>
+    ensures { option_map part.lent result ≡ part.behind_as symbols.now }
+{
+    let rest = behind_key(Keyword::As, symbols)?;
+    behind_name(rest)
+}
+
+/// An alias, where there is one, and the symbols behind it.
+#[tactic(auto, unfolding(crate::specs::Statements::alias))]
+pub(crate) fn alias(
+    alloc: Global,
+    symbols: &[Symbol],
+) -> Result<(Option<Chars>, &[Symbol]), ReadError>
+    ensures { Gives with_rest result (part.alias symbols.now) }
+{
+    if let Some((name, rest)) = behind_as(symbols) {
+        return Ok((Some(name.copy(alloc)?), rest));
+    }
+    if let Some((name, rest)) = behind_name(symbols) {
+        return Ok((Some(name.copy(alloc)?), rest));
+    }
+    Ok((None, symbols))
+}

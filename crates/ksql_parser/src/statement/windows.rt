@@ -1,0 +1,199 @@
+//! WINDOW and what stands behind it.
+
+ghost use Rattle.std.specs.Prelude.{◌≡◌};
+ghost use Rattle.std.specs.Option.{option_copied};
+ghost use Rattle.ksql_grammar.specs.Symbols as spec;
+ghost use Rattle.ksql_grammar.specs.Reading.{Gives, with_rest};
+ghost use Rattle.ksql_grammar.specs.Expressions as read;
+ghost use Rattle.ksql_parser.specs.Statements as part;
+
+use crate::statement::step::{behind_word, behind_words, key, sign, word};
+use ksql_grammar::{
+    Keyword, ReadError, SpanText, Symbol, Unit, WindowText, behind_key, behind_sign,
+};
+use ksql_lexer::Mark;
+
+/// The unit of time that a word is.
+fn unit_named(word: &str) -> Option<Unit>
+    ensures { result ≡ spec.beside spec.unit_words word.now }
+{
+    match word {
+        "DAY" | "DAYS" => Some(Unit::Day),
+        "HOUR" | "HOURS" => Some(Unit::Hour),
+        "MINUTE" | "MINUTES" => Some(Unit::Minute),
+        "SECOND" | "SECONDS" => Some(Unit::Second),
+        "MILLISECOND" | "MILLISECONDS" => Some(Unit::Millisecond),
+        _ => None,
+    }
+}
+
+/// The unit of time that a symbol is.
+fn unit_of(symbol: &Symbol) -> Option<Unit>
+    ensures { result ≡ spec.unit_of symbol.now }
+{
+    match symbol {
+        Symbol::Word(word) => unit_named(word.items()),
+        _ => None,
+    }
+}
+
+/// A unit of time, and the symbols behind it.
+#[tactic(auto, unfolding(ksql_grammar::specs::Expressions::first))]
+fn unit(symbols: &[Symbol]) -> Result<(Unit, &[Symbol]), ReadError>
+    ensures { Gives with_rest result (read.first spec.unit_of symbols.now) }
+{
+    let (symbol, rest) = symbols.split_first().ok_or(ReadError::Unspelled)?;
+    let unit = unit_of(symbol).ok_or(ReadError::Unspelled)?;
+    Ok((unit, rest))
+}
+
+/// A number, and the symbols behind it.
+#[tactic(auto, unfolding(ksql_grammar::specs::Expressions::first))]
+fn digits(symbols: &[Symbol]) -> Result<(u64, &[Symbol]), ReadError>
+    ensures { Gives with_rest result (read.first part.digits_of symbols.now) }
+{
+    match symbols {
+        [Symbol::Number(number), rest @ ..] => Ok((*number, rest)),
+        _ => Err(ReadError::Unspelled),
+    }
+}
+
+/// A span of time, and the symbols behind it.
+#[tactic(auto, unfolding(crate::specs::Statements::span))]
+fn span(symbols: &[Symbol]) -> Result<(SpanText, &[Symbol]), ReadError>
+    ensures { Gives with_rest result (part.span symbols.now) }
+{
+    let (digits, rest) = digits(symbols)?;
+    let (unit, rest) = unit(rest)?;
+    Ok((SpanText { digits, unit }, rest))
+}
+
+#[tactic(auto, unfolding(crate::specs::Statements::behind_retention))]
+fn behind_retention(symbols: &[Symbol]) -> Option<&[Symbol]>
+    ensures { option_copied result ≡ part.behind_retention symbols.now }
+{
+    let rest = behind_sign(Mark::Comma, symbols)?;
+    behind_word("RETENTION", rest)
+}
+
+#[tactic(auto, unfolding(crate::specs::Statements::behind_grace))]
+fn behind_grace(symbols: &[Symbol]) -> Option<&[Symbol]>
+    ensures { option_copied result ≡ part.behind_grace symbols.now }
+{
+    let rest = behind_sign(Mark::Comma, symbols)?;
+    behind_words("GRACE", "PERIOD", rest)
+}
+
+/// The retention, where there is one.
+fn retention(symbols: &[Symbol]) -> Result<(Option<SpanText>, &[Symbol]), ReadError>
+    ensures { Gives with_rest result (part.span_at symbols.now (part.behind_retention symbols.now)) }
+{
+    let Some(rest) = behind_retention(symbols) else {
+        return Ok((None, symbols));
+    };
+    let (span, rest) = span(rest)?;
+    Ok((Some(span), rest))
+}
+
+/// The grace period, where there is one.
+fn grace(symbols: &[Symbol]) -> Result<(Option<SpanText>, &[Symbol]), ReadError>
+    ensures { Gives with_rest result (part.span_at symbols.now (part.behind_grace symbols.now)) }
+{
+    let Some(rest) = behind_grace(symbols) else {
+        return Ok((None, symbols));
+    };
+    let (span, rest) = span(rest)?;
+    Ok((Some(span), rest))
+}
+
+/// The retention and the grace period, and then `)`.
+#[tactic(auto, unfolding(crate::specs::Statements::limits))]
+fn limits(
+    symbols: &[Symbol],
+) -> Result<((Option<SpanText>, Option<SpanText>), &[Symbol]), ReadError>
+    ensures { Gives with_rest result (part.limits symbols.now) }
+{
+    let (retention, rest) = retention(symbols)?;
+    let (grace, rest) = grace(rest)?;
+    let rest = sign(Mark::Close, rest)?;
+    Ok(((retention, grace), rest))
+}
+
+/// `(` and the size of a window.
+#[tactic(auto, unfolding(crate::specs::Statements::size))]
+fn size(symbols: &[Symbol]) -> Result<(SpanText, &[Symbol]), ReadError>
+    ensures { Gives with_rest result (part.size symbols.now) }
+{
+    let rest = sign(Mark::Open, symbols)?;
+    let rest = word("SIZE", rest)?;
+    span(rest)
+}
+
+/// A comma and the advance of a window.
+#[tactic(auto, unfolding(crate::specs::Statements::advance))]
+fn advance(symbols: &[Symbol]) -> Result<(SpanText, &[Symbol]), ReadError>
+    ensures { Gives with_rest result (part.advance symbols.now) }
+{
+    let rest = sign(Mark::Comma, symbols)?;
+    let rest = word("ADVANCE", rest)?;
+    let rest = key(Keyword::By, rest)?;
+    span(rest)
+}
+
+#[tactic(auto, unfolding(crate::specs::Statements::tumbling))]
+fn tumbling(symbols: &[Symbol]) -> Result<(WindowText, &[Symbol]), ReadError>
+    ensures { Gives with_rest result (part.tumbling symbols.now) }
+{
+    let (size, rest) = size(symbols)?;
+    let ((retention, grace), rest) = limits(rest)?;
+    let window = WindowText::Tumbling {
+        size,
+        retention,
+        grace,
+    };
+    Ok((window, rest))
+}
+
+#[tactic(auto, unfolding(crate::specs::Statements::hopping))]
+fn hopping(symbols: &[Symbol]) -> Result<(WindowText, &[Symbol]), ReadError>
+    ensures { Gives with_rest result (part.hopping symbols.now) }
+{
+    let (size, rest) = size(symbols)?;
+    let (advance, rest) = advance(rest)?;
+    let ((retention, grace), rest) = limits(rest)?;
+    let window = WindowText::Hopping {
+        size,
+        advance,
+        retention,
+        grace,
+    };
+    Ok((window, rest))
+}
+
+/// What stands behind WINDOW.
+#[tactic(auto, unfolding(crate::specs::Statements::window))]
+fn window(symbols: &[Symbol]) -> Result<(WindowText, &[Symbol]), ReadError>
+    ensures { Gives with_rest result (part.window symbols.now) }
+{
+    if let Some(rest) = behind_word("TUMBLING", symbols) {
+        return tumbling(rest);
+    }
+    match behind_word("HOPPING", symbols) {
+        Some(rest) => hopping(rest),
+        None => Err(ReadError::Unspelled),
+    }
+}
+
+/// The window of a query, where there is one.
+#[tactic(auto, unfolding(crate::specs::Statements::windowed))]
+pub(crate) fn read_window(
+    symbols: &[Symbol],
+) -> Result<(Option<WindowText>, &[Symbol]), ReadError>
+    ensures { Gives with_rest result (part.windowed symbols.now) }
+{
+    let Some(rest) = behind_key(Keyword::Window, symbols) else {
+        return Ok((None, symbols));
+    };
+    let (window, rest) = window(rest)?;
+    Ok((Some(window), rest))
+}
