@@ -3,5 +3,3 @@ pub mod Grammar
 pub mod Reading
 pub mod Expressions
 pub mod Nests
-pub mod Limits
-pub mod Script

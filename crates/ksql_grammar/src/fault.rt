@@ -1,58 +1,5 @@
 use std::alloc::{AllocError, AllocFailed};
 
-/// Why a script is refused. Their numbers are S1 to S16, in this order.
-#[derive(Clone, Copy, Debug, PartialEq, Eq)]
-pub enum Code {
-    Syntax,
-    TooLarge,
-    UnknownRelation,
-    NameTaken,
-    UnknownColumn,
-    AmbiguousColumn,
-    DuplicateColumn,
-    TypeMismatch,
-    WrongKind,
-    KeyMissing,
-    JoinNotOnKey,
-    PartitionMismatch,
-    AggregateMisuse,
-    BadWindow,
-    Unsupported,
-    BadProperty,
-}
-
-/// Why tokens have no trees.
-#[derive(Clone, Copy, Debug, PartialEq, Eq)]
-pub enum ParseFault {
-    /// The first statement that a rule refuses, by its number from 1, and the code of its first rule: `Syntax`,
-    /// `TooLarge` or `Unsupported`.
-    Refused { statement: u32, code: Code },
-    /// Want of memory.
-    OutOfMemory,
-}
-
-impl From<AllocError> for ParseFault {
-    ghost use Rattle.std.specs.Prelude.{◌≡◌};
-    ghost use Rattle.ksql_grammar.specs.declared.fault.ParseFault.TheVariants.{OutOfMemory};
-
-    ghost from_gives = { λ _ e. e ≡ OutOfMemory };
-
-    fn from(_error: AllocError) -> ParseFault {
-        ParseFault::OutOfMemory
-    }
-}
-
-impl<T: Drop> From<AllocFailed<T>> for ParseFault {
-    ghost use Rattle.std.specs.Prelude.{◌≡◌};
-    ghost use Rattle.ksql_grammar.specs.declared.fault.ParseFault.TheVariants.{OutOfMemory};
-
-    ghost from_gives = { λ _ e. e ≡ OutOfMemory };
-
-    fn from(_error: AllocFailed<T>) -> ParseFault {
-        ParseFault::OutOfMemory
-    }
-}
-
 /// Why nothing was read from the front of some symbols.
 #[derive(Clone, Copy, Debug, PartialEq, Eq)]
 pub enum ReadError {
