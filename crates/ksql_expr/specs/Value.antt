@@ -1,0 +1,316 @@
+-- What an expression is worth on a row (ksqlDB reference manual, "Operators" and "Scalar functions"): one equation for
+-- each form. Whole numbers are computed exactly and then brought into their type's range in two's complement.
+use Rattle.std.specs.Prelude.{ℕ, ◌+◌, ◌-◌, ◌^◌, zero, suc, Bool, true, false, not, ◌&&◌, ◌||◌, ◌==◌, nat_le, nat_lt, if◌then◌else◌, List, [], ◌∷◌, ◌++◌, length, take, drop, reverse, map, codes, bytes_eq, Option, Some, None, is_some, unwrap_or, option_map, option_and_then, slice_get, ℤ, pos, negsuc, neg_ℤ, ◌+ℤ◌, ◌-ℤ◌, ◌*ℤ◌, int_lt, int_div, int_rem}
+use Rattle.std.specs.List.{list_any, list_all, flat_map}
+use Rattle.std.specs.Int.{w32, w64, int_wrap}
+use Rattle.std.specs.Char.{is_ascii_digit}
+use Rattle.std.specs.Fmt.{signed_decimal}
+use Rattle.std.specs.Str.{chars, encode_utf8_all, str_to_ascii_uppercase, str_to_ascii_lowercase}
+use Rattle.std.specs.Str.Parse.{signed_digits_value, without_leading_sign}
+use Rattle.std.specs.declared.cmp.Ordering.{Ordering}
+use Rattle.std.specs.declared.cmp.Ordering.TheVariants.{Less, Equal, Greater}
+use Rattle.std.specs.Ordering.{nat_cmp, is_lt, is_le, is_gt, is_ge, is_eq, is_ne}
+use Rattle.std.specs.Cmp.Lexicographic.{slice_cmp}
+use Rattle.ksql_types.specs.declared.operator.BinaryOp.{BinaryOp}
+use Rattle.ksql_types.specs.declared.operator.BinaryOp.TheVariants as op
+use Rattle.ksql_types.specs.declared.value.SqlType.{SqlType}
+use Rattle.ksql_types.specs.declared.value.SqlType.TheVariants as sql
+use Rattle.ksql_types.specs.declared.value.Value.{Value}
+use Rattle.ksql_types.specs.declared.value.Value.TheVariants.{Null, Int, Big, Txt}
+use Rattle.ksql_types.specs.declared.value.Value.TheVariants as value
+use Rattle.ksql_types.specs.Key.{is_null}
+use Rattle.ksql_expr.specs.declared.typed.Fun.{Fun}
+use Rattle.ksql_expr.specs.declared.typed.Fun.TheVariants.{Abs, Len, Concat, Substring, Trim, Ucase, Lcase, Coalesce, IfNull, NullIf}
+use Rattle.ksql_expr.specs.declared.typed.Typed.{Typed, fold-Typed}
+use Rattle.ksql_expr.specs.declared.typed.TypedNode.TheOpen.{TypedNode-F}
+
+-- ---- numbers
+
+-- the whole number that a value is
+abbrev pub whole : Value → Option ℤ
+whole (Int n) = Some n
+whole (Big n) = Some n
+whole _ = None
+
+-- a whole number in a type, brought into its range in two's complement
+abbrev pub number : Option SqlType → ℤ → Value
+number (Some sql.Int) z = Int (int_wrap w32 z)
+number (Some sql.Big) z = Big (int_wrap w64 z)
+number _ z = Null
+
+-- a number made of one other; NULL of NULL
+abbrev pub from_one : Option SqlType → (ℤ → ℤ) → Value → Value
+from_one t f a = unwrap_or (option_map (λ x. number t (f x)) (whole a)) Null
+
+-- a number made of two others; NULL where one of them is NULL, or where they give none
+abbrev pub from_two : Option SqlType → (ℤ → ℤ → Option ℤ) → Value → Value → Value
+from_two t f a b = unwrap_or (option_map (number t) (option_and_then (λ x. option_and_then (f x) (whole b)) (whole a))) Null
+
+abbrev pub sum : ℤ → ℤ → Option ℤ
+sum x y = Some (x +ℤ y)
+
+abbrev pub difference : ℤ → ℤ → Option ℤ
+difference x y = Some (x -ℤ y)
+
+abbrev pub product : ℤ → ℤ → Option ℤ
+product x y = Some (x *ℤ y)
+
+-- toward zero; none by zero
+abbrev pub quotient : ℤ → ℤ → Option ℤ
+quotient x (pos zero) = None
+quotient x y = Some (int_div x y)
+
+-- with the sign of the left; none by zero
+abbrev pub remainder : ℤ → ℤ → Option ℤ
+remainder x (pos zero) = None
+remainder x y = Some (int_rem x y)
+
+-- without its sign
+abbrev pub magnitude : ℤ → ℤ
+magnitude (pos n) = pos n
+magnitude (negsuc n) = pos (suc n)
+
+-- ---- texts
+
+-- the most bytes of a text that is a value
+unfoldable pub longest_value : ℕ
+longest_value = 65536
+
+-- a text, or NULL where it is too long
+abbrev pub text : List ℕ → Value
+text t = if nat_le (length t) longest_value then Txt t else Null
+
+-- two texts joined; NULL where one of them is NULL
+abbrev pub joined : Value → Value → Value
+joined (Txt a) (Txt b) = text (a ++ b)
+joined _ _ = Null
+
+-- the bytes of a text; none of NULL
+abbrev pub bytes_of : Value → List ℕ
+bytes_of (Txt t) = t
+bytes_of _ = []
+
+-- the index of the character at a position: from 1 on from the front, negative ones from the end; 0, and a position
+-- before the first character, mean the first
+abbrev pub index_of : ℕ → ℤ → ℕ
+index_of count (pos zero) = 0
+index_of count (pos (suc before)) = before
+index_of count (negsuc behind) = count - suc behind
+
+-- at most so many characters; all of them where no length is said
+abbrev pub at_most : Option ℤ → List ℕ → List ℕ
+at_most None cs = cs
+at_most (Some (pos n)) cs = take n cs
+at_most (Some (negsuc n)) cs = []
+
+-- the characters of a text from a position on
+abbrev pub part_of : List ℕ → ℤ → Option ℤ → List ℕ
+part_of t at len = encode_utf8_all (at_most len (drop (index_of (length (chars t)) at) (chars t)))
+
+-- SUBSTRING without a length, and with one; NULL where an operand is NULL
+abbrev pub tail_of : Value → Value → Value
+tail_of (Txt t) at = unwrap_or (option_map (λ p. Txt (part_of t p None)) (whole at)) Null
+tail_of _ at = Null
+
+abbrev pub middle_of : Value → Value → Value → Value
+middle_of (Txt t) at len = unwrap_or (option_and_then (λ p. option_map (λ n. Txt (part_of t p (Some n))) (whole len)) (whole at)) Null
+middle_of _ at len = Null
+
+-- without the spaces in front
+abbrev pub behind_spaces : List ℕ → List ℕ
+behind_spaces [] = []
+behind_spaces (c ∷ cs) = if c == 32 then behind_spaces cs else c ∷ cs
+
+-- without the spaces at both ends
+abbrev pub trimmed : List ℕ → List ℕ
+trimmed t = reverse (behind_spaces (reverse (behind_spaces t)))
+
+-- a text made of one other; NULL of NULL
+abbrev pub from_text : (List ℕ → Value) → Value → Value
+from_text f (Txt t) = f t
+from_text f _ = Null
+
+-- whether a test holds of the characters, or of what is left of them behind some
+abbrev pub some_tail : (List ℕ → Bool) → List ℕ → Bool
+some_tail test [] = test []
+some_tail test (c ∷ cs) = test (c ∷ cs) || some_tail test cs
+
+-- whether there is a first character that passes, and the others pass too
+abbrev pub first_and_rest : (ℕ → Bool) → (List ℕ → Bool) → List ℕ → Bool
+first_and_rest first rest [] = false
+first_and_rest first rest (c ∷ cs) = first c && rest cs
+
+-- whether characters are like a pattern, in which `%` stands for any characters and `_` for one
+abbrev pub is_like : List ℕ → List ℕ → Bool
+is_like [] cs = length cs == 0
+is_like (p ∷ ps) cs = if p == 37 then some_tail (is_like ps) cs else first_and_rest (λ c. (p == 95) || (c == p)) (is_like ps) cs
+
+-- whether a value is like a pattern; not where it is NULL
+abbrev pub is_value_like : List ℕ → Value → Bool
+is_value_like pattern (Txt t) = is_like (chars pattern) (chars t)
+is_value_like pattern _ = false
+
+-- ---- truth
+
+-- whether a value is TRUE
+abbrev pub is_true_value : Value → Bool
+is_true_value (value.Bool truth) = truth
+is_true_value _ = false
+
+-- how two whole numbers compare
+abbrev pub int_order : ℤ → ℤ → Ordering
+int_order x y = if int_lt x y then Less else if int_lt y x then Greater else Equal
+
+-- false before true
+abbrev pub truth_order : Bool → Bool → Ordering
+truth_order false true = Less
+truth_order true false = Greater
+truth_order _ _ = Equal
+
+-- how two values compare: numbers by value and texts by bytes; not at all where one of them is NULL
+abbrev pub value_order : Value → Value → Option Ordering
+value_order (Int x) (Int y) = Some (int_order x y)
+value_order (Int x) (Big y) = Some (int_order x y)
+value_order (Big x) (Int y) = Some (int_order x y)
+value_order (Big x) (Big y) = Some (int_order x y)
+value_order (Txt x) (Txt y) = Some (slice_cmp nat_cmp x y)
+value_order (value.Bool x) (value.Bool y) = Some (truth_order x y)
+value_order _ _ = None
+
+-- whether two values compare so; never where one of them is NULL
+abbrev pub compare_so : (Ordering → Bool) → Value → Value → Bool
+compare_so test a b = unwrap_or (option_map test (value_order a b)) false
+
+-- with NOT, where it is written
+abbrev pub with_not : Bool → Bool → Value
+with_not negated truth = value.Bool (if negated then not truth else truth)
+
+-- ---- forms
+
+-- the cell of a column; NULL where the row has no such column
+abbrev pub cell : List Value → ℕ → Value
+cell row column = unwrap_or (slice_get row column) Null
+
+-- an operator between two values, in the type of the whole; `+` joins texts
+abbrev pub applied : Option SqlType → BinaryOp → Value → Value → Value
+applied t op.Or a b = value.Bool (is_true_value a || is_true_value b)
+applied t op.And a b = value.Bool (is_true_value a && is_true_value b)
+applied t op.Eq a b = value.Bool (compare_so is_eq a b)
+applied t op.Ne a b = value.Bool (compare_so is_ne a b)
+applied t op.Lt a b = value.Bool (compare_so is_lt a b)
+applied t op.Le a b = value.Bool (compare_so is_le a b)
+applied t op.Gt a b = value.Bool (compare_so is_gt a b)
+applied t op.Ge a b = value.Bool (compare_so is_ge a b)
+applied (Some sql.Text) op.Add a b = joined a b
+applied t op.Add a b = from_two t sum a b
+applied t op.Sub a b = from_two t difference a b
+applied t op.Concat a b = joined a b
+applied t op.Mul a b = from_two t product a b
+applied t op.Div a b = from_two t quotient a b
+applied t op.Rem a b = from_two t remainder a b
+
+-- a sign before a number
+abbrev pub signed : Option SqlType → Bool → Value → Value
+signed t true x = from_one t neg_ℤ x
+signed t false x = x
+
+-- a value in BIGINT, where the whole is
+abbrev pub widened : Option SqlType → Value → Value
+widened (Some sql.Big) (Int n) = Big n
+widened t x = x
+
+-- a whole number in a type, or NULL where it is out of range
+abbrev pub is_below : ℕ → ℤ → Bool
+is_below limit (pos n) = nat_lt n limit
+is_below limit (negsuc n) = nat_lt n limit
+
+abbrev pub fitting : SqlType → ℤ → Value
+fitting sql.Int z = if is_below (2 ^ 31) z then Int z else Null
+fitting sql.Big z = if is_below (2 ^ 63) z then Big z else Null
+fitting t z = Null
+
+-- whether a text is an optional sign and digits
+abbrev pub are_digits : List ℕ → Bool
+are_digits ds = nat_lt 0 (length ds) && list_all is_ascii_digit ds
+
+-- CAST to a number: of a number, and of a text that is an optional sign and digits
+abbrev pub cast_number : SqlType → Value → Value
+cast_number to (Int n) = fitting to n
+cast_number to (Big n) = fitting to n
+cast_number to (Txt t) = if are_digits (without_leading_sign t) then fitting to (signed_digits_value 10 t) else Null
+cast_number to _ = Null
+
+-- CAST to VARCHAR: decimal text, `true` or `false`
+abbrev pub truth_text : Bool → List ℕ
+truth_text true = codes "true"
+truth_text false = codes "false"
+
+abbrev pub cast_text : Value → Value
+cast_text (Int n) = Txt (signed_decimal n)
+cast_text (Big n) = Txt (signed_decimal n)
+cast_text (Txt t) = Txt t
+cast_text (value.Bool b) = Txt (truth_text b)
+cast_text Null = Null
+
+-- CAST to BOOLEAN: `true` in any case gives TRUE
+abbrev pub cast_truth : Value → Value
+cast_truth (Txt t) = value.Bool (bytes_eq (str_to_ascii_lowercase t) (codes "true"))
+cast_truth (value.Bool b) = value.Bool b
+cast_truth _ = Null
+
+abbrev pub cast : SqlType → Value → Value
+cast sql.Int x = cast_number sql.Int x
+cast sql.Big x = cast_number sql.Big x
+cast sql.Text x = cast_text x
+cast sql.Bool x = cast_truth x
+
+-- whether a WHEN is taken: its condition is TRUE, or equals the operand
+abbrev pub is_taken : Option Value → Value → Bool
+is_taken None cond = is_true_value cond
+is_taken (Some operand) cond = compare_so is_eq operand cond
+
+-- the result of the first WHEN that is taken, else that of ELSE, else NULL
+abbrev pub chosen : Option Value → List (Value × Value) → Option Value → Value
+chosen operand [] otherwise = unwrap_or otherwise Null
+chosen operand (w ∷ ws) otherwise = if is_taken operand w.0 then w.1 else chosen operand ws otherwise
+
+-- the first value that isn't NULL
+abbrev pub first_value : List Value → Value
+first_value [] = Null
+first_value (x ∷ xs) = if is_null x then first_value xs else x
+
+-- a function of values, in the type of the whole
+abbrev pub fun_value : Option SqlType → Fun → List Value → Value
+fun_value t Abs (x ∷ []) = from_one t magnitude x
+fun_value t Len (x ∷ []) = from_text (λ s. Int (pos (length (chars s)))) x
+fun_value t Concat xs = text (flat_map bytes_of xs)
+fun_value t Substring (x ∷ at ∷ []) = tail_of x at
+fun_value t Substring (x ∷ at ∷ len ∷ []) = middle_of x at len
+fun_value t Trim (x ∷ []) = from_text (λ s. Txt (trimmed s)) x
+fun_value t Ucase (x ∷ []) = from_text (λ s. Txt (str_to_ascii_uppercase s)) x
+fun_value t Lcase (x ∷ []) = from_text (λ s. Txt (str_to_ascii_lowercase s)) x
+fun_value t Coalesce xs = widened t (first_value xs)
+fun_value t IfNull xs = widened t (first_value xs)
+fun_value t NullIf (x ∷ y ∷ []) = if compare_so is_eq x y then Null else x
+fun_value t _ xs = Null
+
+-- a form, from what its parts are worth; an aggregate has no value on one row
+abbrev pub node_value : List Value → ℕ → TypedNode-F (Option SqlType → Value) Value (Value × Value) → Option SqlType → Value
+node_value row time (TypedNode-F.Literal x) t = x
+node_value row time (TypedNode-F.Column column) t = cell row column
+node_value row time TypedNode-F.RowTime t = Big (int_wrap w64 (pos time))
+node_value row time (TypedNode-F.Sign minus x) t = signed t minus x
+node_value row time (TypedNode-F.Binary o a b) t = applied t o a b
+node_value row time (TypedNode-F.Not x) t = value.Bool (not (is_true_value x))
+node_value row time (TypedNode-F.IsNull negated x) t = with_not negated (is_null x)
+node_value row time (TypedNode-F.Between negated x low high) t = with_not negated (compare_so is_ge x low && compare_so is_le x high)
+node_value row time (TypedNode-F.OneOf negated x choices) t = with_not negated (list_any (compare_so is_eq x) choices)
+node_value row time (TypedNode-F.Like negated x pattern) t = with_not negated (is_value_like pattern x)
+node_value row time (TypedNode-F.Cast x to) t = cast to x
+node_value row time (TypedNode-F.Case operand whens otherwise) t = widened t (chosen operand whens otherwise)
+node_value row time (TypedNode-F.Call fun args) t = fun_value t fun args
+node_value row time (TypedNode-F.Aggregate fun arg) t = Null
+
+-- the value of an expression on a row at a time
+unfoldable pub value_of : List Value → ℕ → Typed → Value
+value_of row time = fold-Typed (Option SqlType → Value) Value (Value × Value) (node_value row time) (λ e. e.node e.ty) (λ w. (w.cond, w.result))
