@@ -8,3 +8,7 @@ pub mod Settling
 pub mod Steps
 pub mod Tables
 pub mod Texts
+pub mod UniqueClauses
+pub mod UniqueParts
+pub mod UniqueStatements
+pub mod UniqueWindows
