@@ -1,3 +1,4 @@
+pub mod Aggregates
 pub mod Rules
 pub mod Typing
 pub mod Value

@@ -1,7 +1,6 @@
 //! The statements of a script, as trees.
 #![tactic(auto)]
 
-mod copies;
 mod expression;
 mod fault;
 mod node;
