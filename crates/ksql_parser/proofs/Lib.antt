@@ -12,3 +12,4 @@ pub mod UniqueClauses
 pub mod UniqueParts
 pub mod UniqueStatements
 pub mod UniqueWindows
+pub mod Windows
