@@ -1,8 +1,12 @@
+pub mod Bodies
+pub mod Declared
 pub mod Found
+pub mod Lists
 pub mod Numbers
 pub mod OneTree
 pub mod Only
 pub mod Parts
+pub mod Readings
 pub mod Runs
 pub mod Settling
 pub mod Steps

@@ -186,9 +186,7 @@ fn window(symbols: &[Symbol]) -> Result<(WindowText, &[Symbol]), ReadError>
 
 /// The window of a query, where there is one.
 #[tactic(auto, unfolding(crate::specs::Statements::windowed))]
-pub(crate) fn read_window(
-    symbols: &[Symbol],
-) -> Result<(Option<WindowText>, &[Symbol]), ReadError>
+pub(crate) fn read_window(symbols: &[Symbol]) -> Result<(Option<WindowText>, &[Symbol]), ReadError>
     ensures { Gives with_rest result (part.windowed symbols.now) }
 {
     let Some(rest) = behind_key(Keyword::Window, symbols) else {
