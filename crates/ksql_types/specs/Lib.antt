@@ -1,3 +1,6 @@
 pub mod formers
+pub mod Catalog
 pub mod Key
+pub mod Lane
+pub mod Order
 pub mod Text

@@ -2,21 +2,27 @@
 #![tactic(auto)]
 
 mod boxed;
+mod catalog;
 mod chars;
 mod copying;
 mod items;
 mod key;
+mod lanes;
 mod operator;
+mod order;
 mod relation;
 mod value;
 mod word;
 
 pub use boxed::Boxed;
+pub use catalog::{AddRefusal, Catalog};
 pub use chars::Chars;
 pub use copying::CopyOf;
 pub use items::Items;
 pub use key::Key;
+pub use lanes::{key_bytes, lane};
 pub use operator::BinaryOp;
+pub use order::{cmp_key, keys_are_ordered};
 pub use relation::{Column, Columns, Format, Kind, Relation, Schema, Span, TaskName};
 pub use value::{Row, SqlType, Value};
 pub use word::{Word, Words};

@@ -1,0 +1,107 @@
+ghost use Rattle.std.specs.Prelude.{◌≡◌, ◌≤◌, ◌++◌, IfOk, OnOk, flat_map, fold, length};
+ghost use Rattle.ksql_types.specs.Lane.{behind_length, hash_step, value_bytes};
+ghost use Rattle.ksql_types.specs.Lane as spec;
+
+use crate::Bytes;
+use crate::items::Items;
+use crate::key::Key;
+use crate::value::Value;
+use std::alloc::{AllocError, Global};
+
+/// The bytes of a key: of one value its own bytes, and of several values each one's behind their length as 4 bytes.
+/// A text is its UTF-8, an INTEGER 4 and a BIGINT 8 bytes, a BOOLEAN one byte; numbers are big-endian. The only error
+/// is want of memory.
+pub fn key_bytes(alloc: Global, key: &Key) -> Result<Bytes, AllocError>
+    ensures { IfOk result (λ bytes. bytes ≡ spec.key_bytes key.now) }
+{
+    let mut out = Vec::new(alloc);
+    match key.items() {
+        [value] => put_value(&mut out, value)?,
+        values => put_values(&mut out, values)?,
+    }
+    Ok(Items::of(out))
+}
+
+/// The partition of a key among `n`: the hash of its bytes modulo `n`, and of no key that of its home. Takes no memory.
+pub fn lane(key: &Key, n: u32, home: u32) -> u32
+    requires some { 1 ≤ n }
+    requires few { n ≤ 64 }
+    ensures { result ≡ spec.lane key.now n home }
+{
+    match key.items() {
+        [] => home % n,
+        [value] => hash_value(0, value) % n,
+        values => hash_values(values) % n,
+    }
+}
+
+/// Appends the bytes of a value.
+fn put_value(out: &mut Vec<u8>, value: &Value) -> Result<(), AllocError>
+    ensures { OnOk result (out.new.items ≡ out.old.items ++ value_bytes value.now) }
+{
+    match value {
+        Value::Null => Ok(()),
+        Value::Int(number) => out.extend_from_slice(&number.to_be_bytes()),
+        Value::Big(number) => out.extend_from_slice(&number.to_be_bytes()),
+        Value::Txt(text) => out.extend_from_slice(text.items().as_bytes()),
+        Value::Bool(truth) => out.extend_from_slice(&[u8::from(*truth)]),
+    }
+}
+
+/// Appends the bytes of each value behind their length.
+fn put_values(out: &mut Vec<u8>, values: &[Value]) -> Result<(), AllocError>
+    ensures { OnOk result (out.new.items ≡ out.old.items ++ flat_map (λ v. behind_length (value_bytes v)) values.now) }
+{
+    for value in values {
+        out.extend_from_slice(&value_len(value).to_be_bytes())?;
+        put_value(out, value)?;
+    }
+    Ok(())
+}
+
+/// How many bytes a value has.
+fn value_len(value: &Value) -> u32
+    ensures { result ≡ length (value_bytes value.now) }
+{
+    match value {
+        Value::Null => 0,
+        Value::Int(_) => 4,
+        Value::Big(_) => 8,
+        Value::Txt(text) => text.items().len() as u32,
+        Value::Bool(_) => 1,
+    }
+}
+
+/// What bytes make of the hash of those before them.
+fn hash_bytes(before: u32, bytes: &[u8]) -> u32
+    ensures { result ≡ fold hash_step before bytes.now }
+{
+    bytes.iter().fold(before, |hash, byte| {
+        hash.wrapping_mul(31).wrapping_add(u32::from(*byte))
+    })
+}
+
+/// What the bytes of a value make of the hash of those before them.
+fn hash_value(before: u32, value: &Value) -> u32
+    ensures { result ≡ fold hash_step before (value_bytes value.now) }
+{
+    match value {
+        Value::Null => before,
+        Value::Int(number) => hash_bytes(before, &number.to_be_bytes()),
+        Value::Big(number) => hash_bytes(before, &number.to_be_bytes()),
+        Value::Txt(text) => hash_bytes(before, text.items().as_bytes()),
+        Value::Bool(truth) => hash_bytes(before, &[u8::from(*truth)]),
+    }
+}
+
+/// The hash of the bytes of values, each behind its length.
+fn hash_values(values: &[Value]) -> u32
+    ensures { result ≡ spec.hash (flat_map (λ v. behind_length (value_bytes v)) values.now) }
+{
+    let mut hash = 0;
+    for value in values {
+        hash = hash_bytes(hash, &value_len(value).to_be_bytes());
+        hash = hash_value(hash, value);
+    }
+    hash
+}
