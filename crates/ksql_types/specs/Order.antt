@@ -5,14 +5,14 @@ use Rattle.std.specs.declared.cmp.Ordering.TheVariants.{Equal}
 use Rattle.std.specs.Ordering.{nat_cmp, int_cmp, bool_cmp}
 use Rattle.std.specs.Cmp.Lexicographic.{pointwise, slice_cmp}
 use Rattle.ksql_types.specs.declared.value.Value.{Value}
-use Rattle.ksql_types.specs.declared.value.Value.TheVariants.{Int, Big, Txt, Bool}
+use Rattle.ksql_types.specs.declared.value.Value.TheVariants.{Int, Big, Txt, Bool as Truth}
 
 -- whether two values have the same type; a NULL is like none
 abbrev pub is_alike : Value → Value → Bool
 is_alike (Int a) (Int b) = true
 is_alike (Big a) (Big b) = true
 is_alike (Txt a) (Txt b) = true
-is_alike (Bool a) (Bool b) = true
+is_alike (Truth a) (Truth b) = true
 is_alike _ _ = false
 
 -- two lists are as long, and their values have, one by one, the same types
@@ -24,7 +24,7 @@ abbrev pub value_cmp : Value → Value → Ordering
 value_cmp (Int a) (Int b) = int_cmp a b
 value_cmp (Big a) (Big b) = int_cmp a b
 value_cmp (Txt a) (Txt b) = slice_cmp nat_cmp a b
-value_cmp (Bool a) (Bool b) = bool_cmp a b
+value_cmp (Truth a) (Truth b) = bool_cmp a b
 value_cmp _ _ = Equal
 
 -- how two keys compare: the first values that differ decide

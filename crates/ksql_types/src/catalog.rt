@@ -96,6 +96,7 @@ impl Catalog {
 
 impl From<AllocError> for AddRefusal {
     ghost use Rattle.std.specs.Prelude.{◌≡◌};
+    ghost use Rattle.ksql_types.specs.declared.catalog.AddRefusal.TheVariants.{OutOfMemory};
 
     ghost from_gives = { λ _ refusal. refusal ≡ OutOfMemory };
 
@@ -106,6 +107,7 @@ impl From<AllocError> for AddRefusal {
 
 impl<T: Drop> From<AllocFailed<T>> for AddRefusal {
     ghost use Rattle.std.specs.Prelude.{◌≡◌};
+    ghost use Rattle.ksql_types.specs.declared.catalog.AddRefusal.TheVariants.{OutOfMemory};
 
     ghost from_gives = { λ _ refusal. refusal ≡ OutOfMemory };
 

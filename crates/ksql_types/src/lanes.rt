@@ -60,6 +60,7 @@ fn put_values(out: &mut Vec<u8>, values: &[Value]) -> Result<(), AllocError>
 }
 
 /// How many bytes a value has.
+#[tactic(auto, unfolding(crate::specs::Text::longest_text))]
 fn value_len(value: &Value) -> u32
     ensures { result ≡ length (value_bytes value.now) }
 {
