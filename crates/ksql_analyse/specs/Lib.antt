@@ -4,3 +4,13 @@ pub mod Uses
 pub mod Typing
 pub mod Standing
 pub mod Typed
+pub mod Same
+pub mod Sources
+pub mod Resolved
+pub mod Items
+pub mod Keys
+pub mod Grouping
+pub mod Properties
+pub mod Windows
+pub mod Breaks
+pub mod Judged
