@@ -19,8 +19,8 @@ use Rattle.ksql_grammar.specs.declared.tree.Statement.{Statement}
 use Rattle.ksql_grammar.specs.declared.tree.StatementBody.{StatementBody}
 use Rattle.ksql_grammar.specs.declared.tree.StatementBody.TheVariants.{Declared, Query}
 use Rattle.ksql_grammar.specs.declared.tree.WindowText.{WindowText}
-use Rattle.ksql_parser.specs.declared.fault.Code.{Code}
-use Rattle.ksql_parser.specs.declared.fault.Code.TheVariants as code
+use Rattle.ksql_types.specs.declared.code.Code.{Code}
+use Rattle.ksql_types.specs.declared.code.Code.TheVariants as code
 use Rattle.ksql_expr.specs.Rules.{fits}
 use Rattle.ksql_program.specs.Names.{is_among, are_column_names, is_topic_name}
 use Rattle.ksql_program.specs.Sound.{columns}

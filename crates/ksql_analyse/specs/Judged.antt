@@ -17,8 +17,8 @@ use Rattle.ksql_grammar.specs.declared.tree.Select.{Select}
 use Rattle.ksql_grammar.specs.declared.tree.Statement.{Statement}
 use Rattle.ksql_grammar.specs.declared.tree.StatementBody.{StatementBody}
 use Rattle.ksql_grammar.specs.declared.tree.StatementBody.TheVariants as body
-use Rattle.ksql_parser.specs.declared.fault.Code.{Code}
-use Rattle.ksql_parser.specs.declared.fault.Code.TheVariants.{TooLarge, UnknownRelation, NameTaken, UnknownColumn, AmbiguousColumn, DuplicateColumn, TypeMismatch, WrongKind, KeyMissing, JoinNotOnKey, PartitionMismatch, AggregateMisuse, BadWindow, Unsupported, BadProperty}
+use Rattle.ksql_types.specs.declared.code.Code.{Code}
+use Rattle.ksql_types.specs.declared.code.Code.TheVariants.{TooLarge, UnknownRelation, NameTaken, UnknownColumn, AmbiguousColumn, DuplicateColumn, TypeMismatch, WrongKind, KeyMissing, JoinNotOnKey, PartitionMismatch, AggregateMisuse, BadWindow, Unsupported, BadProperty}
 use Rattle.ksql_expr.specs.declared.typed.Typed.{Typed}
 use Rattle.ksql_expr.specs.declared.typed.TypedNode.TheVariants as n
 use Rattle.ksql_program.specs.declared.program.Item.{Item}
@@ -227,14 +227,14 @@ IsItemOf before st i = of st.body i
 -- the items of statements behind other items: each is accepted behind those before it
 pub data Judged : List Item → List Statement → List Item → Type 0 where
   done : {items : List Item} → Judged items [] items
-  next : {before items : List Item} {st : Statement} {sts : List Statement} {i : Item} → IsAccepted (relations before) st → IsItemOf before st i
+  next : {before items : List Item} {st : Statement} {sts : List Statement} (i : Item) → IsAccepted (relations before) st → IsItemOf before st i
       → Judged (before ++ i ∷ []) sts items → Judged before (st ∷ sts) items
 
 -- the first statement that is refused has this number, and this is its lowest code
 pub data FirstRefused : List Item → List Statement → ℕ → Code → Type 0 where
   here : {before : List Item} {st : Statement} {sts : List Statement} {c : Code} → IsRefused (relations before) st c
       → FirstRefused before (st ∷ sts) 1 c
-  later : {before : List Item} {st : Statement} {sts : List Statement} {i : Item} {number : ℕ} {c : Code} → IsAccepted (relations before) st
+  later : {before : List Item} {st : Statement} {sts : List Statement} {number : ℕ} {c : Code} (i : Item) → IsAccepted (relations before) st
       → IsItemOf before st i → FirstRefused (before ++ i ∷ []) sts number c → FirstRefused before (st ∷ sts) (suc number) c
 
 -- the program of statements

@@ -4,6 +4,7 @@
 mod boxed;
 mod catalog;
 mod chars;
+mod code;
 mod copying;
 mod items;
 mod key;
@@ -17,6 +18,7 @@ mod word;
 pub use boxed::Boxed;
 pub use catalog::{AddRefusal, Catalog};
 pub use chars::Chars;
+pub use code::Code;
 pub use copying::CopyOf;
 pub use items::Items;
 pub use key::Key;

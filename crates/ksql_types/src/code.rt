@@ -1,0 +1,20 @@
+/// Why a script is refused. Their numbers are S1 to S16, in this order.
+#[derive(Clone, Copy, Debug, PartialEq, Eq)]
+pub enum Code {
+    Syntax,
+    TooLarge,
+    UnknownRelation,
+    NameTaken,
+    UnknownColumn,
+    AmbiguousColumn,
+    DuplicateColumn,
+    TypeMismatch,
+    WrongKind,
+    KeyMissing,
+    JoinNotOnKey,
+    PartitionMismatch,
+    AggregateMisuse,
+    BadWindow,
+    Unsupported,
+    BadProperty,
+}
