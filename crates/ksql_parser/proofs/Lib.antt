@@ -1,6 +1,9 @@
 pub mod Bodies
+pub mod Calls
 pub mod Declared
 pub mod Found
+pub mod Items
+pub mod Joins
 pub mod Lists
 pub mod Numbers
 pub mod OneTree
@@ -8,6 +11,7 @@ pub mod Only
 pub mod Parts
 pub mod Readings
 pub mod Runs
+pub mod Selects
 pub mod Settling
 pub mod Steps
 pub mod Tables
@@ -16,4 +20,5 @@ pub mod UniqueClauses
 pub mod UniqueParts
 pub mod UniqueStatements
 pub mod UniqueWindows
+pub mod Wholes
 pub mod Windows

@@ -1,4 +1,5 @@
 pub mod Limits
+pub mod Queries
 pub mod Script
 pub mod Settled
 pub mod Statements

@@ -5,8 +5,8 @@ use Rattle.std.specs.Str.Parse.{digits_value}
 use Rattle.ksql_lexer.specs.declared.token.Mark.TheVariants as mark
 use Rattle.ksql_lexer.specs.declared.token.TokenKind.{TokenKind}
 use Rattle.ksql_lexer.specs.declared.token.TokenKind.TheVariants as kind
-use Rattle.ksql_parser.specs.declared.fault.Code.{Code}
-use Rattle.ksql_parser.specs.declared.fault.Code.TheVariants.{Syntax, TooLarge, Unsupported}
+use Rattle.ksql_types.specs.declared.code.Code.{Code}
+use Rattle.ksql_types.specs.declared.code.Code.TheVariants.{Syntax, TooLarge, Unsupported}
 use Rattle.ksql_grammar.specs.declared.tree.Statement.{Statement}
 use Rattle.ksql_grammar.specs.Grammar.{IsSpelledBy}
 

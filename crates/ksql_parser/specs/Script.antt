@@ -6,7 +6,7 @@ use Rattle.ksql_types.specs.Text.{longest_text}
 use Rattle.ksql_lexer.specs.declared.token.Token.{Token}
 use Rattle.ksql_lexer.specs.declared.token.TokenKind.{TokenKind}
 use Rattle.ksql_lexer.specs.Script.{AreTokens, is_semicolon, kinds}
-use Rattle.ksql_parser.specs.declared.fault.Code.{Code}
+use Rattle.ksql_types.specs.declared.code.Code.{Code}
 use Rattle.ksql_parser.specs.declared.fault.ParseFault.{ParseFault}
 use Rattle.ksql_parser.specs.declared.fault.ParseFault.TheVariants.{Refused, OutOfMemory}
 use Rattle.ksql_grammar.specs.declared.tree.Statement.{Statement}

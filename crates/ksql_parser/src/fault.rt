@@ -1,25 +1,5 @@
+use ksql_types::Code;
 use std::alloc::{AllocError, AllocFailed};
-
-/// Why a script is refused. Their numbers are S1 to S16, in this order.
-#[derive(Clone, Copy, Debug, PartialEq, Eq)]
-pub enum Code {
-    Syntax,
-    TooLarge,
-    UnknownRelation,
-    NameTaken,
-    UnknownColumn,
-    AmbiguousColumn,
-    DuplicateColumn,
-    TypeMismatch,
-    WrongKind,
-    KeyMissing,
-    JoinNotOnKey,
-    PartitionMismatch,
-    AggregateMisuse,
-    BadWindow,
-    Unsupported,
-    BadProperty,
-}
 
 /// Why tokens have no trees.
 #[derive(Clone, Copy, Debug, PartialEq, Eq)]

@@ -8,7 +8,7 @@ mod statement;
 mod symbols;
 mod words;
 
-pub use fault::{Code, ParseFault};
+pub use fault::ParseFault;
 pub use parsing::{one_list, one_tree, parse};
 
 #[cfg(test)]

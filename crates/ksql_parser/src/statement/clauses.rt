@@ -7,6 +7,7 @@ ghost use Rattle.ksql_grammar.specs.declared.tree.Expr.{Expr as Tree};
 ghost use Rattle.ksql_grammar.specs.declared.tree.JoinText.{JoinText as OneJoin};
 ghost use Rattle.ksql_grammar.specs.Grammar.{Spells, joined, filter, group, partition, having};
 ghost use Rattle.ksql_grammar.specs.Reading.{Gives, with_rest, option_with_rest};
+ghost use Rattle.ksql_parser.specs.Queries as query;
 ghost use Rattle.ksql_parser.specs.Statements.{BeginsFrom};
 ghost use Rattle.ksql_parser.specs.Statements as part;
 
@@ -32,30 +33,28 @@ pub(crate) fn read_source(
     Ok((Source { name, alias }, rest))
 }
 
+/// The symbols behind JOIN, before which this reserved word may stand.
+#[tactic(auto, unfolding(crate::specs::Queries::behind_join))]
+fn behind_join(word: Keyword, symbols: &[Symbol]) -> Option<&[Symbol]>
+    ensures { option_copied result ≡ query.behind_join word symbols.now }
+{
+    match behind_key(word, symbols) {
+        Some(rest) => behind_key(Keyword::Join, rest),
+        None => behind_key(Keyword::Join, symbols),
+    }
+}
+
 /// How the next source is joined, where one is, and the symbols behind JOIN.
-#[tactic(auto, unfolding(crate::specs::Statements::join_words))]
 fn join_words(symbols: &[Symbol]) -> Option<(JoinWord, &[Symbol])>
     ensures { option_with_rest result ≡ part.join_words symbols.now }
 {
-    match symbols {
-        [Symbol::Key(Keyword::Join), rest @ ..] => Some((JoinWord::Inner, rest)),
-        [Symbol::Key(Keyword::Inner), Symbol::Key(Keyword::Join), rest @ ..] => {
-            Some((JoinWord::Inner, rest))
-        }
-        [Symbol::Key(Keyword::Left), Symbol::Key(Keyword::Join), rest @ ..] => {
-            Some((JoinWord::Left, rest))
-        }
-        [Symbol::Key(Keyword::Left), Symbol::Key(Keyword::Outer), Symbol::Key(Keyword::Join), rest @ ..] => {
-            Some((JoinWord::Left, rest))
-        }
-        [Symbol::Key(Keyword::Full), Symbol::Key(Keyword::Join), rest @ ..] => {
-            Some((JoinWord::Full, rest))
-        }
-        [Symbol::Key(Keyword::Full), Symbol::Key(Keyword::Outer), Symbol::Key(Keyword::Join), rest @ ..] => {
-            Some((JoinWord::Full, rest))
-        }
-        _ => None,
+    if let Some(rest) = behind_key(Keyword::Left, symbols) {
+        return Some((JoinWord::Left, behind_join(Keyword::Outer, rest)?));
     }
+    if let Some(rest) = behind_key(Keyword::Full, symbols) {
+        return Some((JoinWord::Full, behind_join(Keyword::Outer, rest)?));
+    }
+    Some((JoinWord::Inner, behind_join(Keyword::Inner, symbols)?))
 }
 
 pub(crate) fn read_join(

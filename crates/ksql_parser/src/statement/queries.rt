@@ -8,7 +8,10 @@ ghost use Rattle.ksql_grammar.specs.declared.tree.Select.{Select as OneSelect};
 ghost use Rattle.ksql_grammar.specs.declared.tree.SelectItem.{SelectItem as OneItem};
 ghost use Rattle.ksql_grammar.specs.Grammar.{Spells, select, items, item};
 ghost use Rattle.ksql_grammar.specs.Reading.{Gives, with_rest};
-ghost use Rattle.ksql_parser.specs.Statements.{EndsItem, lent};
+ghost use Rattle.ksql_parser.specs.declared.statement.queries.Clauses.{Clauses as OneClauses};
+ghost use Rattle.ksql_parser.specs.declared.statement.queries.Front.{Front as OneFront};
+ghost use Rattle.ksql_parser.specs.Queries.{SpellsFront, SpellsClauses};
+ghost use Rattle.ksql_parser.specs.Statements.{BeginsFrom, EndsItem, lent};
 ghost use Rattle.ksql_parser.specs.Statements as part;
 
 use crate::statement::clauses::{
@@ -17,7 +20,8 @@ use crate::statement::clauses::{
 use crate::statement::step::{alias, behind_name, key};
 use crate::statement::windows::read_window;
 use ksql_grammar::{
-    Keyword, ReadError, Select, SelectItem, SelectItems, Symbol, behind_sign, read_expression,
+    Expr, ExprTexts, JoinText, Keyword, ReadError, Select, SelectItem, SelectItems, Source, Symbol,
+    WindowText, behind_sign, read_expression,
 };
 use ksql_lexer::Mark;
 use ksql_types::{Chars, CopyOf, Items};
@@ -69,6 +73,62 @@ fn read_items(alloc: Global, symbols: &[Symbol]) -> Result<(SelectItems, &[Symbo
     }
 }
 
+/// What a query reads and selects: SELECT and what stands behind it up to the window.
+#[derive(Drop)]
+struct Front {
+    items: SelectItems,
+    source: Source,
+    join: Option<JoinText>,
+    window: Option<WindowText>,
+}
+
+/// What stands behind the window of a query.
+#[derive(Drop)]
+struct Clauses {
+    filter: Option<Expr>,
+    group: ExprTexts,
+    partition: Option<Expr>,
+    having: Option<Expr>,
+}
+
+fn read_front(alloc: Global, symbols: &[Symbol]) -> Result<(Front, &[Symbol]), ReadError>
+    ensures found { IfOk result (λ x. SpellsFront x.0 symbols.now x.1.now) }
+    ensures only { (f : OneFront) (rest : List OneSymbol) → SpellsFront f symbols.now rest → BeginsFrom 3 rest
+        → Gives with_rest result (Some (f, rest)) }
+{
+    let rest = key(Keyword::Select, symbols)?;
+    let (items, rest) = read_items(alloc, rest)?;
+    let rest = key(Keyword::From, rest)?;
+    let (source, rest) = read_source(alloc, rest)?;
+    let (join, rest) = read_join(alloc, rest)?;
+    let (window, rest) = read_window(rest)?;
+    let front = Front {
+        items,
+        source,
+        join,
+        window,
+    };
+    Ok((front, rest))
+}
+
+fn read_clauses(alloc: Global, symbols: &[Symbol]) -> Result<(Clauses, &[Symbol]), ReadError>
+    ensures found { IfOk result (λ x. SpellsClauses x.0 symbols.now x.1.now) }
+    ensures only { (c : OneClauses) (rest : List OneSymbol) → SpellsClauses c symbols.now rest → BeginsFrom 7 rest
+        → Gives with_rest result (Some (c, rest)) }
+{
+    let (filter, rest) = read_filter(alloc, symbols)?;
+    let (group, rest) = read_group(alloc, rest)?;
+    let (partition, rest) = read_partition(alloc, rest)?;
+    let (having, rest) = read_having(alloc, rest)?;
+    let clauses = Clauses {
+        filter,
+        group,
+        partition,
+        having,
+    };
+    Ok((clauses, rest))
+}
+
 /// A query, which ends where nothing more stands.
 pub(crate) fn read_select(
     alloc: Global,
@@ -77,26 +137,17 @@ pub(crate) fn read_select(
     ensures found { IfOk result (λ x. Spells (select x.0) symbols.now x.1.now) }
     ensures only { (q : OneSelect) → Spells (select q) symbols.now [] → Gives with_rest result (Some (q, [])) }
 {
-    let rest = key(Keyword::Select, symbols)?;
-    let (items, rest) = read_items(alloc, rest)?;
-    let rest = key(Keyword::From, rest)?;
-    let (source, rest) = read_source(alloc, rest)?;
-    let (join, rest) = read_join(alloc, rest)?;
-    let (window, rest) = read_window(rest)?;
-    let (filter, rest) = read_filter(alloc, rest)?;
-    let (group, rest) = read_group(alloc, rest)?;
-    let (partition, rest) = read_partition(alloc, rest)?;
-    let (having, rest) = read_having(alloc, rest)?;
-    let rest = behind_emit(rest);
+    let (front, rest) = read_front(alloc, symbols)?;
+    let (clauses, rest) = read_clauses(alloc, rest)?;
     let select = Select {
-        items,
-        source,
-        join,
-        window,
-        filter,
-        group,
-        partition,
-        having,
+        items: front.items,
+        source: front.source,
+        join: front.join,
+        window: front.window,
+        filter: clauses.filter,
+        group: clauses.group,
+        partition: clauses.partition,
+        having: clauses.having,
     };
-    Ok((select, rest))
+    Ok((select, behind_emit(rest)))
 }

@@ -1,0 +1,25 @@
+-- What the two halves of a query are, and where JOIN stands.
+use Rattle.std.specs.Prelude.{◌≡◌, List, ◌∷◌, Option}
+use Rattle.ksql_grammar.specs.declared.symbol.Keyword.{Keyword}
+use Rattle.ksql_grammar.specs.declared.symbol.Keyword.TheVariants as key
+use Rattle.ksql_grammar.specs.declared.symbol.Symbol.{Symbol}
+use Rattle.ksql_grammar.specs.declared.symbol.Symbol.TheVariants.{Key}
+use Rattle.ksql_grammar.specs.Grammar.{Spells, items, source, joined, windowed, filter, group, partition, having}
+use Rattle.ksql_grammar.specs.Expressions.{behind_key}
+use Rattle.ksql_parser.specs.Statements.{behind_or_here}
+use Rattle.ksql_parser.specs.declared.statement.queries.Front.{Front}
+use Rattle.ksql_parser.specs.declared.statement.queries.Clauses.{Clauses}
+
+-- SELECT items FROM source [join] [WINDOW window]
+abbrev pub SpellsFront : Front → List Symbol → List Symbol → Type 0
+SpellsFront f ts us = (s0 s1 s2 s3 : List Symbol) × (ts ≡ Key key.Select ∷ s0) × Spells (items f.items) s0 (Key key.From ∷ s1)
+    × Spells (source f.source) s1 s2 × Spells (joined f.join) s2 s3 × Spells (windowed f.window) s3 us
+
+-- [WHERE expr] [GROUP BY expr {"," expr}] [PARTITION BY expr] [HAVING expr]
+abbrev pub SpellsClauses : Clauses → List Symbol → List Symbol → Type 0
+SpellsClauses c ts us = (s0 s1 s2 : List Symbol) × Spells (filter c.filter) ts s0 × Spells (group c.group) s0 s1
+    × Spells (partition c.partition) s1 s2 × Spells (having c.having) s2 us
+
+-- behind JOIN, before which this word may stand
+unfoldable pub behind_join : Keyword → List Symbol → Option (List Symbol)
+behind_join k ts = behind_key key.Join (behind_or_here ts (behind_key k ts))
