@@ -2,7 +2,17 @@
 #![tactic(auto)]
 
 mod change;
+mod laws;
+mod order;
 mod stamp;
 
 pub use change::{Body, Change, Changes, Decoded, SourceRecord};
+pub use laws::{
+    feeds_follow, order_is_merged, order_is_sorted, places_are_ordered, places_between_are_ordered,
+    stamps_are_ordered,
+};
+pub use order::{PartTimes, cmp_between, cmp_place, order_of, stamps_of};
 pub use stamp::{Path, Place, Stamp};
+
+#[cfg(test)]
+mod tests;

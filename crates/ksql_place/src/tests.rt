@@ -1,0 +1,84 @@
+use super::*;
+use ksql_types::{Items, Key};
+use std::alloc::Global;
+use std::cmp::Ordering;
+use std::test::Fail;
+
+fn stamp(high: u64, part: u32, offset: u64) -> Stamp {
+    Stamp {
+        feed: 1,
+        high,
+        topic: 0,
+        part,
+        offset,
+    }
+}
+
+fn place(alloc: Global, offset: u64, path: &[u32]) -> Result<Place, Fail> {
+    Ok(Place {
+        stamp: stamp(9, 1, offset),
+        path: Items::of(Vec::from_slice(alloc, path)?),
+    })
+}
+
+fn record(alloc: Global, stamp: Stamp) -> SourceRecord {
+    SourceRecord {
+        stamp,
+        time: stamp.high,
+        key: Key::of(Vec::new(alloc)),
+        value: Decoded::Tombstone,
+    }
+}
+
+#[test]
+fn places_go_by_stamp_then_relation_then_path(rt: HostRuntime) -> Result<(), Fail> {
+    let alloc = rt.alloc();
+    let early = place(alloc, 0, &[2])?;
+    let late = place(alloc, 1, &[])?;
+    let longer = place(alloc, 0, &[2, 0])?;
+    assert!(rt; cmp_place(&early, &late) == Ordering::Less);
+    assert!(rt; cmp_place(&longer, &early) == Ordering::Greater);
+    assert!(rt; cmp_place(&early, &early) == Ordering::Equal);
+    assert!(rt; cmp_between(&late, 0, &early, 1) == Ordering::Greater);
+    assert!(rt; cmp_between(&longer, 0, &early, 1) == Ordering::Less);
+    assert!(rt; cmp_between(&longer, 1, &early, 1) == Ordering::Greater);
+    Ok(())
+}
+
+// Key a at times 9 and 1 goes to partition 1, and then key b at time 5 to partition 0.
+#[test]
+fn a_late_record_waits_for_its_partition(rt: HostRuntime) -> Result<(), Fail> {
+    let alloc = rt.alloc();
+    let a = PartTimes {
+        topic: 0,
+        part: 1,
+        first: 0,
+        times: Items::of(vec![in alloc; 9, 1]?),
+    };
+    let b = PartTimes {
+        topic: 0,
+        part: 0,
+        first: 0,
+        times: Items::of(vec![in alloc; 5]?),
+    };
+    let stamps = stamps_of(alloc, 1, &[a, b])?;
+    let expected = [stamp(5, 0, 0), stamp(9, 1, 0), stamp(9, 1, 1)];
+    assert!(rt; stamps.as_slice() == expected.as_slice());
+    Ok(())
+}
+
+#[test]
+fn records_are_put_in_order(rt: HostRuntime) -> Result<(), Fail> {
+    let alloc = rt.alloc();
+    let mut records = Vec::new(alloc);
+    for offset in 0..30 {
+        records.push(record(alloc, stamp(9, 1, 29 - offset)))?;
+    }
+    records.push(record(alloc, stamp(5, 0, 40)))?;
+    let order = order_of(records)?;
+    assert_eq!(rt; order.len(), 31);
+    assert_eq!(rt; order[0].stamp.offset, 40);
+    assert_eq!(rt; order[1].stamp.offset, 0);
+    assert_eq!(rt; order[30].stamp.offset, 29);
+    Ok(())
+}
