@@ -12,8 +12,8 @@ returns-in-Ok-write_whole-clause-exact g c =
 
 pub returns-in-Ok-clause-exact : goal.returns-in-Ok-clause-exact
 returns-in-Ok-clause-exact g c =
-    exact_fault (g.F.Folder.files c.args.folder.now) c.args.words.now (g.F.Folder.failed c.args.folder.now) (g.F.Folder.failed c.whole_text.new.folder)
-    (Rose (g.K.Sink.faults c.args.out.now) (g.K.Sink.faults c.write_whole.new.out)) ended.WriteFault c.in-Err-write_whole.ensures.cause
+    exact_fault laws (g.F.Folder.files c.args.folder.now) c.args.words.now (g.F.Folder.failed c.args.folder.now) (g.F.Folder.failed c.whole_text.new.folder)
+    (Rose (g.K.Sink.faults c.args.out.now) (g.K.Sink.faults c.write_whole.new.out)) (string_bytes c.in-Ok.text) c.in-Err-write_whole.ensures.cause c.in-Ok.ensures.found
 
 pub returns-in-Ok-clause-complete : goal.returns-in-Ok-clause-complete
 returns-in-Ok-clause-complete g c =
