@@ -26,7 +26,7 @@ use Rattle.ksql_cli.specs.FirstProgram.{program_of, stream_of}
 use Rattle.ksql_cli.specs.Lines.{feds_of}
 use Rattle.ksql_cli.specs.Command.{Files, script_name, IsScriptRead, IsScriptOf, IsRefused, IsAccepted, declared_of, topic_file, first_value, IsFed, IsBadFile, AreFed, IsFirstBad, IsTopicDue, IsDue, AreDue, Runs, report_of, HasCause, IsDecided, IsRefusal, NoDueFails}
 use Rattle.ksql_cli.specs.Steps.{IsFormRead, IsJoined, IsScriptFailure, IsTextFailure, IsTokensFailure, IsTopicFailure, MayJoinScript}
-use Rattle.ksql_cli.proofs.Refusals.{Laws, refused_once, refused_formless}
+use Rattle.ksql_cli.proofs.Refusals.{refused_once, refused_formless}
 
 pub if_some_both : {A : Type 0} (o : Option A) (P Q R : A → Type 0) → ((x : A) → P x → Q x → R x) → IfSome o P → IfSome o Q → IfSome o R
 if_some_both None P Q R both p q = tt
@@ -163,10 +163,10 @@ not_named words all script none read = some_none read.0 (sym read.1 ∙ none)
     some_none name e = cc (e)
 
 -- a script isn't both refused and accepted
-refused_accepted : Laws → (words : List (List ℕ)) (all : Files) (refused accepted : List ℕ) (statement : ℕ) (code : Code) (program : Program) →
+refused_accepted : (words : List (List ℕ)) (all : Files) (refused accepted : List ℕ) (statement : ℕ) (code : Code) (program : Program) →
     IsScriptRead words all refused → IsScriptRead words all accepted → IsRefused refused statement code → IsAccepted accepted program → ⊥
-refused_accepted laws words all refused accepted statement code program read_refused read_accepted refusal is =
-    refused_formless laws refused statement code is.0
+refused_accepted words all refused accepted statement code program read_refused read_accepted refusal is =
+    refused_formless refused statement code is.0
       (subst (λ (s : List ℕ). IsScriptOf s is.0) (one_script words all accepted refused read_accepted read_refused) is.1) refusal
 
 -- the topic files of a script aren't both good and bad
@@ -179,14 +179,14 @@ good_bad words all a b p q files topic read_a read_b is_a is_b fed bad =
     no_bad all (declared_of q.items) files topic (subst (λ (r : Program). AreFed all (declared_of r.items) files) programs fed) bad
 
 -- What the words and the files decide is one answer.
-agree : Laws → (words : List (List ℕ)) (all : Files) (old new : List (List ℕ)) (a b : Status) → IsDecided a → IsDecided b →
+agree : (words : List (List ℕ)) (all : Files) (old new : List (List ℕ)) (a b : Status) → IsDecided a → IsDecided b →
     HasCause words all old new a → HasCause words all old new b → a ≡ b
-agree laws words all old new ended.Done ended.Done da db a b = refl
-agree laws words all old new ended.Usage ended.Usage da db a b = refl
-agree laws words all old new (ended.Script s c) (ended.Script t d) da db a b =
-    let once = refused_once laws b.0 s t c d (subst (λ (script : List ℕ). IsRefused script s c) (one_script words all a.0 b.0 a.1 b.1) a.2) b.2 in
+agree words all old new ended.Done ended.Done da db a b = refl
+agree words all old new ended.Usage ended.Usage da db a b = refl
+agree words all old new (ended.Script s c) (ended.Script t d) da db a b =
+    let once = refused_once b.0 s t c d (subst (λ (script : List ℕ). IsRefused script s c) (one_script words all a.0 b.0 a.1 b.1) a.2) b.2 in
     ap₂ ended.Script once.0 once.1
-agree laws words all old new (ended.TopicFile t l w) (ended.TopicFile u m v) da db a b =
+agree words all old new (ended.TopicFile t l w) (ended.TopicFile u m v) da db a b =
     let scripts = one_script words all a.2.0 b.2.0 a.2.2 b.2.2 in
     let programs = one_program b.2.0 a.2.1 b.2.1 (subst (λ (s : List ℕ). IsAccepted s a.2.1) scripts a.2.3) b.2.3 in
     let bad = subst (λ (p : Program). IsFirstBad all (declared_of p.items) t) programs a.2.4 in
@@ -195,37 +195,37 @@ agree laws words all old new (ended.TopicFile t l w) (ended.TopicFile u m v) da 
   where
     topic_file_same : (t u : List ℕ) (l m : ℕ) (w v : LineWhy) → t ≡ u → l ≡ m → w ≡ v → ended.TopicFile t l w ≡ ended.TopicFile u m v
     topic_file_same t u l m w v p q r = cc
-agree laws words all old new ended.Done ended.Usage da db a b = absurd (not_named words all a.2.0 b a.2.1)
-agree laws words all old new ended.Usage ended.Done da db a b = absurd (not_named words all b.2.0 a b.2.1)
-agree laws words all old new ended.Usage (ended.Script t d) da db a b = absurd (not_named words all b.0 a b.1)
-agree laws words all old new (ended.Script s c) ended.Usage da db a b = absurd (not_named words all a.0 b a.1)
-agree laws words all old new ended.Usage (ended.TopicFile u m v) da db a b = absurd (not_named words all b.2.0 a b.2.2)
-agree laws words all old new (ended.TopicFile t l w) ended.Usage da db a b = absurd (not_named words all a.2.0 b a.2.2)
-agree laws words all old new ended.Done (ended.Script t d) da db a b = absurd (refused_accepted laws words all b.0 a.2.0 t d a.0 b.1 a.2.1 b.2 a.2.2)
-agree laws words all old new (ended.Script s c) ended.Done da db a b = absurd (refused_accepted laws words all a.0 b.2.0 s c b.0 a.1 b.2.1 a.2 b.2.2)
-agree laws words all old new (ended.TopicFile t l w) (ended.Script u d) da db a b = absurd (refused_accepted laws words all b.0 a.2.0 u d a.2.1 b.1 a.2.2 b.2 a.2.3)
-agree laws words all old new (ended.Script s c) (ended.TopicFile u m v) da db a b = absurd (refused_accepted laws words all a.0 b.2.0 s c b.2.1 a.1 b.2.2 a.2 b.2.3)
-agree laws words all old new ended.Done (ended.TopicFile u m v) da db a b = absurd (good_bad words all a.2.0 b.2.0 a.0 b.2.1 a.1 u a.2.1 b.2.2 a.2.2 b.2.3 a.2.3 b.2.4)
-agree laws words all old new (ended.TopicFile t l w) ended.Done da db a b = absurd (good_bad words all b.2.0 a.2.0 b.0 a.2.1 b.1 t b.2.1 a.2.2 b.2.2 a.2.3 b.2.3 a.2.4)
-agree laws words all old new (ended.ReadFault n) b da db ca cb = absurd da
-agree laws words all old new ended.WriteFault b da db ca cb = absurd da
-agree laws words all old new ended.OutOfMemory b da db ca cb = absurd da
-agree laws words all old new a (ended.ReadFault n) da db ca cb = absurd db
-agree laws words all old new a ended.WriteFault da db ca cb = absurd db
-agree laws words all old new a ended.OutOfMemory da db ca cb = absurd db
+agree words all old new ended.Done ended.Usage da db a b = absurd (not_named words all a.2.0 b a.2.1)
+agree words all old new ended.Usage ended.Done da db a b = absurd (not_named words all b.2.0 a b.2.1)
+agree words all old new ended.Usage (ended.Script t d) da db a b = absurd (not_named words all b.0 a b.1)
+agree words all old new (ended.Script s c) ended.Usage da db a b = absurd (not_named words all a.0 b a.1)
+agree words all old new ended.Usage (ended.TopicFile u m v) da db a b = absurd (not_named words all b.2.0 a b.2.2)
+agree words all old new (ended.TopicFile t l w) ended.Usage da db a b = absurd (not_named words all a.2.0 b a.2.2)
+agree words all old new ended.Done (ended.Script t d) da db a b = absurd (refused_accepted words all b.0 a.2.0 t d a.0 b.1 a.2.1 b.2 a.2.2)
+agree words all old new (ended.Script s c) ended.Done da db a b = absurd (refused_accepted words all a.0 b.2.0 s c b.0 a.1 b.2.1 a.2 b.2.2)
+agree words all old new (ended.TopicFile t l w) (ended.Script u d) da db a b = absurd (refused_accepted words all b.0 a.2.0 u d a.2.1 b.1 a.2.2 b.2 a.2.3)
+agree words all old new (ended.Script s c) (ended.TopicFile u m v) da db a b = absurd (refused_accepted words all a.0 b.2.0 s c b.2.1 a.1 b.2.2 a.2 b.2.3)
+agree words all old new ended.Done (ended.TopicFile u m v) da db a b = absurd (good_bad words all a.2.0 b.2.0 a.0 b.2.1 a.1 u a.2.1 b.2.2 a.2.2 b.2.3 a.2.3 b.2.4)
+agree words all old new (ended.TopicFile t l w) ended.Done da db a b = absurd (good_bad words all b.2.0 a.2.0 b.0 a.2.1 b.1 t b.2.1 a.2.2 b.2.2 a.2.3 b.2.3 a.2.4)
+agree words all old new (ended.ReadFault n) b da db ca cb = absurd da
+agree words all old new ended.WriteFault b da db ca cb = absurd da
+agree words all old new ended.OutOfMemory b da db ca cb = absurd da
+agree words all old new a (ended.ReadFault n) da db ca cb = absurd db
+agree words all old new a ended.WriteFault da db ca cb = absurd db
+agree words all old new a ended.OutOfMemory da db ca cb = absurd db
 
 -- what has its cause is the answer, where the words and the files decided it, or want of memory is
-pub decided : Laws → (words : List (List ℕ)) (all : Files) (old new : List (List ℕ)) (answer status : Status) → IsRefusal answer →
+pub decided : (words : List (List ℕ)) (all : Files) (old new : List (List ℕ)) (answer status : Status) → IsRefusal answer →
     HasCause words all old new answer → NoDueFails words all old new → IsDecided status → HasCause words all old new status →
     (answer ≡ status) ⊎ (answer ≡ ended.OutOfMemory)
-decided laws words all old new ended.Usage status refusal cause none is caused = inl (agree laws words all old new ended.Usage status tt is cause caused)
-decided laws words all old new (ended.Script s c) status refusal cause none is caused = inl (agree laws words all old new (ended.Script s c) status tt is cause caused)
-decided laws words all old new (ended.TopicFile t l w) status refusal cause none is caused = inl (agree laws words all old new (ended.TopicFile t l w) status tt is cause caused)
-decided laws words all old new (ended.ReadFault name) status refusal (inl script) none is caused = absurd (none name (inl script.0) ([], script.1))
-decided laws words all old new (ended.ReadFault name) status refusal (inr topic) none is caused = absurd (none name (inr topic.0) topic.1)
-decided laws words all old new ended.OutOfMemory status refusal cause none is caused = inr refl
-decided laws words all old new ended.Done status refusal cause none is caused = absurd refusal
-decided laws words all old new ended.WriteFault status refusal cause none is caused = absurd refusal
+decided words all old new ended.Usage status refusal cause none is caused = inl (agree words all old new ended.Usage status tt is cause caused)
+decided words all old new (ended.Script s c) status refusal cause none is caused = inl (agree words all old new (ended.Script s c) status tt is cause caused)
+decided words all old new (ended.TopicFile t l w) status refusal cause none is caused = inl (agree words all old new (ended.TopicFile t l w) status tt is cause caused)
+decided words all old new (ended.ReadFault name) status refusal (inl script) none is caused = absurd (none name (inl script.0) ([], script.1))
+decided words all old new (ended.ReadFault name) status refusal (inr topic) none is caused = absurd (none name (inr topic.0) topic.1)
+decided words all old new ended.OutOfMemory status refusal cause none is caused = inr refl
+decided words all old new ended.Done status refusal cause none is caused = absurd refusal
+decided words all old new ended.WriteFault status refusal cause none is caused = absurd refusal
 
 -- what the clause on exact answers says, of an answer and of what keeps the writes calm
 abbrev IsExact : List (List ℕ) → List (List ℕ) → List (List ℕ) → Type 0 → Status → Files → Type 0
@@ -248,23 +248,23 @@ pub complete_of : (known : Option Files) (words old new : List (List ℕ)) (Calm
 complete_of None words old new Calm answer exact = tt
 complete_of (Some all) words old new Calm answer exact = λ program files runs none calm. exact none ended.Done tt (program, files, runs) (λ done. calm)
 
-pub exact_done : Laws → (known : Option Files) (words old new : List (List ℕ)) (Calm : Type 0) (text : List ℕ) →
+pub exact_done : (known : Option Files) (words old new : List (List ℕ)) (Calm : Type 0) (text : List ℕ) →
     IfSome known (IsRun words text) → IfSome known (IsExact words old new Calm ended.Done)
-exact_done laws None words old new Calm text found = tt
-exact_done laws (Some all) words old new Calm text found =
-    λ none status is caused calm. inl (agree laws words all old new ended.Done status tt is (found.0, found.1, found.2) caused)
+exact_done None words old new Calm text found = tt
+exact_done (Some all) words old new Calm text found =
+    λ none status is caused calm. inl (agree words all old new ended.Done status tt is (found.0, found.1, found.2) caused)
 
-pub exact_fault : Laws → (known : Option Files) (words old new : List (List ℕ)) (Fault : Type 0) (text : List ℕ) → Fault →
+pub exact_fault : (known : Option Files) (words old new : List (List ℕ)) (Fault : Type 0) (text : List ℕ) → Fault →
     IfSome known (IsRun words text) → IfSome known (IsExact words old new (¬ Fault) ended.WriteFault)
-exact_fault laws None words old new Fault text fault found = tt
-exact_fault laws (Some all) words old new Fault text fault found =
-    λ none status is caused calm. absurd (calm (sym (agree laws words all old new ended.Done status tt is (found.0, found.1, found.2) caused)) fault)
+exact_fault None words old new Fault text fault found = tt
+exact_fault (Some all) words old new Fault text fault found =
+    λ none status is caused calm. absurd (calm (sym (agree words all old new ended.Done status tt is (found.0, found.1, found.2) caused)) fault)
 
-pub exact_refusal : Laws → (known : Option Files) (words old new : List (List ℕ)) (Calm : Type 0) (answer : Status) → IsRefusal answer →
+pub exact_refusal : (known : Option Files) (words old new : List (List ℕ)) (Calm : Type 0) (answer : Status) → IsRefusal answer →
     IfSome known (λ all. HasCause words all old new answer) → IfSome known (IsExact words old new Calm answer)
-exact_refusal laws None words old new Calm answer refusal cause = tt
-exact_refusal laws (Some all) words old new Calm answer refusal cause =
-    λ none status is caused calm. decided laws words all old new answer status refusal cause none is caused
+exact_refusal None words old new Calm answer refusal cause = tt
+exact_refusal (Some all) words old new Calm answer refusal cause =
+    λ none status is caused calm. decided words all old new answer status refusal cause none is caused
 
 -- the name of a topic file is short
 pub due_short : (topic name : List ℕ) → name ≡ codes "./" ++ (topic ++ codes ".jsonl") → length topic ≤ 249 → length name ≤ longest_text
