@@ -8,7 +8,7 @@ use Rattle.std.proofs.lemmas.List.{append-nil}
 use Rattle.std.proofs.lemmas.Bool.Decides.{nat_tests}
 use Rattle.first_form.specs.Names.{is_topic}
 use Rattle.ksql_types.specs.declared.relation.Relation.{Relation}
-use Rattle.ksql_outside.specs.Outside.{read_bytes, JoinedLast, MayJoin, Rose}
+use Rattle.ksql_outside.specs.Outside.{read_bytes, JoinedLast, MayJoin}
 use Rattle.first_form.specs.declared.form.FirstForm.{FirstForm}
 use Rattle.first_form.specs.FirstForm.{IsFormOf}
 use Rattle.first_form.proofs.Scripts.{one_form_of}
@@ -24,36 +24,13 @@ use Rattle.ksql_cli.specs.declared.status.Status.TheVariants as ended
 use Rattle.ksql_cli.specs.declared.status.LineWhy.{LineWhy}
 use Rattle.ksql_cli.specs.FirstProgram.{program_of, stream_of}
 use Rattle.ksql_cli.specs.Lines.{feds_of}
-use Rattle.ksql_cli.specs.Command.{Files, script_name, IsScriptRead, IsScriptOf, IsRefused, IsAccepted, declared_of, topic_file, first_value, IsFed, IsBadFile, AreFed, IsFirstBad, IsTopicDue, IsDue, AreDue, Runs, report_of, HasCause, IsDecided, IsRefusal, NoDueFails}
-use Rattle.ksql_cli.specs.Steps.{IsFormRead, IsJoined, IsScriptFailure, IsTextFailure, IsTokensFailure, IsTopicFailure, MayJoinScript}
+use Rattle.ksql_cli.specs.Command.{Files, script_name, IsScriptRead, IsScriptOf, IsRefused, IsAccepted, declared_of, topic_file, first_value, IsFed, IsBadFile, AreFed, IsFirstBad, AreDue, Runs, report_of, HasCause, IsDecided, IsRefusal, NoDueFails}
+use Rattle.ksql_cli.specs.Steps.{IsFormRead, IsJoined, IsTextFailure, IsTokensFailure, IsTopicFailure, MayJoinScript}
 use Rattle.ksql_cli.proofs.Refusals.{refused_once, refused_formless}
 
 pub if_some_both : {A : Type 0} (o : Option A) (P Q R : A → Type 0) → ((x : A) → P x → Q x → R x) → IfSome o P → IfSome o Q → IfSome o R
 if_some_both None P Q R both p q = tt
 if_some_both (Some x) P Q R both p q = both x p q
-
--- a script that was read and gave no form is refused, or memory is short
-pub refused : (known : Option Files) (words old new : List (List ℕ)) (name script : List ℕ) (status : Status) → script_name words ≡ Some name →
-    IsScriptFailure script status → IfSome known (λ all. read_bytes name all ≡ Some script) →
-    IfSome known (λ all. HasCause words all old new status)
-refused None words old new name script status named failed read = tt
-refused (Some all) words old new name script (ended.Script statement code) named failed read = (script, (name, named, read), failed)
-refused (Some all) words old new name script ended.OutOfMemory named failed read = tt
-refused (Some all) words old new name script ended.Done named failed read = absurd failed
-refused (Some all) words old new name script ended.Usage named failed read = absurd failed
-refused (Some all) words old new name script (ended.TopicFile topic line why) named failed read = absurd failed
-refused (Some all) words old new name script (ended.ReadFault other) named failed read = absurd failed
-refused (Some all) words old new name script ended.WriteFault named failed read = absurd failed
-
--- how a script may fail is a refusal, and isn't Usage
-pub failure_is_refusal : (script : List ℕ) (status : Status) → IsScriptFailure script status → IsRefusal status
-failure_is_refusal script (ended.Script statement code) failed = tt
-failure_is_refusal script ended.OutOfMemory failed = tt
-failure_is_refusal script ended.Done failed = absurd failed
-failure_is_refusal script ended.Usage failed = absurd failed
-failure_is_refusal script (ended.TopicFile topic line why) failed = tt
-failure_is_refusal script (ended.ReadFault other) failed = tt
-failure_is_refusal script ended.WriteFault failed = absurd failed
 
 -- the names that joined while the script was read, and one more behind them
 joined_later : (words old mid new : List (List ℕ)) (name : List ℕ) → MayJoinScript words old mid → new ≡ mid ++ name ∷ [] → JoinedLast old new name
@@ -167,7 +144,7 @@ refused_accepted : (words : List (List ℕ)) (all : Files) (refused accepted : L
     IsScriptRead words all refused → IsScriptRead words all accepted → IsRefused refused statement code → IsAccepted accepted program → ⊥
 refused_accepted words all refused accepted statement code program read_refused read_accepted refusal is =
     refused_formless refused statement code is.0
-      (subst (λ (s : List ℕ). IsScriptOf s is.0) (one_script words all accepted refused read_accepted read_refused) is.1) refusal
+    (subst (λ (s : List ℕ). IsScriptOf s is.0) (one_script words all accepted refused read_accepted read_refused) is.1) refusal
 
 -- the topic files of a script aren't both good and bad
 good_bad : (words : List (List ℕ)) (all : Files) (a b : List ℕ) (p q : Program) (files : List TopicLines) (topic : List ℕ) →

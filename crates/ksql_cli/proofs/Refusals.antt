@@ -1,17 +1,14 @@
 -- A script has at most one refusal, and none where it is of a form.
-use Rattle.std.proofs.Common.{◌≡◌, ◌∙◌, ap, ap₂, sym, refl, subst, ℕ, List, ◌≤◌, ◌<◌, length, inl, inr, arith}
-use Rattle.std.specs.Prelude.{◌⊎◌}
-use Rattle.std.specs.Str.{IsUtf8}
+use Rattle.std.proofs.Common.{◌≡◌, ◌∙◌, sym, subst, ℕ, List, ◌≤◌, ◌<◌, length, inl, inr, arith}
 use Rattle.ksql_types.specs.Text.{longest_text}
 use Rattle.ksql_lexer.specs.declared.token.Token.{Token}
 use Rattle.ksql_lexer.specs.declared.token.TokenKind.{TokenKind}
-use Rattle.ksql_lexer.specs.Script.{AreTokens, BreaksIn, kinds}
+use Rattle.ksql_lexer.specs.Script.{kinds}
 use Rattle.ksql_lexer.proofs.Readings.{one_list, one_fault, not_both}
 use Rattle.ksql_parser.specs.declared.fault.Code.{Code}
 use Rattle.ksql_parser.specs.Script.{statements}
 use Rattle.ksql_parser.proofs.Settling.{one_refusal, not_both as tree_or_refusal}
 use Rattle.first_form.specs.declared.form.FirstForm.{FirstForm}
-use Rattle.first_form.specs.FirstForm.{IsFormOf}
 use Rattle.ksql_cli.specs.Command.{IsRefused, IsRefusedBytes, IsRefusedForm, IsRefusedText, IsScriptOf}
 
 apart : (n m : ℕ) → m < n → n ≤ m → ⊥

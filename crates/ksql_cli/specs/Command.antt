@@ -1,5 +1,5 @@
 -- What a command reads, what it writes, and the cause of each way in which it ends.
-use Rattle.std.specs.Prelude.{◌≡◌, ◌⊎◌, ℕ, ◌<◌, ◌≤◌, length, nat_le, Bool, ◌&&◌, List, [], ◌∷◌, ◌++◌, map, codes, bytes_eq, Option, None, Some, if◌then◌else◌, slice_get, option_map, unwrap_or}
+use Rattle.std.specs.Prelude.{◌≡◌, ◌⊎◌, ℕ, ◌<◌, ◌≤◌, length, nat_le, ◌&&◌, List, [], ◌∷◌, ◌++◌, codes, bytes_eq, Option, None, Some, if◌then◌else◌, slice_get, option_map, unwrap_or}
 use Rattle.std.specs.List.{list_all, AllByRecursion}
 use Rattle.std.specs.Str.{IsUtf8}
 use Rattle.ksql_types.specs.Text.{longest_text}
@@ -53,7 +53,7 @@ abbrev pub IsRefusedForm : List TokenKind → ℕ → Code → Type 0
 IsRefusedForm ts statement code =
     FirstRefused (statements ts) statement code
     ⊎ (((trees : List Statement) × AreTrees (statements ts) trees) × ((form : FirstForm) → IsFormOf ts form → ⊥)
-       × (statement ≡ 0) × (code ≡ Unsupported))
+    × (statement ≡ 0) × (code ≡ Unsupported))
 
 -- A text is refused: at its first place where no token begins, or else as its tokens are.
 abbrev pub IsRefusedText : List ℕ → ℕ → Code → Type 0

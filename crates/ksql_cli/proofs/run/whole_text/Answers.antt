@@ -1,4 +1,4 @@
-use Rattle.std.proofs.Common.{◌≡◌, subst, sym, List, ℕ}
+use Rattle.std.proofs.Common.{subst}
 use Rattle.std.specs.Prelude.{Option, IfSome}
 use Rattle.ksql_cli.specs.Command.{Files, IsFed}
 use Rattle.ksql_cli.specs.FirstProgram.{stream_of}
