@@ -8,3 +8,6 @@ mod script;
 
 pub use form::FirstForm;
 pub use script::{first_form, one_form};
+
+#[cfg(test)]
+mod tests;

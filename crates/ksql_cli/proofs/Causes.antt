@@ -4,10 +4,11 @@ use Rattle.std.specs.Prelude.{codes}
 use Rattle.ksql_types.specs.Text.{longest_text}
 use Rattle.std.specs.Prelude.{◌⊎◌, Option, None, Some, IfSome, ◌≤◌, IsTrue, Result, Ok, Err, IfOk, IfErr}
 use Rattle.std.proofs.lemmas.Option.{same_Some}
+use Rattle.std.proofs.lemmas.List.{append-nil}
 use Rattle.std.proofs.lemmas.Bool.Decides.{nat_tests}
 use Rattle.first_form.specs.Names.{is_topic}
 use Rattle.ksql_types.specs.declared.relation.Relation.{Relation}
-use Rattle.ksql_outside.specs.Outside.{read_bytes, JoinedLast, Rose}
+use Rattle.ksql_outside.specs.Outside.{read_bytes, JoinedLast, MayJoin}
 use Rattle.first_form.specs.declared.form.FirstForm.{FirstForm}
 use Rattle.first_form.specs.FirstForm.{IsFormOf}
 use Rattle.first_form.proofs.Scripts.{one_form_of}
@@ -23,51 +24,71 @@ use Rattle.ksql_cli.specs.declared.status.Status.TheVariants as ended
 use Rattle.ksql_cli.specs.declared.status.LineWhy.{LineWhy}
 use Rattle.ksql_cli.specs.FirstProgram.{program_of, stream_of}
 use Rattle.ksql_cli.specs.Lines.{feds_of}
-use Rattle.ksql_cli.specs.Command.{Files, script_name, IsScriptRead, IsScriptOf, IsRefused, IsAccepted, declared_of, topic_file, first_value, IsFed, IsBadFile, AreFed, IsFirstBad, IsTopicDue, IsDue, Runs, report_of, HasCause, IsDecided, IsRefusal, NoDueFails}
-use Rattle.ksql_cli.specs.Steps.{IsGrown, IsFormRead, IsScriptFailure, IsTextFailure, IsTokensFailure, IsTopicFailure}
-use Rattle.ksql_cli.proofs.Refusals.{Laws, refused_once, refused_formless}
+use Rattle.ksql_cli.specs.Command.{Files, script_name, IsScriptRead, IsScriptOf, IsRefused, IsAccepted, declared_of, topic_file, first_value, IsFed, IsBadFile, AreFed, IsFirstBad, AreDue, Runs, report_of, HasCause, IsDecided, IsRefusal, NoDueFails}
+use Rattle.ksql_cli.specs.Steps.{IsFormRead, IsJoined, IsTextFailure, IsTokensFailure, IsTopicFailure, MayJoinScript}
+use Rattle.ksql_cli.proofs.Refusals.{refused_once, refused_formless}
 
 pub if_some_both : {A : Type 0} (o : Option A) (P Q R : A → Type 0) → ((x : A) → P x → Q x → R x) → IfSome o P → IfSome o Q → IfSome o R
 if_some_both None P Q R both p q = tt
 if_some_both (Some x) P Q R both p q = both x p q
 
--- a script that was read and gave no form is refused, or memory is short
-pub refused : (known : Option Files) (words old new : List (List ℕ)) (name script : List ℕ) (status : Status) → script_name words ≡ Some name →
-    IsScriptFailure script status → IfSome known (λ all. read_bytes name all ≡ Some script) →
-    IfSome known (λ all. HasCause words all old new status)
-refused None words old new name script status named failed read = tt
-refused (Some all) words old new name script (ended.Script statement code) named failed read = (script, (name, named, read), failed)
-refused (Some all) words old new name script ended.OutOfMemory named failed read = tt
-refused (Some all) words old new name script ended.Done named failed read = absurd failed
-refused (Some all) words old new name script ended.Usage named failed read = absurd failed
-refused (Some all) words old new name script (ended.TopicFile topic line why) named failed read = absurd failed
-refused (Some all) words old new name script (ended.ReadFault other) named failed read = absurd failed
-refused (Some all) words old new name script ended.WriteFault named failed read = absurd failed
-
--- how a script may fail is a refusal, and isn't Usage
-pub failure_is_refusal : (script : List ℕ) (status : Status) → IsScriptFailure script status → IsRefusal status
-failure_is_refusal script (ended.Script statement code) failed = tt
-failure_is_refusal script ended.OutOfMemory failed = tt
-failure_is_refusal script ended.Done failed = absurd failed
-failure_is_refusal script ended.Usage failed = absurd failed
-failure_is_refusal script (ended.TopicFile topic line why) failed = tt
-failure_is_refusal script (ended.ReadFault other) failed = tt
-failure_is_refusal script ended.WriteFault failed = absurd failed
+-- the names that joined while the script was read, and one more behind them
+joined_later : (words old mid new : List (List ℕ)) (name : List ℕ) → MayJoinScript words old mid → new ≡ mid ++ name ∷ [] → JoinedLast old new name
+joined_later words old mid new name (inl same) is = ([], is ∙ ap (λ (names : List (List ℕ)). names ++ name ∷ []) same)
+joined_later words old mid new name (inr script) is =
+    (script.0 ∷ [], is ∙ ap (λ (names : List (List ℕ)). names ++ name ∷ []) script.2 ∙ append_assoc old (script.0 ∷ []) (name ∷ []))
 
 -- a failure at the topic file, behind a script that was read
 pub topic_cause : (words : List (List ℕ)) (all : Files) (form : FirstForm) (old mid new : List (List ℕ)) (status : Status) →
-    IsGrown old mid → IsFormRead words all form → IsTopicFailure all form mid new status → HasCause words all old new status
+    MayJoinScript words old mid → IsFormRead words all form → IsTopicFailure all form mid new status → HasCause words all old new status
 topic_cause words all form old mid new (ended.TopicFile topic line why) grown read bad =
     (bad.0, bad.1, (read.0, program_of form, read.1, (form, read.2, refl), inl (bad.3, bad.2)))
-topic_cause words all form old mid new (ended.ReadFault name) grown read failed = (
-  (grown.0, failed.1 ∙ ap (λ (names : List (List ℕ)). names ++ name ∷ []) grown.1 ∙ append_assoc old grown.0 (name ∷ [])),
-  inr (read.0, program_of form, read.1, (form, read.2, refl), inl failed.0),
-)
+topic_cause words all form old mid new (ended.ReadFault name) grown read failed =
+    inr ((read.0, program_of form, read.1, (form, read.2, refl), inl failed.0), joined_later words old mid new name grown failed.1)
 topic_cause words all form old mid new ended.OutOfMemory grown read failed = tt
 topic_cause words all form old mid new ended.Done grown read failed = absurd failed
 topic_cause words all form old mid new ended.Usage grown read failed = absurd failed
 topic_cause words all form old mid new (ended.Script statement code) grown read failed = absurd failed
 topic_cause words all form old mid new ended.WriteFault grown read failed = absurd failed
+
+-- a read fault at the topic file is the last name that joined, from before the script was read
+pub topic_joined : (words old mid new : List (List ℕ)) (status : Status) → MayJoinScript words old mid → IsJoined mid new status → IsJoined old new status
+topic_joined words old mid new (ended.ReadFault name) (inl same) joined =
+    (joined.0, joined.1 ∙ ap (λ (names : List (List ℕ)). names ++ (joined.0 ++ name ∷ [])) same)
+topic_joined words old mid new (ended.ReadFault name) (inr script) joined =
+    (script.0 ∷ joined.0, joined.1 ∙ ap (λ (names : List (List ℕ)). names ++ (joined.0 ++ name ∷ [])) script.2 ∙ append_assoc old (script.0 ∷ []) (joined.0 ++ name ∷ []))
+topic_joined words old mid new ended.Done grown joined = tt
+topic_joined words old mid new ended.Usage grown joined = tt
+topic_joined words old mid new (ended.Script statement code) grown joined = tt
+topic_joined words old mid new (ended.TopicFile topic line why) grown joined = tt
+topic_joined words old mid new ended.WriteFault grown joined = tt
+topic_joined words old mid new ended.OutOfMemory grown joined = tt
+
+-- the script's name is due
+script_due : (words : List (List ℕ)) (all : Files) (old new : List (List ℕ)) → MayJoinScript words old new → AreDue words all old new
+script_due words all old new (inl same) = ([], same ∙ sym (append-nil old), tt)
+script_due words all old new (inr script) = (script.0 ∷ [], script.2, (inl script.1, tt))
+
+-- and behind it the topic file's
+topic_due : (words : List (List ℕ)) (all : Files) (form : FirstForm) (old mid new : List (List ℕ)) → MayJoinScript words old mid →
+    MayJoin mid new (topic_file (stream_of form)) → IsFormRead words all form → AreDue words all old new
+topic_due words all form old mid new script (inl same) read =
+    let due = script_due words all old mid script in (due.0, same ∙ due.1, due.2)
+topic_due words all form old mid new (inl none) (inr topic) read = (
+  topic_file (stream_of form) ∷ [],
+  topic ∙ ap (λ (names : List (List ℕ)). names ++ topic_file (stream_of form) ∷ []) none,
+  (inr (read.0, program_of form, read.1, (form, read.2, refl), inl refl), tt),
+)
+topic_due words all form old mid new (inr script) (inr topic) read = (
+  script.0 ∷ topic_file (stream_of form) ∷ [],
+  topic ∙ ap (λ (names : List (List ℕ)). names ++ topic_file (stream_of form) ∷ []) script.2 ∙ append_assoc old (script.0 ∷ []) (topic_file (stream_of form) ∷ []),
+  (inl script.1, (inr (read.0, program_of form, read.1, (form, read.2, refl), inl refl), tt)),
+)
+
+pub topics_due : (known : Option Files) (words : List (List ℕ)) (form : FirstForm) (old mid new : List (List ℕ)) → MayJoinScript words old mid →
+    MayJoin mid new (topic_file (stream_of form)) → IfSome known (λ all. IsFormRead words all form) → IfSome known (λ all. AreDue words all old new)
+topics_due None words form old mid new script topic read = tt
+topics_due (Some all) words form old mid new script topic read = topic_due words all form old mid new script topic read
 
 -- the report of a form's program on its records
 pub run_found : (words : List (List ℕ)) (all : Files) (form : FirstForm) (feds : List Fed) (text : List ℕ) →
@@ -119,11 +140,11 @@ not_named words all script none read = some_none read.0 (sym read.1 ∙ none)
     some_none name e = cc (e)
 
 -- a script isn't both refused and accepted
-refused_accepted : Laws → (words : List (List ℕ)) (all : Files) (refused accepted : List ℕ) (statement : ℕ) (code : Code) (program : Program) →
+refused_accepted : (words : List (List ℕ)) (all : Files) (refused accepted : List ℕ) (statement : ℕ) (code : Code) (program : Program) →
     IsScriptRead words all refused → IsScriptRead words all accepted → IsRefused refused statement code → IsAccepted accepted program → ⊥
-refused_accepted laws words all refused accepted statement code program read_refused read_accepted refusal is =
-    refused_formless laws refused statement code is.0
-      (subst (λ (s : List ℕ). IsScriptOf s is.0) (one_script words all accepted refused read_accepted read_refused) is.1) refusal
+refused_accepted words all refused accepted statement code program read_refused read_accepted refusal is =
+    refused_formless refused statement code is.0
+    (subst (λ (s : List ℕ). IsScriptOf s is.0) (one_script words all accepted refused read_accepted read_refused) is.1) refusal
 
 -- the topic files of a script aren't both good and bad
 good_bad : (words : List (List ℕ)) (all : Files) (a b : List ℕ) (p q : Program) (files : List TopicLines) (topic : List ℕ) →
@@ -135,14 +156,14 @@ good_bad words all a b p q files topic read_a read_b is_a is_b fed bad =
     no_bad all (declared_of q.items) files topic (subst (λ (r : Program). AreFed all (declared_of r.items) files) programs fed) bad
 
 -- What the words and the files decide is one answer.
-agree : Laws → (words : List (List ℕ)) (all : Files) (old new : List (List ℕ)) (a b : Status) → IsDecided a → IsDecided b →
+agree : (words : List (List ℕ)) (all : Files) (old new : List (List ℕ)) (a b : Status) → IsDecided a → IsDecided b →
     HasCause words all old new a → HasCause words all old new b → a ≡ b
-agree laws words all old new ended.Done ended.Done da db a b = refl
-agree laws words all old new ended.Usage ended.Usage da db a b = refl
-agree laws words all old new (ended.Script s c) (ended.Script t d) da db a b =
-    let once = refused_once laws b.0 s t c d (subst (λ (script : List ℕ). IsRefused script s c) (one_script words all a.0 b.0 a.1 b.1) a.2) b.2 in
+agree words all old new ended.Done ended.Done da db a b = refl
+agree words all old new ended.Usage ended.Usage da db a b = refl
+agree words all old new (ended.Script s c) (ended.Script t d) da db a b =
+    let once = refused_once b.0 s t c d (subst (λ (script : List ℕ). IsRefused script s c) (one_script words all a.0 b.0 a.1 b.1) a.2) b.2 in
     ap₂ ended.Script once.0 once.1
-agree laws words all old new (ended.TopicFile t l w) (ended.TopicFile u m v) da db a b =
+agree words all old new (ended.TopicFile t l w) (ended.TopicFile u m v) da db a b =
     let scripts = one_script words all a.2.0 b.2.0 a.2.2 b.2.2 in
     let programs = one_program b.2.0 a.2.1 b.2.1 (subst (λ (s : List ℕ). IsAccepted s a.2.1) scripts a.2.3) b.2.3 in
     let bad = subst (λ (p : Program). IsFirstBad all (declared_of p.items) t) programs a.2.4 in
@@ -151,42 +172,43 @@ agree laws words all old new (ended.TopicFile t l w) (ended.TopicFile u m v) da 
   where
     topic_file_same : (t u : List ℕ) (l m : ℕ) (w v : LineWhy) → t ≡ u → l ≡ m → w ≡ v → ended.TopicFile t l w ≡ ended.TopicFile u m v
     topic_file_same t u l m w v p q r = cc
-agree laws words all old new ended.Done ended.Usage da db a b = absurd (not_named words all a.2.0 b a.2.1)
-agree laws words all old new ended.Usage ended.Done da db a b = absurd (not_named words all b.2.0 a b.2.1)
-agree laws words all old new ended.Usage (ended.Script t d) da db a b = absurd (not_named words all b.0 a b.1)
-agree laws words all old new (ended.Script s c) ended.Usage da db a b = absurd (not_named words all a.0 b a.1)
-agree laws words all old new ended.Usage (ended.TopicFile u m v) da db a b = absurd (not_named words all b.2.0 a b.2.2)
-agree laws words all old new (ended.TopicFile t l w) ended.Usage da db a b = absurd (not_named words all a.2.0 b a.2.2)
-agree laws words all old new ended.Done (ended.Script t d) da db a b = absurd (refused_accepted laws words all b.0 a.2.0 t d a.0 b.1 a.2.1 b.2 a.2.2)
-agree laws words all old new (ended.Script s c) ended.Done da db a b = absurd (refused_accepted laws words all a.0 b.2.0 s c b.0 a.1 b.2.1 a.2 b.2.2)
-agree laws words all old new (ended.TopicFile t l w) (ended.Script u d) da db a b = absurd (refused_accepted laws words all b.0 a.2.0 u d a.2.1 b.1 a.2.2 b.2 a.2.3)
-agree laws words all old new (ended.Script s c) (ended.TopicFile u m v) da db a b = absurd (refused_accepted laws words all a.0 b.2.0 s c b.2.1 a.1 b.2.2 a.2 b.2.3)
-agree laws words all old new ended.Done (ended.TopicFile u m v) da db a b = absurd (good_bad words all a.2.0 b.2.0 a.0 b.2.1 a.1 u a.2.1 b.2.2 a.2.2 b.2.3 a.2.3 b.2.4)
-agree laws words all old new (ended.TopicFile t l w) ended.Done da db a b = absurd (good_bad words all b.2.0 a.2.0 b.0 a.2.1 b.1 t b.2.1 a.2.2 b.2.2 a.2.3 b.2.3 a.2.4)
-agree laws words all old new (ended.ReadFault n) b da db ca cb = absurd da
-agree laws words all old new ended.WriteFault b da db ca cb = absurd da
-agree laws words all old new ended.OutOfMemory b da db ca cb = absurd da
-agree laws words all old new a (ended.ReadFault n) da db ca cb = absurd db
-agree laws words all old new a ended.WriteFault da db ca cb = absurd db
-agree laws words all old new a ended.OutOfMemory da db ca cb = absurd db
+agree words all old new ended.Done ended.Usage da db a b = absurd (not_named words all a.2.0 b a.2.1)
+agree words all old new ended.Usage ended.Done da db a b = absurd (not_named words all b.2.0 a b.2.1)
+agree words all old new ended.Usage (ended.Script t d) da db a b = absurd (not_named words all b.0 a b.1)
+agree words all old new (ended.Script s c) ended.Usage da db a b = absurd (not_named words all a.0 b a.1)
+agree words all old new ended.Usage (ended.TopicFile u m v) da db a b = absurd (not_named words all b.2.0 a b.2.2)
+agree words all old new (ended.TopicFile t l w) ended.Usage da db a b = absurd (not_named words all a.2.0 b a.2.2)
+agree words all old new ended.Done (ended.Script t d) da db a b = absurd (refused_accepted words all b.0 a.2.0 t d a.0 b.1 a.2.1 b.2 a.2.2)
+agree words all old new (ended.Script s c) ended.Done da db a b = absurd (refused_accepted words all a.0 b.2.0 s c b.0 a.1 b.2.1 a.2 b.2.2)
+agree words all old new (ended.TopicFile t l w) (ended.Script u d) da db a b = absurd (refused_accepted words all b.0 a.2.0 u d a.2.1 b.1 a.2.2 b.2 a.2.3)
+agree words all old new (ended.Script s c) (ended.TopicFile u m v) da db a b = absurd (refused_accepted words all a.0 b.2.0 s c b.2.1 a.1 b.2.2 a.2 b.2.3)
+agree words all old new ended.Done (ended.TopicFile u m v) da db a b = absurd (good_bad words all a.2.0 b.2.0 a.0 b.2.1 a.1 u a.2.1 b.2.2 a.2.2 b.2.3 a.2.3 b.2.4)
+agree words all old new (ended.TopicFile t l w) ended.Done da db a b = absurd (good_bad words all b.2.0 a.2.0 b.0 a.2.1 b.1 t b.2.1 a.2.2 b.2.2 a.2.3 b.2.3 a.2.4)
+agree words all old new (ended.ReadFault n) b da db ca cb = absurd da
+agree words all old new ended.WriteFault b da db ca cb = absurd da
+agree words all old new ended.OutOfMemory b da db ca cb = absurd da
+agree words all old new a (ended.ReadFault n) da db ca cb = absurd db
+agree words all old new a ended.WriteFault da db ca cb = absurd db
+agree words all old new a ended.OutOfMemory da db ca cb = absurd db
 
 -- what has its cause is the answer, where the words and the files decided it, or want of memory is
-pub decided : Laws → (words : List (List ℕ)) (all : Files) (old new : List (List ℕ)) (answer status : Status) → IsRefusal answer →
+pub decided : (words : List (List ℕ)) (all : Files) (old new : List (List ℕ)) (answer status : Status) → IsRefusal answer →
     HasCause words all old new answer → NoDueFails words all old new → IsDecided status → HasCause words all old new status →
     (answer ≡ status) ⊎ (answer ≡ ended.OutOfMemory)
-decided laws words all old new ended.Usage status refusal cause none is caused = inl (agree laws words all old new ended.Usage status tt is cause caused)
-decided laws words all old new (ended.Script s c) status refusal cause none is caused = inl (agree laws words all old new (ended.Script s c) status tt is cause caused)
-decided laws words all old new (ended.TopicFile t l w) status refusal cause none is caused = inl (agree laws words all old new (ended.TopicFile t l w) status tt is cause caused)
-decided laws words all old new (ended.ReadFault name) status refusal cause none is caused = absurd (none name cause.1 cause.0)
-decided laws words all old new ended.OutOfMemory status refusal cause none is caused = inr refl
-decided laws words all old new ended.Done status refusal cause none is caused = absurd refusal
-decided laws words all old new ended.WriteFault status refusal cause none is caused = absurd refusal
+decided words all old new ended.Usage status refusal cause none is caused = inl (agree words all old new ended.Usage status tt is cause caused)
+decided words all old new (ended.Script s c) status refusal cause none is caused = inl (agree words all old new (ended.Script s c) status tt is cause caused)
+decided words all old new (ended.TopicFile t l w) status refusal cause none is caused = inl (agree words all old new (ended.TopicFile t l w) status tt is cause caused)
+decided words all old new (ended.ReadFault name) status refusal (inl script) none is caused = absurd (none name (inl script.0) ([], script.1))
+decided words all old new (ended.ReadFault name) status refusal (inr topic) none is caused = absurd (none name (inr topic.0) topic.1)
+decided words all old new ended.OutOfMemory status refusal cause none is caused = inr refl
+decided words all old new ended.Done status refusal cause none is caused = absurd refusal
+decided words all old new ended.WriteFault status refusal cause none is caused = absurd refusal
 
 -- what the clause on exact answers says, of an answer and of what keeps the writes calm
 abbrev IsExact : List (List ℕ) → List (List ℕ) → List (List ℕ) → Type 0 → Status → Files → Type 0
 IsExact words old new Calm answer all =
-    NoDueFails words all old new → Calm → (status : Status) → IsDecided status → HasCause words all old new status →
-    (answer ≡ status) ⊎ (answer ≡ ended.OutOfMemory)
+    NoDueFails words all old new → (status : Status) → IsDecided status → HasCause words all old new status →
+    (status ≡ ended.Done → Calm) → (answer ≡ status) ⊎ (answer ≡ ended.OutOfMemory)
 
 -- what the clause on complete answers says
 abbrev IsComplete : List (List ℕ) → List (List ℕ) → List (List ℕ) → Type 0 → Status → Files → Type 0
@@ -194,28 +216,32 @@ IsComplete words old new Calm answer all =
     (program : Program) (files : List TopicLines) → Runs words all program files → NoDueFails words all old new → Calm →
     (answer ≡ ended.Done) ⊎ (answer ≡ ended.OutOfMemory)
 
+-- some program runs on some files
+abbrev IsRun : List (List ℕ) → List ℕ → Files → Type 0
+IsRun words text all = (program : Program) × (files : List TopicLines) × Runs words all program files × (text ≡ report_of program files)
+
 pub complete_of : (known : Option Files) (words old new : List (List ℕ)) (Calm : Type 0) (answer : Status) →
     IfSome known (IsExact words old new Calm answer) → IfSome known (IsComplete words old new Calm answer)
 complete_of None words old new Calm answer exact = tt
-complete_of (Some all) words old new Calm answer exact = λ program files runs none calm. exact none calm ended.Done tt (program, files, runs)
+complete_of (Some all) words old new Calm answer exact = λ program files runs none calm. exact none ended.Done tt (program, files, runs) (λ done. calm)
 
-pub exact_done : Laws → (known : Option Files) (words old new : List (List ℕ)) (Calm : Type 0) (text : List ℕ) →
-    IfSome known (λ all. (program : Program) × (files : List TopicLines) × Runs words all program files × (text ≡ report_of program files)) →
-    IfSome known (IsExact words old new Calm ended.Done)
-exact_done laws None words old new Calm text found = tt
-exact_done laws (Some all) words old new Calm text found =
-    λ none calm status is caused. inl (agree laws words all old new ended.Done status tt is (found.0, found.1, found.2) caused)
+pub exact_done : (known : Option Files) (words old new : List (List ℕ)) (Calm : Type 0) (text : List ℕ) →
+    IfSome known (IsRun words text) → IfSome known (IsExact words old new Calm ended.Done)
+exact_done None words old new Calm text found = tt
+exact_done (Some all) words old new Calm text found =
+    λ none status is caused calm. inl (agree words all old new ended.Done status tt is (found.0, found.1, found.2) caused)
 
-pub exact_fault : (known : Option Files) (words old new : List (List ℕ)) (Fault : Type 0) (answer : Status) → Fault →
-    IfSome known (IsExact words old new (¬ Fault) answer)
-exact_fault None words old new Fault answer fault = tt
-exact_fault (Some all) words old new Fault answer fault = λ none calm status is caused. absurd (calm fault)
+pub exact_fault : (known : Option Files) (words old new : List (List ℕ)) (Fault : Type 0) (text : List ℕ) → Fault →
+    IfSome known (IsRun words text) → IfSome known (IsExact words old new (¬ Fault) ended.WriteFault)
+exact_fault None words old new Fault text fault found = tt
+exact_fault (Some all) words old new Fault text fault found =
+    λ none status is caused calm. absurd (calm (sym (agree words all old new ended.Done status tt is (found.0, found.1, found.2) caused)) fault)
 
-pub exact_refusal : Laws → (known : Option Files) (words old new : List (List ℕ)) (Calm : Type 0) (answer : Status) → IsRefusal answer →
+pub exact_refusal : (known : Option Files) (words old new : List (List ℕ)) (Calm : Type 0) (answer : Status) → IsRefusal answer →
     IfSome known (λ all. HasCause words all old new answer) → IfSome known (IsExact words old new Calm answer)
-exact_refusal laws None words old new Calm answer refusal cause = tt
-exact_refusal laws (Some all) words old new Calm answer refusal cause =
-    λ none calm status is caused. decided laws words all old new answer status refusal cause none is caused
+exact_refusal None words old new Calm answer refusal cause = tt
+exact_refusal (Some all) words old new Calm answer refusal cause =
+    λ none status is caused calm. decided words all old new answer status refusal cause none is caused
 
 -- the name of a topic file is short
 pub due_short : (topic name : List ℕ) → name ≡ codes "./" ++ (topic ++ codes ".jsonl") → length topic ≤ 249 → length name ≤ longest_text

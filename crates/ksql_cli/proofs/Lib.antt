@@ -2,4 +2,3 @@ pub mod Causes
 pub mod LineLemmas
 pub mod Refusals
 pub mod ReportLemmas
-pub mod StatementLaws

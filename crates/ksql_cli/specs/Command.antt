@@ -1,6 +1,6 @@
 -- What a command reads, what it writes, and the cause of each way in which it ends.
-use Rattle.std.specs.Prelude.{◌≡◌, ◌⊎◌, ℕ, ◌<◌, ◌≤◌, length, nat_le, Bool, ◌&&◌, List, [], ◌∷◌, ◌++◌, map, codes, bytes_eq, Option, None, Some, if◌then◌else◌, slice_get, option_map, unwrap_or}
-use Rattle.std.specs.List.{list_all}
+use Rattle.std.specs.Prelude.{◌≡◌, ◌⊎◌, ℕ, ◌<◌, ◌≤◌, length, nat_le, ◌&&◌, List, [], ◌∷◌, ◌++◌, codes, bytes_eq, Option, None, Some, if◌then◌else◌, slice_get, option_map, unwrap_or}
+use Rattle.std.specs.List.{list_all, AllByRecursion}
 use Rattle.std.specs.Str.{IsUtf8}
 use Rattle.ksql_types.specs.Text.{longest_text}
 use Rattle.ksql_types.specs.declared.relation.Relation.{Relation}
@@ -53,7 +53,7 @@ abbrev pub IsRefusedForm : List TokenKind → ℕ → Code → Type 0
 IsRefusedForm ts statement code =
     FirstRefused (statements ts) statement code
     ⊎ (((trees : List Statement) × AreTrees (statements ts) trees) × ((form : FirstForm) → IsFormOf ts form → ⊥)
-       × (statement ≡ 0) × (code ≡ Unsupported))
+    × (statement ≡ 0) × (code ≡ Unsupported))
 
 -- A text is refused: at its first place where no token begins, or else as its tokens are.
 abbrev pub IsRefusedText : List ℕ → ℕ → Code → Type 0
@@ -126,11 +126,19 @@ IsTopicDue all [] name = ⊥
 IsTopicDue all (relation ∷ relations) name =
     (name ≡ topic_file relation) ⊎ (((feds : List Fed) × IsFed all relation feds) × IsTopicDue all relations name)
 
--- this name is the next to be read, and what comes before it is good: the script, and then each topic file
+-- this topic file is due: the script is accepted, and the topic files before it are good
+abbrev pub IsFileDue : List (List ℕ) → Files → List ℕ → Type 0
+IsFileDue words all name =
+    (script : List ℕ) × (program : Program) × IsScriptRead words all script × IsAccepted script program
+    × IsTopicDue all (declared_of program.items) name
+
+-- a file of this name is due: the script, or a topic file
 abbrev pub IsDue : List (List ℕ) → Files → List ℕ → Type 0
-IsDue words all name =
-    (script_name words ≡ Some name)
-    ⊎ ((script : List ℕ) × (program : Program) × IsScriptRead words all script × IsAccepted script program × IsTopicDue all (declared_of program.items) name)
+IsDue words all name = (script_name words ≡ Some name) ⊎ IsFileDue words all name
+
+-- the names that joined are all due
+abbrev pub AreDue : List (List ℕ) → Files → List (List ℕ) → List (List ℕ) → Type 0
+AreDue words all old new = (names : List (List ℕ)) × (new ≡ old ++ names) × AllByRecursion (IsDue words all) names
 
 -- the command runs this program on these files
 abbrev pub Runs : List (List ℕ) → Files → Program → List TopicLines → Type 0
@@ -152,7 +160,8 @@ HasCause words all old new (ended.Script statement code) =
 HasCause words all old new (ended.TopicFile topic line why) =
     (line ≡ 0) × (why ≡ BadLine)
     × ((script : List ℕ) × (program : Program) × IsScriptRead words all script × IsAccepted script program × IsFirstBad all (declared_of program.items) topic)
-HasCause words all old new (ended.ReadFault name) = JoinedLast old new name × IsDue words all name
+HasCause words all old new (ended.ReadFault name) =
+    ((script_name words ≡ Some name) × (new ≡ old ++ name ∷ [])) ⊎ (IsFileDue words all name × JoinedLast old new name)
 HasCause words all old new ended.WriteFault = (program : Program) × (files : List TopicLines) × Runs words all program files
 HasCause words all old new ended.OutOfMemory = Unit {0}
 

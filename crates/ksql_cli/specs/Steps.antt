@@ -1,5 +1,5 @@
 -- What the steps of a command say of the files that they read.
-use Rattle.std.specs.Prelude.{◌≡◌, ◌⊎◌, ℕ, List, [], ◌∷◌, ◌++◌}
+use Rattle.std.specs.Prelude.{◌≡◌, ◌⊎◌, ℕ, List, [], ◌∷◌, ◌++◌, Some}
 use Rattle.first_form.specs.declared.form.FirstForm.{FirstForm}
 use Rattle.ksql_cli.specs.declared.status.Status.{Status}
 use Rattle.ksql_cli.specs.declared.status.Status.TheVariants as ended
@@ -10,16 +10,22 @@ use Rattle.ksql_lexer.specs.declared.token.TokenKind.{TokenKind}
 use Rattle.ksql_lexer.specs.Script.{AreTokens, kinds}
 use Rattle.ksql_grammar.specs.declared.tree.Statement.{Statement}
 use Rattle.ksql_parser.specs.Script.{AreTrees, statements}
-use Rattle.ksql_cli.specs.Command.{Files, IsScriptRead, IsScriptOf, IsRefused, IsRefusedForm, IsRefusedText, IsBadFile, topic_file}
+use Rattle.ksql_outside.specs.Outside.{JoinedLast}
+use Rattle.ksql_cli.specs.Command.{Files, script_name, IsScriptRead, IsScriptOf, IsRefused, IsRefusedForm, IsRefusedText, IsBadFile, topic_file}
 use Rattle.ksql_cli.specs.FirstProgram.{stream_of}
 
 -- the most bytes of a legal topic name
 abbrev pub longest_topic : ℕ
 longest_topic = 249
 
--- some names joined
-abbrev pub IsGrown : List (List ℕ) → List (List ℕ) → Type 0
-IsGrown old new = (names : List (List ℕ)) × (new ≡ old ++ names)
+-- a read fault names the last name that joined
+abbrev pub IsJoined : List (List ℕ) → List (List ℕ) → Status → Type 0
+IsJoined old new (ended.ReadFault name) = JoinedLast old new name
+IsJoined old new _ = Unit {0}
+
+-- at most the script's name joined
+abbrev pub MayJoinScript : List (List ℕ) → List (List ℕ) → List (List ℕ) → Type 0
+MayJoinScript words old new = (new ≡ old) ⊎ ((name : List ℕ) × (script_name words ≡ Some name) × (new ≡ old ++ name ∷ []))
 
 -- why a file wasn't read: this name joined the failed names, or memory is short
 abbrev pub IsReadFailure : List (List ℕ) → List (List ℕ) → List ℕ → Status → Type 0

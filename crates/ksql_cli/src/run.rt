@@ -1,20 +1,20 @@
-ghost use Rattle.std.specs.Prelude.{◌≡◌, ◌↔◌, ◌⊎◌, ◌≤◌, ◌∷◌, [], None, Some, option_map, string_bytes, nat_le, length, List, IfOk, IfErr, IfSome, IsErrOf};
+ghost use Rattle.std.specs.Prelude.{◌≡◌, ◌↔◌, ◌⊎◌, ◌≤◌, ◌∷◌, [], None, Some, option_map, string_bytes, nat_le, length, ℕ, List, IfOk, IfErr, IfSome, IsErrOf};
 ghost use Rattle.ksql_types.specs.Text.{longest_text};
-ghost use Rattle.ksql_outside.specs.Outside.{followed_by, read_bytes, Rose, WrotePrefix};
+ghost use Rattle.ksql_outside.specs.Outside.{followed_by, JoinedLast, MayJoin, read_bytes, Rose, WrotePrefix};
 ghost use Rattle.query_meaning.specs.declared.program.Program.{Program};
 ghost use Rattle.query_meaning.specs.declared.change.TopicLines.{TopicLines};
 ghost use Rattle.ksql_cli.specs.declared.status.Status.{Status};
 ghost use Rattle.ksql_cli.specs.FirstProgram.{program_of, stream_of};
-ghost use Rattle.ksql_cli.specs.Command.{HasCause, IsDecided, IsFed, IsRefusal, longest_word, NoDueFails, report_of, Runs, script_name};
-ghost use Rattle.ksql_cli.specs.Steps.{IsFormRead, IsGrown, IsReadFailure, IsTopicFailure, IsTopicRefusal, longest_topic};
+ghost use Rattle.ksql_cli.specs.Command.{AreDue, HasCause, IsDecided, IsFed, IsRefusal, longest_word, NoDueFails, report_of, Runs, script_name, topic_file};
+ghost use Rattle.ksql_cli.specs.Steps.{IsFormRead, IsJoined, IsReadFailure, IsTopicFailure, IsTopicRefusal, longest_topic, MayJoinScript};
 
 use crate::lines::topic_feds;
 use crate::program::program_of;
 use crate::report::report;
 use crate::script::form_of_script;
 use crate::status::{LineWhy, Status};
-use ksql_outside::{Failed, Folder, Gate, ReadFail, Sink, write_whole};
 use first_form::FirstForm;
+use ksql_outside::{Failed, Folder, Gate, ReadFail, Sink, write_whole};
 use ksql_types::{Chars, CopyOf, Word, Words};
 use query_meaning::{Feds, TopicLines, order_of, slow_meaning};
 use std::alloc::{AllocError, Global};
@@ -34,14 +34,16 @@ pub fn ksql<R, F: Folder, K: Sink, G: Gate + Sync>(
     // Each status has its cause in the words, the files and the names that failed.
     ensures cause { IfSome (F.files folder.old) (λ all. HasCause words.now all (F.failed folder.old) (F.failed folder.new) result) }
     ensures usage { (result ≡ Status.Usage) ↔ (script_name words.now ≡ None) }
+    ensures read_fault { (name : List ℕ) → result ≡ Status.ReadFault name → JoinedLast (F.failed folder.old) (F.failed folder.new) name }
+    ensures reads { IfSome (F.files folder.old) (λ all. AreDue words.now all (F.failed folder.old) (F.failed folder.new)) }
     ensures write_fault { result ≡ Status.WriteFault → Rose (K.faults out.old) (K.faults out.new) }
     ensures prefix { result ≡ Status.WriteFault → IfSome (F.files folder.old) (λ all. (program : Program) × (files : List TopicLines)
         × Runs words.now all program files × WrotePrefix (K.written out.old) (K.written out.new) (report_of program files)) }
     ensures nothing { IsRefusal result → K.written out.new ≡ K.written out.old }
-    // What has its cause comes, unless memory is short, a due name failed or a write failed.
+    // What has its cause comes, unless memory is short, a due name failed or, where a report is due, a write failed.
     ensures exact { IfSome (F.files folder.old) (λ all. NoDueFails words.now all (F.failed folder.old) (F.failed folder.new)
-        → ¬ Rose (K.faults out.old) (K.faults out.new) → (status : Status) → IsDecided status
-        → HasCause words.now all (F.failed folder.old) (F.failed folder.new) status → (result ≡ status) ⊎ (result ≡ Status.OutOfMemory)) }
+        → (status : Status) → IsDecided status → HasCause words.now all (F.failed folder.old) (F.failed folder.new) status
+        → (status ≡ Status.Done → ¬ Rose (K.faults out.old) (K.faults out.new)) → (result ≡ status) ⊎ (result ≡ Status.OutOfMemory)) }
     // An accepted script and good topic files give their report, or want of memory.
     ensures complete { IfSome (F.files folder.old) (λ all. (program : Program) (files : List TopicLines) → Runs words.now all program files
         → NoDueFails words.now all (F.failed folder.old) (F.failed folder.new) → ¬ Rose (K.faults out.old) (K.faults out.new)
@@ -63,6 +65,8 @@ fn whole_text<F: Folder>(alloc: Global, words: &Words, folder: &mut F) -> Result
         × Runs words.now all program files × (string_bytes text ≡ report_of program files))) }
     ensures cause { IfErr result (λ status. IfSome (F.files folder.old)
         (λ all. HasCause words.now all (F.failed folder.old) (F.failed folder.new) status)) }
+    ensures joined { IfErr result (IsJoined (F.failed folder.old) (F.failed folder.new)) }
+    ensures reads { IfSome (F.files folder.old) (λ all. AreDue words.now all (F.failed folder.old) (F.failed folder.new)) }
     ensures refusal { IfErr result IsRefusal }
     ensures usage { IsErrOf result Status.Usage ↔ (script_name words.now ≡ None) }
     ensures same_files { F.files folder.new ≡ F.files folder.old }
@@ -95,7 +99,8 @@ fn accepted_script<F: Folder>(
     ensures refusal { IfErr result IsRefusal }
     ensures usage { IsErrOf result Status.Usage ↔ (script_name words.now ≡ None) }
     ensures same_files { F.files folder.new ≡ F.files folder.old }
-    ensures grows { IsGrown (F.failed folder.old) (F.failed folder.new) }
+    ensures joined { IfErr result (IsJoined (F.failed folder.old) (F.failed folder.new)) }
+    ensures grows { MayJoinScript words.now (F.failed folder.old) (F.failed folder.new) }
 {
     let Some(name) = script_name(words) else {
         return Err(Status::Usage);
@@ -115,6 +120,8 @@ fn topic_of<F: Folder>(alloc: Global, folder: &mut F, form: &FirstForm) -> Resul
     ensures cause { IfErr result (λ status. IfSome (F.files folder.old)
         (λ all. IsTopicFailure all form.now (F.failed folder.old) (F.failed folder.new) status)) }
     ensures refusal { IfErr result IsTopicRefusal }
+    ensures joined { IfErr result (IsJoined (F.failed folder.old) (F.failed folder.new)) }
+    ensures grows { MayJoin (F.failed folder.old) (F.failed folder.new) (topic_file (stream_of form.now)) }
     ensures same_files { F.files folder.new ≡ F.files folder.old }
 {
     let topic = form.topic.items();
@@ -153,7 +160,7 @@ fn due_file<F: Folder>(alloc: Global, folder: &mut F, name: &str) -> Result<Vec<
     ensures told { IfOk result (λ bytes. IfSome (F.files folder.old) (λ all. read_bytes name.now all ≡ Some bytes.items)) }
     ensures cause { IfErr result (IsReadFailure (F.failed folder.old) (F.failed folder.new) name.now) }
     ensures same_files { F.files folder.new ≡ F.files folder.old }
-    ensures grows { IsGrown (F.failed folder.old) (F.failed folder.new) }
+    ensures grows { MayJoin (F.failed folder.old) (F.failed folder.new) name.now }
 {
     let kept = match String::from_str(alloc, name) {
         Ok(kept) => Chars::of(kept),

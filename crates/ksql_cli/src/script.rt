@@ -7,13 +7,12 @@ ghost use Rattle.ksql_cli.specs.Command.{IsScriptOf};
 ghost use Rattle.ksql_parser.specs.Script.{AreOfText};
 ghost use Rattle.ksql_cli.specs.Steps.{HaveTrees, IsScriptFailure, IsTextFailure, IsTextOf, IsTokensFailure, IsTokensOf};
 
+use crate::status::Status;
 use first_form::{FirstForm, first_form};
 use ksql_lexer::{LexFault, Token, tokens};
 use ksql_parser::{Code, ParseFault, parse};
 use std::alloc::Global;
 use std::str;
-
-use crate::status::Status;
 
 /// The most bytes of a script.
 const LONGEST_SCRIPT: usize = 1_048_576;

@@ -3,8 +3,8 @@ ghost use Rattle.ksql_types.specs.Text.{longest_text};
 
 use crate::run::ksql;
 use crate::status::{LineWhy, Status};
-use ksql_parser::Code;
 use ksql_outside::{MemFolder, MemSink, NoGate};
+use ksql_parser::Code;
 use ksql_types::{Bytes, Chars, Items, Word, Words};
 use std::alloc::{AllocError, Global};
 use std::test::Fail;
@@ -35,12 +35,12 @@ stream BIG query c=1 changes=0
 end
 ";
 
-fn file(alloc: Global, name: &str, bytes: &str) -> Result<(Chars, Bytes), AllocError>
+fn file(alloc: Global, name: &str, bytes: &[u8]) -> Result<(Chars, Bytes), AllocError>
     requires { length name.now ≤ longest_text }
     ensures { IfOk result (λ pair. pair.0 ≡ name.now) }
 {
     let name = Chars::of(String::from_str(alloc, name)?);
-    Ok((name, Bytes::of(Vec::from_slice(alloc, bytes.as_bytes())?)))
+    Ok((name, Bytes::of(Vec::from_slice(alloc, bytes)?)))
 }
 
 #[tactic(auto, unfolding(ksql_types::specs::Text::longest_text))]
@@ -55,13 +55,13 @@ fn chars(alloc: Global, text: &str) -> Result<Chars, Fail> {
 #[tactic(auto, unfolding(ksql_types::specs::Text::longest_text))]
 fn folder(
     alloc: Global,
-    script: &str,
+    script: &[u8],
     lines: &str,
     failing: &[u64],
 ) -> Result<MemFolder, AllocError> {
     let mut files = Vec::new(alloc);
     files.push(file(alloc, "f", script)?)?;
-    files.push(file(alloc, "./s.jsonl", lines)?)?;
+    files.push(file(alloc, "./s.jsonl", lines.as_bytes())?)?;
     Ok(MemFolder::new(alloc, files, Vec::from_slice(alloc, failing)?))
 }
 
@@ -80,7 +80,7 @@ const RUN: &str = "ksql run --script f";
 fn two_records_are_filtered(rt: HostRuntime) -> Result<(), Fail> {
     let alloc = rt.alloc();
     for (lines, report) in [(LINES, REPORT), ("", EMPTY_REPORT)] {
-        let mut files = folder(alloc, SCRIPT, lines, &[])?;
+        let mut files = folder(alloc, SCRIPT.as_bytes(), lines, &[])?;
         let mut out = MemSink::new(alloc, 1000, 1000)?;
         let status = ksql(
             &rt,
@@ -100,7 +100,7 @@ fn two_records_are_filtered(rt: HostRuntime) -> Result<(), Fail> {
 #[test]
 fn a_sink_that_takes_a_byte_a_call_gets_the_whole_report(rt: HostRuntime) -> Result<(), Fail> {
     let alloc = rt.alloc();
-    let mut files = folder(alloc, SCRIPT, LINES, &[])?;
+    let mut files = folder(alloc, SCRIPT.as_bytes(), LINES, &[])?;
     let mut out = MemSink::new(alloc, 1000, 1)?;
     let status = ksql(
         &rt,
@@ -119,7 +119,7 @@ fn a_sink_that_takes_a_byte_a_call_gets_the_whole_report(rt: HostRuntime) -> Res
 fn a_sink_that_fails_has_the_front_of_the_report(rt: HostRuntime) -> Result<(), Fail> {
     let alloc = rt.alloc();
     for (room, front) in [(0, ""), (1, "o"), (10, "order 2\n1 ")] {
-        let mut files = folder(alloc, SCRIPT, LINES, &[])?;
+        let mut files = folder(alloc, SCRIPT.as_bytes(), LINES, &[])?;
         let mut out = MemSink::new(alloc, room, 1000)?;
         let status = ksql(
             &rt,
@@ -140,7 +140,7 @@ fn a_sink_that_fails_has_the_front_of_the_report(rt: HostRuntime) -> Result<(), 
 fn a_read_that_fails_is_named(rt: HostRuntime) -> Result<(), Fail> {
     let alloc = rt.alloc();
     for (number, wanted) in [(1, "f"), (2, "./s.jsonl")] {
-        let mut files = folder(alloc, SCRIPT, LINES, &[number])?;
+        let mut files = folder(alloc, SCRIPT.as_bytes(), LINES, &[number])?;
         let mut out = MemSink::new(alloc, 1000, 1000)?;
         let status = ksql(
             &rt,
@@ -180,7 +180,7 @@ fn words_of_another_shape_are_no_command(rt: HostRuntime) -> Result<(), Fail> {
         long_name.as_str(),
         long_program.as_str(),
     ] {
-        let mut files = folder(alloc, SCRIPT, LINES, &[])?;
+        let mut files = folder(alloc, SCRIPT.as_bytes(), LINES, &[])?;
         let mut out = MemSink::new(alloc, 1000, 1000)?;
         let status = ksql(
             &rt,
@@ -197,26 +197,24 @@ fn words_of_another_shape_are_no_command(rt: HostRuntime) -> Result<(), Fail> {
     Ok(())
 }
 
+/// What the command answers on this script, where the topic file has two records.
+fn status_of<R>(rt: &R, alloc: Global, script: &[u8]) -> Result<Status, AllocError> {
+    let mut files = folder(alloc, script, LINES, &[])?;
+    let mut out = MemSink::new(alloc, 1000, 1000)?;
+    let words = words(alloc, RUN)?;
+    Ok(ksql(rt, alloc, &words, &mut files, &mut out, &NoGate))
+}
+
+fn refused(statement: u32, code: Code) -> Status {
+    Status::Script { statement, code }
+}
+
 #[test]
-fn other_scripts_and_lines_are_refused(rt: HostRuntime) -> Result<(), Fail> {
+fn lines_of_another_form_are_refused(rt: HostRuntime) -> Result<(), Fail> {
     let alloc = rt.alloc();
     let mut out = MemSink::new(alloc, 1000, 1000)?;
-    let mut files = folder(alloc, "CREATE STREAM S;", LINES, &[])?;
-    let status = ksql(
-        &rt,
-        alloc,
-        &words(alloc, RUN)?,
-        &mut files,
-        &mut out,
-        &NoGate,
-    );
-    let refused = Status::Script {
-        statement: 0,
-        code: Code::Unsupported,
-    };
-    assert_eq!(rt; status, refused);
-    assert_eq!(rt; status.code(), 3);
-    let mut files = folder(alloc, SCRIPT, "{\"k\":\"a\",\"v\":{\"N\":1}}\n", &[])?;
+    let lines = "{\"k\":\"a\",\"v\":{\"N\":1}}\n";
+    let mut files = folder(alloc, SCRIPT.as_bytes(), lines, &[])?;
     let status = ksql(
         &rt,
         alloc,
@@ -233,5 +231,93 @@ fn other_scripts_and_lines_are_refused(rt: HostRuntime) -> Result<(), Fail> {
     assert_eq!(rt; status, refused);
     assert_eq!(rt; status.code(), 4);
     assert!(rt; out.written().is_empty());
+    Ok(())
+}
+
+#[test]
+fn comments_stand_between_tokens(rt: HostRuntime) -> Result<(), Fail> {
+    let alloc = rt.alloc();
+    let script = "/* a stream; */ CREATE STREAM S -- of the topic 's
+  (ID VARCHAR KEY, N INTEGER) WITH (KAFKA_TOPIC='s', VALUE_FORMAT='JSON', PARTITIONS=1);
+create stream BIG as select ID, N from S where N > /* ( */ 1;--";
+    let mut files = folder(alloc, script.as_bytes(), LINES, &[])?;
+    let mut out = MemSink::new(alloc, 1000, 1000)?;
+    let status = ksql(
+        &rt,
+        alloc,
+        &words(alloc, RUN)?,
+        &mut files,
+        &mut out,
+        &NoGate,
+    );
+    assert_eq!(rt; status, Status::Done);
+    assert_eq!(rt; out.written(), REPORT.as_bytes());
+    Ok(())
+}
+
+#[test]
+fn a_script_is_refused_as_a_whole(rt: HostRuntime) -> Result<(), Fail> {
+    let alloc = rt.alloc();
+    let mut script = Vec::from_slice(alloc, SCRIPT.as_bytes())?;
+    while script.len() < 1_048_576 {
+        script.push(b' ')?;
+    }
+    assert_eq!(rt; status_of(&rt, alloc, script.as_slice())?, Status::Done);
+    script.push(b' ')?;
+    let too_large = status_of(&rt, alloc, script.as_slice())?;
+    assert_eq!(rt; too_large, refused(0, Code::TooLarge));
+    assert_eq!(rt; too_large.code(), 3);
+    let not_text = status_of(&rt, alloc, b"CREATE STREAM \xff")?;
+    assert_eq!(rt; not_text, refused(0, Code::Syntax));
+    Ok(())
+}
+
+#[test]
+fn a_script_is_refused_in_a_statement(rt: HostRuntime) -> Result<(), Fail> {
+    let alloc = rt.alloc();
+    let nested = "(".repeat(alloc, 65)?;
+    for (script, code) in [
+        ("CREATE STREAM X AS SELECT 'a", Code::Syntax),
+        (";;CREATE 1a", Code::Syntax),
+        (nested.as_str(), Code::TooLarge),
+        ("CREATE STREAM S;", Code::Syntax),
+    ] {
+        let status = status_of(&rt, alloc, script.as_bytes())?;
+        assert_eq!(rt; status, refused(1, code));
+        assert_eq!(rt; status.code(), 3);
+    }
+    Ok(())
+}
+
+const DECLARED: &str = "CREATE STREAM S (ID VARCHAR KEY, N INTEGER) WITH (KAFKA_TOPIC='s');
+CREATE TABLE T (ID VARCHAR PRIMARY KEY, V VARCHAR) WITH (KAFKA_TOPIC='t');
+CREATE TABLE U (ID VARCHAR PRIMARY KEY, W INTEGER) WITH (KAFKA_TOPIC='u', PARTITIONS=3);
+";
+
+#[test]
+fn a_fourth_statement_is_refused(rt: HostRuntime) -> Result<(), Fail> {
+    let alloc = rt.alloc();
+    for (statement, code) in [
+        ("CREATE STREAM X AS SELECT FROM S;", Code::Syntax),
+        (
+            "CREATE STREAM X AS SELECT ID, 9223372036854775808 AS A FROM S;",
+            Code::TooLarge,
+        ),
+        ("DROP TABLE T;", Code::Unsupported),
+    ] {
+        let script = format!(in alloc; "{DECLARED}{statement}")?;
+        let status = status_of(&rt, alloc, script.as_str().as_bytes())?;
+        assert_eq!(rt; status, refused(4, code));
+    }
+    Ok(())
+}
+
+#[test]
+fn another_form_is_not_supported(rt: HostRuntime) -> Result<(), Fail> {
+    let alloc = rt.alloc();
+    for script in ["", DECLARED, "CREATE STREAM X AS SELECT * FROM Q;"] {
+        let status = status_of(&rt, alloc, script.as_bytes())?;
+        assert_eq!(rt; status, refused(0, Code::Unsupported));
+    }
     Ok(())
 }

@@ -1,4 +1,4 @@
-use Rattle.std.proofs.Common.{◌≡◌, false, true, None, Some, option_map, sym, ap, ◌∙◌, subst}
+use Rattle.std.proofs.Common.{◌≡◌, false, true, Some, option_map, sym, ap, ◌∙◌, subst}
 use Rattle.ksql_lexer.specs.Script.{kinds}
 use Rattle.first_form.specs.FirstForm.{IsFormOf}
 use Rattle.first_form.specs.Reading.{form_lent, form_of}

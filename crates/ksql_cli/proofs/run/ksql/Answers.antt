@@ -2,18 +2,17 @@ use Rattle.std.specs.String.{string_bytes}
 use Rattle.ksql_outside.specs.Outside.{Rose}
 use Rattle.ksql_cli.specs.declared.status.Status.TheVariants as ended
 use Rattle.ksql_cli.proofs.Causes.{complete_of, exact_done, exact_fault, exact_refusal}
-use Rattle.ksql_cli.proofs.StatementLaws.{laws}
 use Rattle.ksql_cli.proofs.run.ksql.Goals as goal
 
 pub returns-in-Ok-write_whole-clause-exact : goal.returns-in-Ok-write_whole-clause-exact
 returns-in-Ok-write_whole-clause-exact g c =
-    exact_done laws (g.F.Folder.files c.args.folder.now) c.args.words.now (g.F.Folder.failed c.args.folder.now) (g.F.Folder.failed c.whole_text.new.folder)
+    exact_done (g.F.Folder.files c.args.folder.now) c.args.words.now (g.F.Folder.failed c.args.folder.now) (g.F.Folder.failed c.whole_text.new.folder)
     (¬ Rose (g.K.Sink.faults c.args.out.now) (g.K.Sink.faults c.write_whole.new.out)) (string_bytes c.in-Ok.text) c.in-Ok.ensures.found
 
 pub returns-in-Ok-clause-exact : goal.returns-in-Ok-clause-exact
 returns-in-Ok-clause-exact g c =
     exact_fault (g.F.Folder.files c.args.folder.now) c.args.words.now (g.F.Folder.failed c.args.folder.now) (g.F.Folder.failed c.whole_text.new.folder)
-    (Rose (g.K.Sink.faults c.args.out.now) (g.K.Sink.faults c.write_whole.new.out)) ended.WriteFault c.in-Err-write_whole.ensures.cause
+    (Rose (g.K.Sink.faults c.args.out.now) (g.K.Sink.faults c.write_whole.new.out)) (string_bytes c.in-Ok.text) c.in-Err-write_whole.ensures.cause c.in-Ok.ensures.found
 
 pub returns-in-Ok-clause-complete : goal.returns-in-Ok-clause-complete
 returns-in-Ok-clause-complete g c =
@@ -22,7 +21,7 @@ returns-in-Ok-clause-complete g c =
 
 pub returns-clause-exact : goal.returns-clause-exact
 returns-clause-exact g c =
-    exact_refusal laws (g.F.Folder.files c.args.folder.now) c.args.words.now (g.F.Folder.failed c.args.folder.now) (g.F.Folder.failed c.whole_text.new.folder)
+    exact_refusal (g.F.Folder.files c.args.folder.now) c.args.words.now (g.F.Folder.failed c.args.folder.now) (g.F.Folder.failed c.whole_text.new.folder)
     (¬ Rose (g.K.Sink.faults c.args.out.now) (g.K.Sink.faults c.args.out.now)) c.in-Err.status c.in-Err.ensures.refusal c.in-Err.ensures.cause
 
 pub returns-clause-complete : goal.returns-clause-complete

@@ -1,4 +1,4 @@
-use Rattle.std.proofs.Common.{◌≡◌, ◌∙◌, ◌++◌, ap, List, ℕ, codes}
+use Rattle.std.proofs.Common.{◌∙◌, ◌++◌, ap, List, ℕ, codes}
 use Rattle.ksql_cli.proofs.Causes.{due_short}
 use Rattle.ksql_cli.proofs.run.topic_of.Goals as goal
 
