@@ -15,7 +15,7 @@ use Rattle.first_form.proofs.Scripts.{one_form_of}
 use Rattle.ksql_lexer.specs.declared.token.Token.{Token}
 use Rattle.ksql_lexer.specs.Script.{AreTokens, kinds}
 use Rattle.ksql_lexer.proofs.Readings.{one_list}
-use Rattle.ksql_parser.specs.declared.fault.Code.{Code}
+use Rattle.ksql_types.specs.declared.code.Code.{Code}
 use Rattle.query_meaning.specs.declared.change.Fed.{Fed}
 use Rattle.query_meaning.specs.declared.change.TopicLines.{TopicLines}
 use Rattle.query_meaning.specs.declared.program.Program.{Program}

@@ -5,7 +5,7 @@ use Rattle.ksql_lexer.specs.declared.token.Token.{Token}
 use Rattle.ksql_lexer.specs.declared.token.TokenKind.{TokenKind}
 use Rattle.ksql_lexer.specs.Script.{kinds}
 use Rattle.ksql_lexer.proofs.Readings.{one_list, one_fault, not_both}
-use Rattle.ksql_parser.specs.declared.fault.Code.{Code}
+use Rattle.ksql_types.specs.declared.code.Code.{Code}
 use Rattle.ksql_parser.specs.Script.{statements}
 use Rattle.ksql_parser.proofs.Settling.{one_refusal, not_both as tree_or_refusal}
 use Rattle.first_form.specs.declared.form.FirstForm.{FirstForm}

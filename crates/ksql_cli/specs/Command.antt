@@ -11,8 +11,8 @@ use Rattle.ksql_lexer.specs.declared.token.Token.{Token}
 use Rattle.ksql_lexer.specs.declared.token.TokenKind.{TokenKind}
 use Rattle.ksql_lexer.specs.Script.{AreTokens, BreaksIn, kinds}
 use Rattle.ksql_grammar.specs.declared.tree.Statement.{Statement}
-use Rattle.ksql_parser.specs.declared.fault.Code.{Code}
-use Rattle.ksql_parser.specs.declared.fault.Code.TheVariants.{Syntax, TooLarge, Unsupported}
+use Rattle.ksql_types.specs.declared.code.Code.{Code}
+use Rattle.ksql_types.specs.declared.code.Code.TheVariants.{Syntax, TooLarge, Unsupported}
 use Rattle.ksql_parser.specs.Script.{AreTrees, FirstRefused, statements}
 use Rattle.query_meaning.specs.declared.change.Fed.{Fed}
 use Rattle.query_meaning.specs.declared.change.TopicLines.{TopicLines}

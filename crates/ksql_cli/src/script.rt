@@ -10,7 +10,7 @@ ghost use Rattle.ksql_cli.specs.Steps.{HaveTrees, IsScriptFailure, IsTextFailure
 use crate::status::Status;
 use first_form::{FirstForm, first_form};
 use ksql_lexer::{LexFault, Token, tokens};
-use ksql_parser::{Code, ParseFault, parse};
+use ksql_parser::{ParseFault, parse};
 use std::alloc::Global;
 use std::str;
 

@@ -1,7 +1,7 @@
 ghost use Rattle.std.specs.Prelude.{◌≡◌};
 ghost use Rattle.ksql_cli.specs.Status.{exit_code};
 
-use ksql_parser::Code;
+use ksql_types::Code;
 use ksql_types::Chars;
 
 /// How a command ended.

@@ -4,7 +4,7 @@ ghost use Rattle.ksql_types.specs.Text.{longest_text};
 use crate::run::ksql;
 use crate::status::{LineWhy, Status};
 use ksql_outside::{MemFolder, MemSink, NoGate};
-use ksql_parser::Code;
+use ksql_types::Code;
 use ksql_types::{Bytes, Chars, Items, Word, Words};
 use std::alloc::{AllocError, Global};
 use std::test::Fail;
