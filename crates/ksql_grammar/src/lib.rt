@@ -1,6 +1,7 @@
 //! The statements of a script, as trees.
 #![tactic(auto)]
 
+mod copies;
 mod expression;
 mod fault;
 mod node;
@@ -16,3 +17,6 @@ pub use tree::{
     PropertyValue, Select, SelectItem, SelectItems, Source, SpanText, Statement, StatementBody,
     Unit, WhenText, WhenTexts, WindowText,
 };
+
+#[cfg(test)]
+mod tests;

@@ -3,7 +3,6 @@ ghost use Rattle.std.specs.Option.{option_copied};
 ghost use Rattle.ksql_grammar.specs.Symbols as spec;
 ghost use Rattle.ksql_grammar.specs.Expressions as read;
 
-use crate::tree::Unit;
 use crate::word;
 use ksql_lexer::Mark;
 use ksql_types::{BinaryOp, Chars, SqlType};
@@ -108,16 +107,6 @@ pub fn type_of(symbol: &Symbol) -> Option<SqlType>
 {
     match symbol {
         Symbol::Word(name) => word::type_of(name.items()),
-        _ => None,
-    }
-}
-
-/// The unit of time that a symbol is.
-pub fn unit_of(symbol: &Symbol) -> Option<Unit>
-    ensures { result ≡ spec.unit_of symbol.now }
-{
-    match symbol {
-        Symbol::Word(name) => word::unit_of(name.items()),
         _ => None,
     }
 }
