@@ -1,9 +1,0 @@
-use Rattle.std.proofs.Common.{sym}
-use Rattle.ksql_grammar.specs.Symbols.{unit_words}
-use Rattle.ksql_grammar.proofs.Words.{beside_none}
-use Rattle.ksql_grammar.proofs.word.unit_of.Goals as goal
-
-pub returns-in_default : goal.returns-in_default
-returns-in_default c =
-    let other = c.in_default in
-    sym (beside_none unit_words c.args.word.now (other.not-DAY, (other.not-DAYS, (other.not-HOUR, (other.not-HOURS, (other.not-MINUTE, (other.not-MINUTES, (other.not-SECOND, (other.not-SECONDS, (other.not-MILLISECOND, (other.not-MILLISECONDS, tt)))))))))))
