@@ -1,7 +1,9 @@
 -- The relations of a catalog behind their names, a relation found and a relation added.
-use Rattle.std.proofs.Common.{◌≡◌, ℕ, ◌+◌, List, [], ◌∷◌, ◌++◌, length, map, Bool, true, false, cond, not, ◌&&◌, ◌||◌, ◌==◌, Option, None, Some, Bor, refl, sym, ap, ap₂, ◌∙◌, true≢false, is_none, option_copied, arith, eq-eqb, find}
+use Rattle.std.proofs.Common.{◌≡◌, ℕ, ◌+◌, List, [], ◌∷◌, ◌++◌, length, Bool, true, false, cond, not, ◌&&◌, ◌||◌, ◌==◌, Option, None, Some, Bor, refl, sym, ap, ap₂, ◌∙◌, true≢false, is_none, option_copied, slice_get, suc, IfSome, arith, eq-eqb, eqb-true, find}
 use Rattle.std.proofs.lemmas.List.{map-append}
 use Rattle.std.proofs.lemmas.List.Folds.{list_all-append, list_any-append}
+use Rattle.std.proofs.lemmas.Option.{none-some}
+use Rattle.std.specs.Option.{option_map_or}
 use Rattle.std.specs.Cmp.{first_so, second_so}
 use Rattle.std.specs.Cmp.Lexicographic.{bytes_decides, nat_list_eq_equiv}
 use Rattle.std.specs.List.{list_all, list_any}
@@ -54,14 +56,46 @@ pub is_none-copied : (o : Option (Bor Relation)) → is_none o ≡ is_none (opti
 is_none-copied None = refl
 is_none-copied (Some r) = refl
 
+-- a relation stands so far behind the first as its number is above a number
+abbrev StandsFrom : ℕ → List Relation → Relation → Type 0
+StandsFrom first rs r = (i : ℕ) × (r.number ≡ first + i) × (slice_get rs i ≡ Some r)
+
+-- so does one that is found where the relations are numbered from that number on
+found_from : (p : Relation → Bool) (first : ℕ) (rs : List Relation) (r : Relation) → are_numbered first rs ≡ true → find p rs ≡ Some r → StandsFrom first rs r
+found_from p first [] r e f = absurd (none-some r f)
+found_from p first (s ∷ rs) r e f =
+    by (p s) f (first_so (s.number == first) (are_numbered (first + 1) rs) e)
+    (found_from p (first + 1) rs r (second_so (s.number == first) (are_numbered (first + 1) rs) e))
+  where
+    by : (b : Bool) → cond b (Some s) (find p rs) ≡ Some r → (s.number == first) ≡ true → (find p rs ≡ Some r → StandsFrom (first + 1) rs r) → StandsFrom first (s ∷ rs) r
+    by true g own rest =
+        let number : s.number ≡ first = eqb-true s.number first own in
+        let same : s.number ≡ r.number = ap (λ o. option_map_or (λ t. t.number) o 0) g in
+        (0, omega arith, g)
+    by false g own rest =
+        let there : (rest g).0 + (first + 1) ≡ r.number = omega (arith, (rest g).1) in
+        (suc (rest g).0, omega arith, (rest g).2)
+
+-- a relation that is found stands at its number
+pub find-numbered : (p : Relation → Bool) (rs : List Relation) (r : Relation) → IsCatalog rs → find p rs ≡ Some r → slice_get rs r.number ≡ Some r
+find-numbered p rs r e f =
+    let found = found_from p 0 rs r (first_so (are_numbered 0 rs) (are_distinct rs) e) f in
+    let there : r.number ≡ 0 + found.0 = found.1 in
+    let at : r.number ≡ found.0 = omega arith in
+    ap (slice_get rs) at ∙ found.2
+
+pub IfSome-numbered : (p : Relation → Bool) (rs : List Relation) (o : Option (Bor Relation)) → IsCatalog rs → option_copied o ≡ find p rs → IfSome o (λ found. slice_get rs found.now.number ≡ Some found.now)
+IfSome-numbered p rs None e f = tt
+IfSome-numbered p rs (Some found) e f = find-numbered p rs found.now e (sym f)
+
 module _ (r : Relation) where
   -- one whose name nobody has goes last
   pub insert_entry-free : (es : Entries) → AreNamed es → is_taken r.name r.topic (values_of es) ≡ false → insert_entry bytes_eq es r.name r ≡ es ++ (r.name, r) ∷ []
   insert_entry-free [] named free = refl
   insert_entry-free ((k, s) ∷ es) named free =
       let other : bytes_eq r.name k ≡ false =
-              ap (bytes_eq r.name) (own_name k s es named)
-              ∙ first_false (has_name r.name s) (has_topic r.topic s) (first_false (has_name r.name s || has_topic r.topic s) (is_taken r.name r.topic (values_of es)) free) in
+      ap (bytes_eq r.name) (own_name k s es named)
+      ∙ first_false (has_name r.name s) (has_topic r.topic s) (first_false (has_name r.name s || has_topic r.topic s) (is_taken r.name r.topic (values_of es)) free) in
       let rest = insert_entry-free es (rest_named k s es named) (second_false (has_name r.name s || has_topic r.topic s) (is_taken r.name r.topic (values_of es)) free) in
       ap₂ (λ b more. cond b ((k, r) ∷ es) ((k, s) ∷ more)) other rest
 
@@ -88,8 +122,8 @@ module _ (r : Relation) where
       let topics : bytes_eq s.topic r.topic ≡ false = nat_list_eq_equiv.symm s.topic r.topic ∙ second_false (has_name r.name s) (has_topic r.topic s) apart in
       let old = first_so (not (is_taken s.name s.topic rs)) (are_distinct rs) e in
       let new : not (is_taken s.name s.topic (rs ++ r ∷ [])) ≡ true =
-              ap not (list_any-append (λ t. has_name s.name t || has_topic s.topic t) rs (r ∷ []))
-              ∙ clear (is_taken s.name s.topic rs) _ old (both_false _ _ (both_false _ _ names topics) refl) in
+      ap not (list_any-append (λ t. has_name s.name t || has_topic s.topic t) rs (r ∷ []))
+      ∙ clear (is_taken s.name s.topic rs) _ old (both_false _ _ (both_false _ _ names topics) refl) in
       both_true _ _ new (are_distinct-push rs (second_so (not (is_taken s.name s.topic rs)) (are_distinct rs) e) (second_false (has_name r.name s || has_topic r.topic s) (is_taken r.name r.topic rs) free))
     where
       clear : (s t : Bool) → not s ≡ true → t ≡ false → not (s || t) ≡ true

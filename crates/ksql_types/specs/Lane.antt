@@ -28,7 +28,7 @@ abbrev pub hash_step : ℕ → ℕ → ℕ
 hash_step before byte = (31 * before + byte) % 2 ^ 32
 
 -- the hash of bytes, which is 0 of none
-abbrev pub hash : List ℕ → ℕ
+unfoldable pub hash : List ℕ → ℕ
 hash bytes = fold hash_step 0 bytes
 
 -- the partition of a key among n; of no key, that of its home

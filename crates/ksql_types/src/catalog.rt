@@ -1,4 +1,4 @@
-ghost use Rattle.std.specs.Prelude.{◌≡◌, ◌↔◌, ◌++◌, ◌∷◌, [], Err, IsTrue, OnErr, OnOk, length, not, option_copied, slice_get, is_none};
+ghost use Rattle.std.specs.Prelude.{◌≡◌, ◌↔◌, ◌++◌, ◌∷◌, [], false, Err, IfSome, Some, IsTrue, OnErr, OnOk, length, not, option_copied, slice_get, is_none};
 ghost use Rattle.std.specs.List.{list_any};
 ghost use Rattle.ksql_types.specs.Catalog.{find_named, has_name, is_taken, IsCatalog, IsTaken};
 
@@ -50,6 +50,7 @@ impl Catalog {
     pub fn add(&mut self, alloc: Global, relation: Relation) -> Result<(), AddRefusal>
         requires { relation.number ≡ length self.old }
         ensures added { OnOk result (self.new ≡ self.old ++ relation ∷ []) }
+        ensures free { OnOk result (is_taken relation.name relation.topic self.old ≡ false) }
         ensures taken { (result ≡ Err AddRefusal.NameTaken) ↔ IsTaken relation.name relation.topic self.old }
         ensures kept { OnErr result (self.new ≡ self.old) }
     {
@@ -65,6 +66,7 @@ impl Catalog {
     pub fn find(&self, name: &Chars) -> Option<&Relation>
         ensures value { option_copied result ≡ find_named name.now self.now }
         ensures none { is_none result ≡ not (list_any (has_name name.now) self.now) }
+        ensures numbered { IfSome result (λ found. slice_get self.now found.now.number ≡ Some found.now) }
     {
         self.by_name.get(name)
     }
@@ -88,9 +90,7 @@ impl Catalog {
     fn is_taken(&self, name: &Chars, topic: &Chars) -> bool
         ensures { result ≡ is_taken name.now topic.now self.now }
     {
-        self.items()
-            .iter()
-            .any(|relation| *name == relation.name || *topic == relation.topic)
+        self.items().iter().any(|relation| *name == relation.name || *topic == relation.topic)
     }
 }
 

@@ -1,4 +1,4 @@
-ghost use Rattle.std.specs.Prelude.{◌≡◌, ◌≤◌, ◌++◌, IfOk, OnOk, flat_map, fold, length};
+ghost use Rattle.std.specs.Prelude.{◌≡◌, ◌<◌, ◌≤◌, ◌++◌, IfOk, OnOk, flat_map, fold, length};
 ghost use Rattle.ksql_types.specs.Lane.{behind_length, hash_step, value_bytes};
 ghost use Rattle.ksql_types.specs.Lane as spec;
 
@@ -23,10 +23,12 @@ pub fn key_bytes(alloc: Global, key: &Key) -> Result<Bytes, AllocError>
 }
 
 /// The partition of a key among `n`: the hash of its bytes modulo `n`, and of no key that of its home. Takes no memory.
+#[tactic(auto, unfolding(crate::specs::Lane::hash))]
 pub fn lane(key: &Key, n: u32, home: u32) -> u32
     requires some { 1 ≤ n }
     requires few { n ≤ 64 }
-    ensures { result ≡ spec.lane key.now n home }
+    ensures value { result ≡ spec.lane key.now n home }
+    ensures within { result < n }
 {
     match key.items() {
         [] => home % n,
@@ -96,6 +98,7 @@ fn hash_value(before: u32, value: &Value) -> u32
 }
 
 /// The hash of the bytes of values, each behind its length.
+#[tactic(auto, unfolding(crate::specs::Lane::hash))]
 fn hash_values(values: &[Value]) -> u32
     ensures { result ≡ spec.hash (flat_map (λ v. behind_length (value_bytes v)) values.now) }
 {

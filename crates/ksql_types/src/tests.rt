@@ -1,3 +1,5 @@
+ghost use Rattle.std.specs.Prelude.{◌≡◌, IfOk};
+
 use super::*;
 use std::alloc::Global;
 use std::cmp::Ordering;
@@ -55,8 +57,12 @@ fn values_keys_and_boxes_are_copied(rt: HostRuntime) -> Result<(), Fail> {
     Ok(())
 }
 
-fn word_key(alloc: Global, text: &str) -> Result<Key, Fail> {
-    Ok(Key::of(vec![in alloc; Value::Txt(chars(alloc, text)?)]?))
+/// A key of the values, if they make one.
+fn key_of(values: Vec<Value>) -> Result<Key, Fail> {
+    if !Key::is_key(values.as_slice()) {
+        return Err(Fail::from("no key"));
+    }
+    Ok(Key::of(values))
 }
 
 /// Whether the key has these bytes, and their hash is `hash`: it is modulo each number of partitions.
@@ -65,57 +71,109 @@ fn has_hash(alloc: Global, key: &Key, bytes: &[u8], hash: u32) -> Result<bool, F
     Ok(lanes_agree && key_bytes(alloc, key)?.items() == bytes)
 }
 
+fn value_has_hash(alloc: Global, value: Value, bytes: &[u8], hash: u32) -> Result<bool, Fail> {
+    let key = key_of(vec![in alloc; value]?)?;
+    has_hash(alloc, &key, bytes, hash)
+}
+
+fn text_has_hash(alloc: Global, text: &str, hash: u32) -> Result<bool, Fail> {
+    value_has_hash(
+        alloc,
+        Value::Txt(chars(alloc, text)?),
+        text.as_bytes(),
+        hash,
+    )
+}
+
+fn pair_has_hash(
+    alloc: Global,
+    first: Value,
+    second: Value,
+    bytes: &[u8],
+    hash: u32,
+) -> Result<bool, Fail> {
+    let key = key_of(vec![in alloc; first, second]?)?;
+    has_hash(alloc, &key, bytes, hash)
+}
+
+/// The lane of a text among two partitions.
+fn lane_of_two(alloc: Global, text: &str) -> Result<u32, Fail> {
+    let key = key_of(vec![in alloc; Value::Txt(chars(alloc, text)?)]?)?;
+    Ok(lane(&key, 2, 0))
+}
+
 #[test]
-fn keys_have_their_bytes_and_hashes(rt: HostRuntime) -> Result<(), Fail> {
+fn one_value_has_its_bytes_and_hash(rt: HostRuntime) -> Result<(), Fail> {
     let alloc = rt.alloc();
-    assert!(rt; has_hash(alloc, &word_key(alloc, "a")?, b"a", 97)?);
-    assert!(rt; has_hash(alloc, &word_key(alloc, "ab")?, b"ab", 3105)?);
-    let int = Key::of(vec![in alloc; Value::Int(7)]?);
-    assert!(rt; has_hash(alloc, &int, &[0, 0, 0, 7], 7)?);
-    let big = Key::of(vec![in alloc; Value::Big(258)]?);
-    assert!(rt; has_hash(alloc, &big, &[0, 0, 0, 0, 0, 0, 1, 2], 33)?);
-    let both = Key::of(vec![in alloc; Value::Txt(chars(alloc, "a")?), Value::Int(7)]?);
-    let bytes = [0, 0, 0, 1, 97, 0, 0, 0, 4, 0, 0, 0, 7];
-    assert!(rt; has_hash(alloc, &both, &bytes, 577756811)?);
+    assert!(rt; text_has_hash(alloc, "a", 97)?);
+    assert!(rt; text_has_hash(alloc, "ab", 3105)?);
+    assert!(rt; value_has_hash(alloc, Value::Int(7), &[0, 0, 0, 7], 7)?);
+    assert!(rt; value_has_hash(alloc, Value::Int(-2), &[255, 255, 255, 254], 7849919)?);
+    assert!(rt; value_has_hash(alloc, Value::Big(258), &[0, 0, 0, 0, 0, 0, 1, 2], 33)?);
+    assert!(rt; value_has_hash(alloc, Value::Bool(true), &[1], 1)?);
+    Ok(())
+}
+
+#[test]
+fn several_values_have_their_bytes_and_hash(rt: HostRuntime) -> Result<(), Fail> {
+    let alloc = rt.alloc();
+    let bytes = b"\0\0\0\x01a\0\0\0\x04\0\0\0\x07";
+    assert!(rt;
+        pair_has_hash(
+            alloc,
+            Value::Txt(chars(alloc, "a")?),
+            Value::Int(7),
+            bytes,
+            577756811
+        )?
+    );
     Ok(())
 }
 
 #[test]
 fn keys_lie_in_their_lanes(rt: HostRuntime) -> Result<(), Fail> {
     let alloc = rt.alloc();
-    assert_eq!(rt; lane(&word_key(alloc, "a")?, 2, 0), 1);
-    assert_eq!(rt; lane(&word_key(alloc, "c")?, 2, 0), 1);
-    assert_eq!(rt; lane(&word_key(alloc, "b")?, 2, 1), 0);
-    assert_eq!(rt; lane(&word_key(alloc, "p")?, 2, 1), 0);
-    assert_eq!(rt; lane(&Key::of(vec![in alloc;]?), 4, 7), 3);
+    assert_eq!(rt; lane_of_two(alloc, "a")?, 1);
+    assert_eq!(rt; lane_of_two(alloc, "c")?, 1);
+    assert_eq!(rt; lane_of_two(alloc, "b")?, 0);
+    assert_eq!(rt; lane_of_two(alloc, "p")?, 0);
     Ok(())
 }
 
 #[test]
-fn negative_numbers_and_truths_have_bytes(rt: HostRuntime) -> Result<(), Fail> {
-    let alloc = rt.alloc();
-    let key = Key::of(vec![in alloc; Value::Int(-2), Value::Bool(true), Value::Big(-1)]?);
-    let bytes = [
-        0, 0, 0, 4, 255, 255, 255, 254, 0, 0, 0, 1, 1, 0, 0, 0, 8, 255, 255, 255, 255, 255, 255, 255, 255,
-    ];
-    assert!(rt; key_bytes(alloc, &key)?.items() == bytes.as_slice());
+fn no_key_lies_with_its_home(rt: HostRuntime) -> Result<(), Fail> {
+    let key = key_of(Vec::new(rt.alloc()))?;
+    assert_eq!(rt; lane(&key, 4, 7), 3);
     Ok(())
+}
+
+/// How two keys of an INTEGER and a BOOLEAN compare.
+fn cmp_pairs(alloc: Global, a: (i32, bool), b: (i32, bool)) -> Result<Ordering, Fail> {
+    let first = Key::of(vec![in alloc; Value::Int(a.0), Value::Bool(a.1)]?);
+    let second = Key::of(vec![in alloc; Value::Int(b.0), Value::Bool(b.1)]?);
+    Ok(cmp_key(&first, &second))
+}
+
+/// How two keys of a VARCHAR compare.
+fn cmp_texts(alloc: Global, a: &str, b: &str) -> Result<Ordering, Fail> {
+    let first = Key::of(vec![in alloc; Value::Txt(chars(alloc, a)?)]?);
+    let second = Key::of(vec![in alloc; Value::Txt(chars(alloc, b)?)]?);
+    Ok(cmp_key(&first, &second))
 }
 
 #[test]
 fn keys_compare_column_by_column(rt: HostRuntime) -> Result<(), Fail> {
     let alloc = rt.alloc();
-    let low = Key::of(vec![in alloc; Value::Int(-1), Value::Bool(true)]?);
-    let high = Key::of(vec![in alloc; Value::Int(2), Value::Bool(false)]?);
-    let higher = Key::of(vec![in alloc; Value::Int(2), Value::Bool(true)]?);
-    assert!(rt; cmp_key(&low, &high) == Ordering::Less);
-    assert!(rt; cmp_key(&higher, &high) == Ordering::Greater);
-    assert!(rt; cmp_key(&high, &high) == Ordering::Equal);
-    assert!(rt; cmp_key(&word_key(alloc, "ab")?, &word_key(alloc, "b")?) == Ordering::Less);
+    assert!(rt; cmp_pairs(alloc, (-1, true), (2, false))? == Ordering::Less);
+    assert!(rt; cmp_pairs(alloc, (2, true), (2, false))? == Ordering::Greater);
+    assert!(rt; cmp_pairs(alloc, (2, true), (2, true))? == Ordering::Equal);
+    assert!(rt; cmp_texts(alloc, "ab", "b")? == Ordering::Less);
     Ok(())
 }
 
-fn relation(alloc: Global, number: u32, name: &str, topic: &str) -> Result<Relation, Fail> {
+fn relation(alloc: Global, number: u32, name: &str, topic: &str) -> Result<Relation, Fail>
+    ensures { IfOk result (λ made. made.number ≡ number) }
+{
     Ok(Relation {
         number,
         name: chars(alloc, name)?,
@@ -131,24 +189,44 @@ fn relation(alloc: Global, number: u32, name: &str, topic: &str) -> Result<Relat
     })
 }
 
+/// Whether a relation with the name and the topic is added, and not refused for these.
+fn is_added(alloc: Global, catalog: &mut Catalog, name: &str, topic: &str) -> Result<bool, Fail> {
+    let number = catalog.items().len();
+    if number > 9 {
+        return Err(Fail::from("many relations"));
+    }
+    match catalog.add(alloc, relation(alloc, number as u32, name, topic)?) {
+        Ok(()) => Ok(true),
+        Err(AddRefusal::NameTaken) => Ok(false),
+        Err(AddRefusal::OutOfMemory) => Err(Fail::from("want of memory")),
+    }
+}
+
+/// Whether the relation that is found by the name has the topic.
+fn is_found(alloc: Global, catalog: &Catalog, name: &str, topic: &str) -> Result<bool, Fail> {
+    let name = chars(alloc, name)?;
+    Ok(
+        catalog
+            .find(&name)
+            .is_some_and(|found| found.topic.items() == topic),
+    )
+}
+
 #[test]
 fn a_catalog_finds_what_was_added(rt: HostRuntime) -> Result<(), Fail> {
     let alloc = rt.alloc();
     let mut catalog = Catalog::new(alloc);
-    assert!(rt; catalog.add(alloc, relation(alloc, 0, "USERS", "users")?).is_ok());
-    assert!(rt; matches!(catalog.add(alloc, relation(alloc, 1, "USERS", "other")?), Err(AddRefusal::NameTaken)));
-    assert!(rt; matches!(catalog.add(alloc, relation(alloc, 1, "OTHERS", "users")?), Err(AddRefusal::NameTaken)));
-    assert!(rt; catalog.add(alloc, relation(alloc, 1, "CLICKS", "clicks")?).is_ok());
-    assert_eq!(rt; catalog.items().len(), 2);
-    assert!(rt; catalog.find(&chars(alloc, "OTHERS")?).is_none());
-    let Some(found) = catalog.find(&chars(alloc, "CLICKS")?) else {
-        return Err(Fail::from("not found"));
-    };
-    assert_eq!(rt; found.topic.items(), "clicks");
-    let Some(first) = catalog.get(0) else {
-        return Err(Fail::from("no first"));
-    };
-    assert_eq!(rt; first.name.items(), "USERS");
+    assert!(rt; is_added(alloc, &mut catalog, "USERS", "users")?);
+    assert!(rt; !is_added(alloc, &mut catalog, "USERS", "other")?);
+    assert!(rt; !is_added(alloc, &mut catalog, "OTHERS", "users")?);
+    assert!(rt; is_added(alloc, &mut catalog, "CLICKS", "clicks")?);
+    assert!(rt; is_found(alloc, &catalog, "CLICKS", "clicks")?);
+    assert!(rt; !is_found(alloc, &catalog, "OTHERS", "users")?);
+    assert!(rt;
+        catalog
+            .get(0)
+            .is_some_and(|first| first.topic.items() == "users")
+    );
     assert!(rt; catalog.get(2).is_none());
     Ok(())
 }

@@ -1,4 +1,4 @@
-use Rattle.std.proofs.Common.{◌∙◌, ap, subst, sym}
+use Rattle.std.proofs.Common.{◌∙◌, ap, sym}
 use Rattle.ksql_types.specs.Order.{key_cmp}
 use Rattle.ksql_types.proofs.OrderLemmas.{key_cmp-Equal, key_cmp-itself, key_cmp-reversed, key_cmp-trans}
 use Rattle.ksql_types.proofs.order.keys_are_ordered.Goals as goal

@@ -26,9 +26,10 @@ values_after c = ap values_of (entries_after c) ∙ values-push c.args.relation 
 pub invariant_of-self-2 : goal.invariant_of-self-2
 invariant_of-self-2 c =
     let relation = c.args.relation in
-    let number : relation.number ≡ length (values c.self.inside.by_name) = c.requires ∙ sym (ap length c.self.view_is) in
-    (subst IsCatalog (sym (values_after c)) (IsCatalog-push relation (values c.self.inside.by_name) c.self.invariant.0 number (free_before c)),
-     subst AreNamed (sym (entries_after c)) (AreNamed-push relation c.self.inside.by_name.entries c.self.invariant.1))
+    let number : relation.number ≡ length (values c.self.inside.by_name) = c.requires ∙ sym (ap length c.self.view_is) in (
+      subst IsCatalog (sym (values_after c)) (IsCatalog-push relation (values c.self.inside.by_name) c.self.invariant.0 number (free_before c)),
+      subst AreNamed (sym (entries_after c)) (AreNamed-push relation c.self.inside.by_name.entries c.self.invariant.1),
+    )
 
 pub returns-clause-added : goal.returns-clause-added
 returns-clause-added c = values_after c ∙ ap (λ rs. rs ++ c.args.relation ∷ []) c.self.view_is
