@@ -1,0 +1,14 @@
+//! Changes and rows as bytes, in the format of version 1: each has at most one spelling.
+#![tactic(auto)]
+
+mod fault;
+mod law;
+mod reading;
+mod writing;
+
+pub use law::one_spelling;
+pub use reading::{decode, decode_row};
+pub use writing::{encode, encode_row};
+
+#[cfg(test)]
+mod tests;

@@ -1,0 +1,357 @@
+ghost use Rattle.std.specs.Prelude.{◌≡◌, ◌≤◌, ◌<◌, true, false, List, length, Some, is_some, IfOk, IfSome};
+ghost use Rattle.std.specs.Str.{is_utf8};
+ghost use Rattle.ksql_types.specs.declared.value.Value.{Value as OneValue};
+ghost use Rattle.ksql_place.specs.declared.change.Change.{Change as OneChange};
+ghost use Rattle.record_codec.specs.Spelling.{spelling, values, IsSpellable, IsSpellableRow};
+ghost use Rattle.record_codec.specs.Reading as read;
+ghost use Rattle.record_codec.specs.Reading.{Gives, with_rest, with_items};
+
+use crate::fault::ReadError;
+use ksql_place::{Body, Change, Place, Stamp};
+use ksql_types::{Chars, Items, Key, Row, Span, Value};
+use std::alloc::{AllocError, Global};
+use std::str;
+
+#[tactic(auto, unfolding(crate::specs::Reading::four_at))]
+fn four(bytes: &[u8]) -> Result<(u32, &[u8]), ReadError>
+    ensures { Gives with_rest result (read.four_at bytes.now) }
+{
+    if bytes.len() < 4 {
+        return Err(ReadError::Unspelled);
+    }
+    let (front, rest) = bytes.split_at(4);
+    let number = u32::from_be_bytes([front[0], front[1], front[2], front[3]]);
+    Ok((number, rest))
+}
+
+#[tactic(auto, unfolding(crate::specs::Reading::eight_at))]
+fn eight(bytes: &[u8]) -> Result<(u64, &[u8]), ReadError>
+    ensures { Gives with_rest result (read.eight_at bytes.now) }
+{
+    if bytes.len() < 8 {
+        return Err(ReadError::Unspelled);
+    }
+    let (front, rest) = bytes.split_at(8);
+    let number = u64::from_be_bytes([
+        front[0], front[1], front[2], front[3], front[4], front[5], front[6], front[7],
+    ]);
+    Ok((number, rest))
+}
+
+#[tactic(auto, unfolding(crate::specs::Reading::text_at))]
+fn text(alloc: Global, bytes: &[u8]) -> Result<(Chars, &[u8]), ReadError>
+    ensures { Gives with_rest result (read.text_at bytes.now) }
+{
+    let (len, rest) = four(bytes)?;
+    let len = len as usize;
+    if len > 65536 || rest.len() < len {
+        return Err(ReadError::Unspelled);
+    }
+    let (front, rest) = rest.split_at(len);
+    match utf8(front) {
+        Some(text) => Ok((chars(alloc, text)?, rest)),
+        None => Err(ReadError::Unspelled),
+    }
+}
+
+/// The bytes as a text, if they are UTF-8.
+fn utf8(bytes: &[u8]) -> Option<&str>
+    ensures value { IfSome result (λ text. text.now ≡ bytes.now) }
+    ensures utf8 { is_some result ≡ is_utf8 bytes.now }
+{
+    match str::from_utf8(bytes) {
+        Ok(text) => Some(text),
+        Err(_) => None,
+    }
+}
+
+#[tactic(auto, unfolding(ksql_types::specs::Text::longest_text))]
+fn chars(alloc: Global, text: &str) -> Result<Chars, AllocError>
+    requires { length text.now ≤ 65536 }
+    ensures { IfOk result (λ chars. chars ≡ text.now) }
+{
+    Ok(Chars::of(String::from_str(alloc, text)?))
+}
+
+#[tactic(auto, unfolding(crate::specs::Reading::truth_at))]
+fn truth(bytes: &[u8]) -> Result<(bool, &[u8]), ReadError>
+    ensures { Gives with_rest result (read.truth_at bytes.now) }
+{
+    match bytes {
+        [0, rest @ ..] => Ok((false, rest)),
+        [1, rest @ ..] => Ok((true, rest)),
+        _ => Err(ReadError::Unspelled),
+    }
+}
+
+#[tactic(auto, unfolding(crate::specs::Reading::value_at))]
+fn value(alloc: Global, bytes: &[u8]) -> Result<(Value, &[u8]), ReadError>
+    ensures { Gives with_rest result (read.value_at bytes.now) }
+{
+    match bytes {
+        [0, rest @ ..] => Ok((Value::Null, rest)),
+        [1, rest @ ..] => {
+            let (bits, rest) = four(rest)?;
+            Ok((Value::Int(bits.cast_signed()), rest))
+        }
+        [2, rest @ ..] => {
+            let (bits, rest) = eight(rest)?;
+            Ok((Value::Big(bits.cast_signed()), rest))
+        }
+        [3, rest @ ..] => {
+            let (text, rest) = text(alloc, rest)?;
+            Ok((Value::Txt(text), rest))
+        }
+        [4, rest @ ..] => {
+            let (truth, rest) = truth(rest)?;
+            Ok((Value::Bool(truth), rest))
+        }
+        _ => Err(ReadError::Unspelled),
+    }
+}
+
+fn many_values(alloc: Global, count: u32, bytes: &[u8]) -> Result<(Vec<Value>, &[u8]), ReadError>
+    ensures { Gives with_items result (read.times read.value_at count bytes.now) }
+{
+    let mut values = Vec::new(alloc);
+    let mut rest = bytes;
+    for _ in 0..count {
+        let (value, after) = value(alloc, rest)?;
+        values.push(value)?;
+        rest = after;
+    }
+    Ok((values, rest))
+}
+
+#[tactic(auto, unfolding(crate::specs::Reading::list_at))]
+fn values_of(alloc: Global, limit: u32, bytes: &[u8]) -> Result<(Vec<Value>, &[u8]), ReadError>
+    ensures { Gives with_items result (read.list_at limit read.value_at bytes.now) }
+{
+    let (count, rest) = four(bytes)?;
+    if count > limit {
+        return Err(ReadError::Unspelled);
+    }
+    many_values(alloc, count, rest)
+}
+
+#[tactic(auto, unfolding(crate::specs::Reading::row_at))]
+fn row(alloc: Global, bytes: &[u8]) -> Result<(Row, &[u8]), ReadError>
+    ensures { Gives with_rest result (read.row_at bytes.now) }
+{
+    let (values, rest) = values_of(alloc, 64, bytes)?;
+    Ok((Items::of(values), rest))
+}
+
+#[tactic(auto, unfolding(crate::specs::Reading::key_at))]
+fn key(alloc: Global, bytes: &[u8]) -> Result<(Key, &[u8]), ReadError>
+    ensures { Gives with_rest result (read.key_at bytes.now) }
+{
+    let (values, rest) = values_of(alloc, 8, bytes)?;
+    if !Key::is_key(&values) {
+        return Err(ReadError::Unspelled);
+    }
+    Ok((Key::of(values), rest))
+}
+
+fn many_numbers(alloc: Global, count: u32, bytes: &[u8]) -> Result<(Vec<u32>, &[u8]), ReadError>
+    ensures { Gives with_items result (read.times read.four_at count bytes.now) }
+{
+    let mut numbers = Vec::new(alloc);
+    let mut rest = bytes;
+    for _ in 0..count {
+        let (number, after) = four(rest)?;
+        numbers.push(number)?;
+        rest = after;
+    }
+    Ok((numbers, rest))
+}
+
+#[tactic(auto, unfolding(crate::specs::Reading::path_at, crate::specs::Reading::list_at))]
+fn path(alloc: Global, bytes: &[u8]) -> Result<(Items<u32>, &[u8]), ReadError>
+    ensures { Gives with_rest result (read.path_at bytes.now) }
+{
+    let (count, rest) = four(bytes)?;
+    if count > 512 {
+        return Err(ReadError::Unspelled);
+    }
+    let (numbers, rest) = many_numbers(alloc, count, rest)?;
+    Ok((Items::of(numbers), rest))
+}
+
+#[tactic(auto, unfolding(crate::specs::Reading::stamp_at))]
+fn stamp(bytes: &[u8]) -> Result<(Stamp, &[u8]), ReadError>
+    ensures { Gives with_rest result (read.stamp_at bytes.now) }
+{
+    let (feed, rest) = eight(bytes)?;
+    let (high, rest) = eight(rest)?;
+    let (topic, rest) = four(rest)?;
+    let (part, rest) = four(rest)?;
+    let (offset, rest) = eight(rest)?;
+    let stamp = Stamp {
+        feed,
+        high,
+        topic,
+        part,
+        offset,
+    };
+    Ok((stamp, rest))
+}
+
+#[tactic(auto, unfolding(crate::specs::Reading::span_at))]
+fn span(bytes: &[u8]) -> Result<(Span, &[u8]), ReadError>
+    ensures { Gives with_rest result (read.span_at bytes.now) }
+{
+    let (start, rest) = eight(bytes)?;
+    let (end, rest) = eight(rest)?;
+    if start >= end {
+        return Err(ReadError::Unspelled);
+    }
+    Ok((Span { start, end }, rest))
+}
+
+#[tactic(auto, unfolding(crate::specs::Reading::optional_at))]
+fn optional_span(bytes: &[u8]) -> Result<(Option<Span>, &[u8]), ReadError>
+    ensures { Gives with_rest result (read.optional_at read.span_at bytes.now) }
+{
+    match bytes {
+        [0, rest @ ..] => Ok((None, rest)),
+        [1, rest @ ..] => {
+            let (span, rest) = span(rest)?;
+            Ok((Some(span), rest))
+        }
+        _ => Err(ReadError::Unspelled),
+    }
+}
+
+/// The window of a change, which only a change of a table can have.
+#[tactic(auto, unfolding(crate::specs::Reading::window_at))]
+fn window(of_table: bool, bytes: &[u8]) -> Result<(Option<Span>, &[u8]), ReadError>
+    ensures { Gives with_rest result (read.window_at of_table bytes.now) }
+{
+    let (window, rest) = optional_span(bytes)?;
+    if !of_table && window.is_some() {
+        return Err(ReadError::Unspelled);
+    }
+    Ok((window, rest))
+}
+
+#[tactic(auto, unfolding(crate::specs::Reading::optional_at))]
+fn optional_row(alloc: Global, bytes: &[u8]) -> Result<(Option<Row>, &[u8]), ReadError>
+    ensures { Gives with_rest result (read.optional_at read.row_at bytes.now) }
+{
+    match bytes {
+        [0, rest @ ..] => Ok((None, rest)),
+        [1, rest @ ..] => {
+            let (row, rest) = row(alloc, rest)?;
+            Ok((Some(row), rest))
+        }
+        _ => Err(ReadError::Unspelled),
+    }
+}
+
+/// The version, and whether a change of a table stands behind it.
+#[tactic(auto, unfolding(crate::specs::Reading::head_at))]
+fn head(bytes: &[u8]) -> Result<(bool, &[u8]), ReadError>
+    ensures { Gives with_rest result (read.head_at bytes.now) }
+{
+    match bytes {
+        [1, rest @ ..] => truth(rest),
+        _ => Err(ReadError::Unspelled),
+    }
+}
+
+#[tactic(auto, unfolding(crate::specs::Reading::body_at))]
+fn said(alloc: Global, bytes: &[u8]) -> Result<(Body, &[u8]), ReadError>
+    ensures { Gives with_rest result (read.body_at false bytes.now) }
+{
+    let (row, rest) = row(alloc, bytes)?;
+    Ok((Body::Said(row), rest))
+}
+
+#[tactic(auto, unfolding(crate::specs::Reading::body_at))]
+fn turned(alloc: Global, bytes: &[u8]) -> Result<(Body, &[u8]), ReadError>
+    ensures { Gives with_rest result (read.body_at true bytes.now) }
+{
+    let (old, rest) = optional_row(alloc, bytes)?;
+    let (new, rest) = optional_row(alloc, rest)?;
+    if old.is_none() && new.is_none() {
+        return Err(ReadError::Unspelled);
+    }
+    Ok((Body::Turned { old, new }, rest))
+}
+
+fn body(alloc: Global, of_table: bool, bytes: &[u8]) -> Result<(Body, &[u8]), ReadError>
+    ensures { Gives with_rest result (read.body_at of_table bytes.now) }
+{
+    if of_table {
+        turned(alloc, bytes)
+    } else {
+        said(alloc, bytes)
+    }
+}
+
+#[tactic(auto, unfolding(crate::specs::Reading::change_at))]
+fn change(alloc: Global, bytes: &[u8]) -> Result<(Change, &[u8]), ReadError>
+    ensures { Gives with_rest result (read.change_at bytes.now) }
+{
+    let (of_table, rest) = head(bytes)?;
+    let (stamp, rest) = stamp(rest)?;
+    let (path, rest) = path(alloc, rest)?;
+    let (time, rest) = eight(rest)?;
+    let (span, rest) = window(of_table, rest)?;
+    let (key, rest) = key(alloc, rest)?;
+    let (body, rest) = body(alloc, of_table, rest)?;
+    let place = Place { stamp, path };
+    let change = Change {
+        place,
+        time,
+        key,
+        span,
+        body,
+    };
+    Ok((change, rest))
+}
+
+fn whole_change(alloc: Global, bytes: &[u8]) -> Result<Change, ReadError>
+    ensures { Gives (λ c. c) result (read.whole read.change_at bytes.now) }
+{
+    let (change, rest) = change(alloc, bytes)?;
+    if !rest.is_empty() {
+        return Err(ReadError::Unspelled);
+    }
+    Ok(change)
+}
+
+fn whole_row(alloc: Global, bytes: &[u8]) -> Result<Row, ReadError>
+    ensures { Gives (λ r. r) result (read.whole read.row_at bytes.now) }
+{
+    let (row, rest) = row(alloc, bytes)?;
+    if !rest.is_empty() {
+        return Err(ReadError::Unspelled);
+    }
+    Ok(row)
+}
+
+/// The change that the bytes spell, or `None` where they spell no change. The only error is want of memory.
+pub fn decode(alloc: Global, bytes: &[u8]) -> Result<Option<Change>, AllocError>
+    ensures found { IfOk result (λ o. IfSome o (λ c. IsSpellable c × (bytes.now ≡ spelling c))) }
+    ensures only { (c : OneChange) → IsSpellable c → bytes.now ≡ spelling c → IfOk result (λ o. o ≡ Some c) }
+{
+    match whole_change(alloc, bytes) {
+        Ok(change) => Ok(Some(change)),
+        Err(ReadError::Unspelled) => Ok(None),
+        Err(ReadError::OutOfMemory) => Err(AllocError),
+    }
+}
+
+/// The row that the bytes spell, or `None` where they spell no row. The only error is want of memory.
+pub fn decode_row(alloc: Global, bytes: &[u8]) -> Result<Option<Row>, AllocError>
+    ensures found { IfOk result (λ o. IfSome o (λ r. IsSpellableRow r × (bytes.now ≡ values r))) }
+    ensures only { (r : List OneValue) → IsSpellableRow r → bytes.now ≡ values r → IfOk result (λ o. o ≡ Some r) }
+{
+    match whole_row(alloc, bytes) {
+        Ok(row) => Ok(Some(row)),
+        Err(ReadError::Unspelled) => Ok(None),
+        Err(ReadError::OutOfMemory) => Err(AllocError),
+    }
+}
