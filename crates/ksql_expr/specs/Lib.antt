@@ -1,4 +1,5 @@
 pub mod Aggregates
+pub mod Operand
 pub mod Rules
 pub mod Typing
 pub mod Value

@@ -1,6 +1,6 @@
 -- The types of operators and functions (ksqlDB reference manual, "Operators" and "Scalar functions"). The type of an
 -- operand is None where it has only the type of NULL, which fits every type. A rule answers None where there is no type.
-use Rattle.std.specs.Prelude.{ℕ, Bool, true, false, ◌&&◌, ◌||◌, if◌then◌else◌, nat_le, length, List, [], ◌∷◌, Option, Some, None, option_and_then}
+use Rattle.std.specs.Prelude.{Bool, true, false, ◌&&◌, ◌||◌, if◌then◌else◌, nat_le, length, List, [], ◌∷◌, Option, Some, None, option_and_then}
 use Rattle.std.specs.List.{list_all}
 use Rattle.ksql_types.specs.declared.operator.BinaryOp.{BinaryOp}
 use Rattle.ksql_types.specs.declared.operator.BinaryOp.TheVariants as op

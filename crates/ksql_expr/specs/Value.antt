@@ -1,6 +1,6 @@
 -- What an expression is worth on a row (ksqlDB reference manual, "Operators" and "Scalar functions"): one equation for
 -- each form. Whole numbers are computed exactly and then brought into their type's range in two's complement.
-use Rattle.std.specs.Prelude.{ℕ, ◌+◌, ◌-◌, ◌^◌, zero, suc, Bool, true, false, not, ◌&&◌, ◌||◌, ◌==◌, nat_le, nat_lt, if◌then◌else◌, List, [], ◌∷◌, ◌++◌, length, take, drop, reverse, map, codes, bytes_eq, Option, Some, None, is_some, unwrap_or, option_map, option_and_then, slice_get, ℤ, pos, negsuc, neg_ℤ, ◌+ℤ◌, ◌-ℤ◌, ◌*ℤ◌, int_lt, int_div, int_rem}
+use Rattle.std.specs.Prelude.{ℕ, ◌-◌, ◌^◌, zero, suc, Bool, true, false, not, ◌&&◌, ◌||◌, ◌==◌, nat_le, nat_lt, if◌then◌else◌, List, [], ◌∷◌, ◌++◌, length, take, drop, reverse, codes, bytes_eq, Option, Some, None, unwrap_or, option_map, option_and_then, slice_get, ℤ, pos, negsuc, neg_ℤ, ◌+ℤ◌, ◌-ℤ◌, ◌*ℤ◌, int_div, int_rem}
 use Rattle.std.specs.List.{list_any, list_all, flat_map}
 use Rattle.std.specs.Int.{w32, w64, int_wrap}
 use Rattle.std.specs.Char.{is_ascii_digit}
@@ -8,8 +8,7 @@ use Rattle.std.specs.Fmt.{signed_decimal}
 use Rattle.std.specs.Str.{chars, encode_utf8_all, str_to_ascii_uppercase, str_to_ascii_lowercase}
 use Rattle.std.specs.Str.Parse.{signed_digits_value, without_leading_sign}
 use Rattle.std.specs.declared.cmp.Ordering.{Ordering}
-use Rattle.std.specs.declared.cmp.Ordering.TheVariants.{Less, Equal, Greater}
-use Rattle.std.specs.Ordering.{nat_cmp, is_lt, is_le, is_gt, is_ge, is_eq, is_ne}
+use Rattle.std.specs.Ordering.{nat_cmp, int_cmp, bool_cmp, is_lt, is_le, is_gt, is_ge, is_eq, is_ne}
 use Rattle.std.specs.Cmp.Lexicographic.{slice_cmp}
 use Rattle.ksql_types.specs.declared.operator.BinaryOp.{BinaryOp}
 use Rattle.ksql_types.specs.declared.operator.BinaryOp.TheVariants as op
@@ -73,7 +72,7 @@ magnitude (negsuc n) = pos (suc n)
 -- ---- texts
 
 -- the most bytes of a text that is a value
-unfoldable pub longest_value : ℕ
+abbrev pub longest_value : ℕ
 longest_value = 65536
 
 -- a text, or NULL where it is too long
@@ -125,10 +124,24 @@ behind_spaces (c ∷ cs) = if c == 32 then behind_spaces cs else c ∷ cs
 abbrev pub trimmed : List ℕ → List ℕ
 trimmed t = reverse (behind_spaces (reverse (behind_spaces t)))
 
--- a text made of one other; NULL of NULL
-abbrev pub from_text : (List ℕ → Value) → Value → Value
-from_text f (Txt t) = f t
-from_text f _ = Null
+-- LEN: the number of characters
+abbrev pub length_of : Value → Value
+length_of (Txt t) = Int (pos (length (chars t)))
+length_of _ = Null
+
+-- TRIM
+abbrev pub without_spaces : Value → Value
+without_spaces (Txt t) = Txt (trimmed t)
+without_spaces _ = Null
+
+-- UCASE and LCASE: ASCII letters alone change
+abbrev pub in_capitals : Value → Value
+in_capitals (Txt t) = Txt (str_to_ascii_uppercase t)
+in_capitals _ = Null
+
+abbrev pub in_small_letters : Value → Value
+in_small_letters (Txt t) = Txt (str_to_ascii_lowercase t)
+in_small_letters _ = Null
 
 -- whether a test holds of the characters, or of what is left of them behind some
 abbrev pub some_tail : (List ℕ → Bool) → List ℕ → Bool
@@ -157,24 +170,14 @@ abbrev pub is_true_value : Value → Bool
 is_true_value (value.Bool truth) = truth
 is_true_value _ = false
 
--- how two whole numbers compare
-abbrev pub int_order : ℤ → ℤ → Ordering
-int_order x y = if int_lt x y then Less else if int_lt y x then Greater else Equal
-
--- false before true
-abbrev pub truth_order : Bool → Bool → Ordering
-truth_order false true = Less
-truth_order true false = Greater
-truth_order _ _ = Equal
-
 -- how two values compare: numbers by value and texts by bytes; not at all where one of them is NULL
 abbrev pub value_order : Value → Value → Option Ordering
-value_order (Int x) (Int y) = Some (int_order x y)
-value_order (Int x) (Big y) = Some (int_order x y)
-value_order (Big x) (Int y) = Some (int_order x y)
-value_order (Big x) (Big y) = Some (int_order x y)
+value_order (Int x) (Int y) = Some (int_cmp x y)
+value_order (Int x) (Big y) = Some (int_cmp x y)
+value_order (Big x) (Int y) = Some (int_cmp x y)
+value_order (Big x) (Big y) = Some (int_cmp x y)
 value_order (Txt x) (Txt y) = Some (slice_cmp nat_cmp x y)
-value_order (value.Bool x) (value.Bool y) = Some (truth_order x y)
+value_order (value.Bool x) (value.Bool y) = Some (bool_cmp x y)
 value_order _ _ = None
 
 -- whether two values compare so; never where one of them is NULL
@@ -269,30 +272,53 @@ abbrev pub is_taken : Option Value → Value → Bool
 is_taken None cond = is_true_value cond
 is_taken (Some operand) cond = compare_so is_eq operand cond
 
--- the result of the first WHEN that is taken, else that of ELSE, else NULL
+-- the result of the first WHEN that is taken
+abbrev pub first_taken : Option Value → List (Value × Value) → Option Value
+first_taken operand [] = None
+first_taken operand (w ∷ ws) = if is_taken operand w.0 then Some w.1 else first_taken operand ws
+
+-- the same, else the result of ELSE, else NULL
 abbrev pub chosen : Option Value → List (Value × Value) → Option Value → Value
-chosen operand [] otherwise = unwrap_or otherwise Null
-chosen operand (w ∷ ws) otherwise = if is_taken operand w.0 then w.1 else chosen operand ws otherwise
+chosen operand whens otherwise = unwrap_or (first_taken operand whens) (unwrap_or otherwise Null)
 
 -- the first value that isn't NULL
 abbrev pub first_value : List Value → Value
 first_value [] = Null
 first_value (x ∷ xs) = if is_null x then first_value xs else x
 
+-- a function of one value, in the type of the whole
+abbrev pub of_one : Option SqlType → Fun → Value → Value
+of_one t Abs x = from_one t magnitude x
+of_one t Len x = length_of x
+of_one t Trim x = without_spaces x
+of_one t Ucase x = in_capitals x
+of_one t Lcase x = in_small_letters x
+of_one t _ x = Null
+
+-- a function of two values: NULLIF is NULL where they are equal
+abbrev pub of_two : Fun → Value → Value → Value
+of_two Substring x at = tail_of x at
+of_two NullIf x y = if compare_so is_eq x y then Null else x
+of_two _ x y = Null
+
+-- a function of three values
+abbrev pub of_three : Fun → Value → Value → Value → Value
+of_three Substring x at len = middle_of x at len
+of_three _ x y z = Null
+
+-- a function of one, two or three values
+abbrev pub of_few : Option SqlType → Fun → List Value → Value
+of_few t f (x ∷ []) = of_one t f x
+of_few t f (x ∷ y ∷ []) = of_two f x y
+of_few t f (x ∷ y ∷ z ∷ []) = of_three f x y z
+of_few t f _ = Null
+
 -- a function of values, in the type of the whole
 abbrev pub fun_value : Option SqlType → Fun → List Value → Value
-fun_value t Abs (x ∷ []) = from_one t magnitude x
-fun_value t Len (x ∷ []) = from_text (λ s. Int (pos (length (chars s)))) x
 fun_value t Concat xs = text (flat_map bytes_of xs)
-fun_value t Substring (x ∷ at ∷ []) = tail_of x at
-fun_value t Substring (x ∷ at ∷ len ∷ []) = middle_of x at len
-fun_value t Trim (x ∷ []) = from_text (λ s. Txt (trimmed s)) x
-fun_value t Ucase (x ∷ []) = from_text (λ s. Txt (str_to_ascii_uppercase s)) x
-fun_value t Lcase (x ∷ []) = from_text (λ s. Txt (str_to_ascii_lowercase s)) x
 fun_value t Coalesce xs = widened t (first_value xs)
 fun_value t IfNull xs = widened t (first_value xs)
-fun_value t NullIf (x ∷ y ∷ []) = if compare_so is_eq x y then Null else x
-fun_value t _ xs = Null
+fun_value t f xs = of_few t f xs
 
 -- a form, from what its parts are worth; an aggregate has no value on one row
 abbrev pub node_value : List Value → ℕ → TypedNode-F (Option SqlType → Value) Value (Value × Value) → Option SqlType → Value

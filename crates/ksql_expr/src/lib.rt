@@ -1,6 +1,20 @@
 //! Expressions with their types, and what they are worth on a row.
 #![tactic(auto)]
 
+mod comparison;
+mod evaluation;
+mod number;
+mod pattern;
+mod rules;
+mod text;
 mod typed;
 
+pub use evaluation::eval;
+pub use rules::{
+    agg_type, are_comparable, are_ordered, binary_type, can_cast, case_type, fits, fun_type,
+    is_number, joint_type, sign_type,
+};
 pub use typed::{AggFun, Exprs, Fun, Typed, TypedNode, TypedWhen, TypedWhens};
+
+#[cfg(test)]
+mod tests;

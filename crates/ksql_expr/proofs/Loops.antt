@@ -1,0 +1,44 @@
+-- What a loop over expressions has found, and what is left to it.
+use Rattle.std.proofs.Common.{◌≡◌, ◌∙◌, ap, sym, ℕ, ◌+◌, ◌<◌, Bool, true, false, List, ◌∷◌, ◌++◌, length, drop, get_or, Option, Some, append_assoc}
+use Rattle.std.specs.Prelude.{map, ◌||◌}
+use Rattle.std.specs.List.{list_any, flat_map}
+use Rattle.std.proofs.lemmas.Bool.{cond-true, cond-false}
+use Rattle.std.proofs.lemmas.List.{drop_more}
+use Rattle.ksql_types.specs.Key.{is_null}
+use Rattle.ksql_types.specs.declared.value.Value.{Value}
+use Rattle.ksql_expr.specs.declared.typed.TypedWhen.{TypedWhen}
+use Rattle.ksql_expr.specs.Operand.{whens_of}
+use Rattle.ksql_expr.specs.Value.{value_of, is_taken, first_taken, first_value, bytes_of}
+
+-- the item at an index, and the rest
+pub item_and_rest : {X : Type 0} (xs : List X) (i : ℕ) (x : X) → i < length xs → x ≡ get_or xs i x → drop i xs ≡ x ∷ drop (i + 1) xs
+item_and_rest xs i x below is = drop_more xs i x below ∙ ap (λ y. y ∷ drop (i + 1) xs) (sym is)
+
+module _ {X : Type 0} (f : X → Value) (xs rest : List X) (x : X) (v : Value) (at : xs ≡ x ∷ rest) (is : v ≡ f x) where
+  pub value_found : (whole : Value) → is_null v ≡ false → first_value (map f xs) ≡ whole → v ≡ whole
+  value_found whole there same = is ∙ sym (ap (λ l. first_value (map f l)) at ∙ cond-false (is_null (f x)) (first_value (map f rest)) (f x) (ap is_null (sym is) ∙ there)) ∙ same
+
+  pub value_passed : (whole : Value) → is_null v ≡ true → first_value (map f xs) ≡ whole → first_value (map f rest) ≡ whole
+  value_passed whole null same = sym (ap (λ l. first_value (map f l)) at ∙ cond-true (is_null (f x)) (first_value (map f rest)) (f x) (ap is_null (sym is) ∙ null)) ∙ same
+
+  pub any_found : (test : Value → Bool) (whole : Bool) → test v ≡ true → list_any test (map f xs) ≡ whole → true ≡ whole
+  any_found test whole passes same = sym (ap (λ l. list_any test (map f l)) at ∙ ap (λ b. b || list_any test (map f rest)) (ap test (sym is) ∙ passes)) ∙ same
+
+  pub any_passed : (test : Value → Bool) (whole : Bool) → test v ≡ false → list_any test (map f xs) ≡ whole → list_any test (map f rest) ≡ whole
+  any_passed test whole fails same = sym (ap (λ l. list_any test (map f l)) at ∙ ap (λ b. b || list_any test (map f rest)) (ap test (sym is) ∙ fails)) ∙ same
+
+  pub text_more : (front whole : List ℕ) → front ++ flat_map bytes_of (map f xs) ≡ whole → (front ++ bytes_of v) ++ flat_map bytes_of (map f rest) ≡ whole
+  text_more front whole same = append_assoc front (bytes_of v) (flat_map bytes_of (map f rest)) ∙ ap (λ b. front ++ (b ++ flat_map bytes_of (map f rest))) (ap bytes_of is) ∙ sym (ap (λ l. front ++ flat_map bytes_of (map f l)) at) ∙ same
+
+-- WHENs
+module _ (row : List Value) (time : ℕ) (operand : Option Value) (ws rest : List TypedWhen) (w : TypedWhen) (at : ws ≡ w ∷ rest) (cond : Value) (is : cond ≡ value_of row time w.cond) where
+  pub when_found : (whole : Option Value) (made : Value) → is_taken operand cond ≡ true → made ≡ value_of row time w.result
+      → first_taken operand (whens_of row time ws) ≡ whole → Some made ≡ whole
+  when_found whole made taken result same =
+      ap Some result ∙ sym (ap (λ l. first_taken operand (whens_of row time l)) at
+      ∙ cond-true (is_taken operand (value_of row time w.cond)) (Some (value_of row time w.result)) (first_taken operand (whens_of row time rest)) (ap (is_taken operand) (sym is) ∙ taken)) ∙ same
+
+  pub when_passed : (whole : Option Value) → is_taken operand cond ≡ false → first_taken operand (whens_of row time ws) ≡ whole → first_taken operand (whens_of row time rest) ≡ whole
+  when_passed whole passed same =
+      sym (ap (λ l. first_taken operand (whens_of row time l)) at
+      ∙ cond-false (is_taken operand (value_of row time w.cond)) (Some (value_of row time w.result)) (first_taken operand (whens_of row time rest)) (ap (is_taken operand) (sym is) ∙ passed)) ∙ same

@@ -1,0 +1,137 @@
+ghost use Rattle.std.specs.Prelude.{◌≡◌, neg_ℤ};
+ghost use Rattle.std.specs.Int.{w32, w64, int_wrap};
+ghost use Rattle.ksql_expr.specs.Value.{whole, number, from_one, from_two, sum, difference, product, quotient, remainder, magnitude, fitting, widened};
+
+use ksql_types::{SqlType, Value};
+
+/// The whole number that a value is: an INTEGER or a BIGINT.
+pub fn whole(value: &Value) -> Option<i64>
+    ensures { result ≡ whole value.now }
+{
+    match value {
+        Value::Int(number) => Some(i64::from(*number)),
+        Value::Big(number) => Some(*number),
+        _ => None,
+    }
+}
+
+/// What is left of a number in 32 bits, in two's complement.
+fn low_half(exact: i128) -> i32
+    ensures { result ≡ int_wrap w32 exact }
+{
+    (exact.rem_euclid(1 << 32) as u32).cast_signed()
+}
+
+/// What is left of a number in 64 bits, in two's complement.
+fn low_word(exact: i128) -> i64
+    ensures { result ≡ int_wrap w64 exact }
+{
+    (exact.rem_euclid(1 << 64) as u64).cast_signed()
+}
+
+/// A number in a type, brought into its range in two's complement; NULL in another type.
+fn number(ty: Option<SqlType>, exact: i128) -> Value
+    ensures { result ≡ number ty exact }
+{
+    match ty {
+        Some(SqlType::Int) => Value::Int(low_half(exact)),
+        Some(SqlType::Big) => Value::Big(low_word(exact)),
+        _ => Value::Null,
+    }
+}
+
+/// The sum in a type; NULL of NULL.
+pub fn sum(ty: Option<SqlType>, left: &Value, right: &Value) -> Value
+    ensures { result ≡ from_two ty sum left.now right.now }
+{
+    match (whole(left), whole(right)) {
+        (Some(left), Some(right)) => number(ty, i128::from(left) + i128::from(right)),
+        _ => Value::Null,
+    }
+}
+
+/// The difference in a type; NULL of NULL.
+pub fn difference(ty: Option<SqlType>, left: &Value, right: &Value) -> Value
+    ensures { result ≡ from_two ty difference left.now right.now }
+{
+    match (whole(left), whole(right)) {
+        (Some(left), Some(right)) => number(ty, i128::from(left) - i128::from(right)),
+        _ => Value::Null,
+    }
+}
+
+/// The product in a type; NULL of NULL.
+pub fn product(ty: Option<SqlType>, left: &Value, right: &Value) -> Value
+    ensures { result ≡ from_two ty product left.now right.now }
+{
+    match (whole(left), whole(right)) {
+        (Some(left), Some(right)) => number(ty, i128::from(left) * i128::from(right)),
+        _ => Value::Null,
+    }
+}
+
+/// The quotient in a type, toward zero; NULL by zero and of NULL.
+pub fn quotient(ty: Option<SqlType>, left: &Value, right: &Value) -> Value
+    ensures { result ≡ from_two ty quotient left.now right.now }
+{
+    match (whole(left), whole(right)) {
+        (Some(_), Some(0)) => Value::Null,
+        (Some(left), Some(right)) => number(ty, i128::from(left) / i128::from(right)),
+        _ => Value::Null,
+    }
+}
+
+/// The remainder in a type, with the sign of the left operand; NULL by zero and of NULL.
+pub fn remainder(ty: Option<SqlType>, left: &Value, right: &Value) -> Value
+    ensures { result ≡ from_two ty remainder left.now right.now }
+{
+    match (whole(left), whole(right)) {
+        (Some(_), Some(0)) => Value::Null,
+        (Some(left), Some(right)) => number(ty, i128::from(left) % i128::from(right)),
+        _ => Value::Null,
+    }
+}
+
+/// The number with the other sign, in a type; NULL of NULL.
+pub fn negated(ty: Option<SqlType>, value: &Value) -> Value
+    ensures { result ≡ from_one ty neg_ℤ value.now }
+{
+    match whole(value) {
+        Some(whole) => number(ty, -i128::from(whole)),
+        None => Value::Null,
+    }
+}
+
+/// The number without its sign, in a type; NULL of NULL.
+pub fn magnitude(ty: Option<SqlType>, value: &Value) -> Value
+    ensures { result ≡ from_one ty magnitude value.now }
+{
+    match whole(value) {
+        Some(whole) => number(ty, i128::from(whole).abs()),
+        None => Value::Null,
+    }
+}
+
+/// The number in a type, or NULL where it is out of the type's range.
+pub fn fitting(to: SqlType, number: i64) -> Value
+    ensures { result ≡ fitting to number }
+{
+    match to {
+        SqlType::Int => match i32::try_from(number) {
+            Ok(number) => Value::Int(number),
+            Err(_) => Value::Null,
+        },
+        SqlType::Big => Value::Big(number),
+        _ => Value::Null,
+    }
+}
+
+/// An INTEGER as a BIGINT, where that is the type; any other value as it is.
+pub fn widened(ty: Option<SqlType>, value: Value) -> Value
+    ensures { result ≡ widened ty value }
+{
+    match (ty, value) {
+        (Some(SqlType::Big), Value::Int(number)) => Value::Big(i64::from(number)),
+        (_, value) => value,
+    }
+}
