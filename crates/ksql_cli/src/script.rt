@@ -11,6 +11,7 @@ use crate::status::Status;
 use first_form::{FirstForm, first_form};
 use ksql_lexer::{LexFault, Token, tokens};
 use ksql_parser::{ParseFault, parse};
+use ksql_types::Code;
 use std::alloc::Global;
 use std::str;
 

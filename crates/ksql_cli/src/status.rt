@@ -1,8 +1,7 @@
 ghost use Rattle.std.specs.Prelude.{◌≡◌};
 ghost use Rattle.ksql_cli.specs.Status.{exit_code};
 
-use ksql_types::Code;
-use ksql_types::Chars;
+use ksql_types::{Chars, Code};
 
 /// How a command ended.
 #[derive(Debug, PartialEq, Eq, Drop)]

@@ -19,451 +19,323 @@ fn chars(alloc: Global, text: &str) -> Result<Chars, Fail> {
     Ok(Chars::of(String::from_str(alloc, text)?))
 }
 
-fn int(number: i32) -> Typed {
-    Typed {
-        ty: INT,
-        node: TypedNode::Literal(Value::Int(number)),
-    }
-}
-
-fn big(number: i64) -> Typed {
-    Typed {
-        ty: BIG,
-        node: TypedNode::Literal(Value::Big(number)),
-    }
-}
-
-fn truth(truth: bool) -> Typed {
-    Typed {
-        ty: BOOL,
-        node: TypedNode::Literal(Value::Bool(truth)),
-    }
-}
-
-fn null() -> Typed {
-    Typed {
-        ty: None,
-        node: TypedNode::Literal(Value::Null),
-    }
-}
-
-fn text(alloc: Global, text: &str) -> Result<Typed, Fail> {
-    Ok(Typed {
-        ty: TEXT,
-        node: TypedNode::Literal(Value::Txt(chars(alloc, text)?)),
-    })
-}
-
-/// A text of so many letters `a`.
-fn long(alloc: Global, len: usize) -> Result<Typed, Fail> {
-    let mut letters = String::new(alloc);
-    for _ in 0..len {
-        letters.push('a')?;
-    }
-    text(alloc, letters.as_str())
-}
-
-fn binary(
-    alloc: Global,
-    ty: Option<SqlType>,
-    left: Typed,
-    op: BinaryOp,
-    right: Typed,
-) -> Result<Typed, Fail> {
-    let (left, right) = (Boxed::of(alloc, left)?, Boxed::of(alloc, right)?);
-    Ok(Typed {
-        ty,
-        node: TypedNode::Binary { op, left, right },
-    })
-}
-
-fn not(alloc: Global, arg: Typed) -> Result<Typed, Fail> {
-    Ok(Typed {
-        ty: BOOL,
-        node: TypedNode::Not(Boxed::of(alloc, arg)?),
-    })
-}
-
-fn like(alloc: Global, arg: Typed, pattern: &str) -> Result<Typed, Fail> {
-    Ok(Typed {
-        ty: BOOL,
-        node: TypedNode::Like {
-            negated: false,
-            arg: Boxed::of(alloc, arg)?,
-            pattern: chars(alloc, pattern)?,
-        },
-    })
-}
-
-fn between(alloc: Global, arg: Typed, low: Typed, high: Typed) -> Result<Typed, Fail> {
-    Ok(Typed {
-        ty: BOOL,
-        node: TypedNode::Between {
-            negated: false,
-            arg: Boxed::of(alloc, arg)?,
-            low: Boxed::of(alloc, low)?,
-            high: Boxed::of(alloc, high)?,
-        },
-    })
-}
-
-fn cast(alloc: Global, arg: Typed, to: SqlType) -> Result<Typed, Fail> {
-    Ok(Typed {
-        ty: Some(to),
-        node: TypedNode::Cast {
-            arg: Boxed::of(alloc, arg)?,
-            to,
-        },
-    })
-}
-
-fn call(ty: Option<SqlType>, fun: Fun, args: Vec<Typed>) -> Typed {
+fn typed(ty: Option<SqlType>, value: Value) -> Typed {
     Typed {
         ty,
-        node: TypedNode::Call {
-            fun,
-            args: Items::of(args),
-        },
+        node: TypedNode::Literal(value),
     }
 }
 
-/// The value of an expression on a row of one cell, 5, at the time 9, as a text.
-fn shown(alloc: Global, typed: Typed) -> Result<String, Fail> {
-    Ok(match eval(alloc, &typed, &[Value::Int(5)], 9)? {
+fn truth(node: TypedNode) -> Typed {
+    Typed { ty: BOOL, node }
+}
+
+// A literal: `NULL`, `true`, `false`, `7`, `7L` of BIGINT, or a text behind a mark `'`.
+fn literal(alloc: Global, word: &str) -> Result<Typed, Fail> {
+    if let Some(text) = word.strip_prefix('\'') {
+        return Ok(typed(TEXT, Value::Txt(chars(alloc, text)?)));
+    }
+    if let Ok(number) = word.parse::<i32>() {
+        return Ok(typed(INT, Value::Int(number)));
+    }
+    if word == "NULL" {
+        return Ok(typed(None, Value::Null));
+    }
+    if let Some(digits) = word.strip_suffix('L') {
+        let number = digits.parse::<i64>().ok().ok_or("no number")?;
+        return Ok(typed(BIG, Value::Big(number)));
+    }
+    Ok(typed(BOOL, Value::Bool(word == "true")))
+}
+
+fn boxed(alloc: Global, word: &str) -> Result<Boxed<Typed>, Fail> {
+    Ok(Boxed::of(alloc, literal(alloc, word)?)?)
+}
+
+fn shown(alloc: Global, value: Value) -> Result<String, Fail> {
+    Ok(match value {
         Value::Null => String::from_str(alloc, "NULL")?,
         Value::Int(number) => format!(in alloc; "{number}")?,
-        Value::Big(number) => format!(in alloc; "{number} BIGINT")?,
+        Value::Big(number) => format!(in alloc; "{number}L")?,
         Value::Txt(text) => text.into_items(),
         Value::Bool(truth) => format!(in alloc; "{truth}")?,
     })
 }
 
-/// An operator between two numbers, shown.
-fn number(
-    alloc: Global,
-    ty: Option<SqlType>,
-    left: Typed,
-    op: BinaryOp,
-    right: Typed,
-) -> Result<String, Fail> {
-    shown(alloc, binary(alloc, ty, left, op, right)?)
+// The value of an expression on a row of one cell, 5, at the time 9, as a text.
+fn worth(alloc: Global, typed: Typed) -> Result<String, Fail> {
+    let value = eval(alloc, &typed, &[Value::Int(5)], 9)?;
+    shown(alloc, value)
+}
+
+// An operator between two literals, in the type that the rules give it.
+fn binary(alloc: Global, left: &str, op: BinaryOp, right: &str) -> Result<String, Fail> {
+    let (left, right) = (literal(alloc, left)?, literal(alloc, right)?);
+    let ty = binary_type(op, left.ty, right.ty);
+    let (left, right) = (Boxed::of(alloc, left)?, Boxed::of(alloc, right)?);
+    let node = TypedNode::Binary { op, left, right };
+    worth(alloc, Typed { ty, node })
+}
+
+// A function of literals with `|` between them, in the type that the rules give it.
+fn call(alloc: Global, fun: Fun, words: &str) -> Result<String, Fail> {
+    let mut args = Vec::new(alloc);
+    let mut types = Vec::new(alloc);
+    for word in words.split('|') {
+        let arg = literal(alloc, word)?;
+        types.push(arg.ty)?;
+        args.push(arg)?;
+    }
+    let ty = fun_type(fun, types.as_slice()).ok_or("no type")?;
+    let args = Items::of(args);
+    let node = TypedNode::Call { fun, args };
+    worth(alloc, Typed { ty, node })
+}
+
+fn not(alloc: Global, arg: &str) -> Result<String, Fail> {
+    worth(alloc, truth(TypedNode::Not(boxed(alloc, arg)?)))
+}
+
+fn like(alloc: Global, arg: &str, pattern: &str) -> Result<String, Fail> {
+    let node = TypedNode::Like {
+        negated: false,
+        arg: boxed(alloc, arg)?,
+        pattern: chars(alloc, pattern)?,
+    };
+    worth(alloc, truth(node))
+}
+
+fn between(alloc: Global, arg: &str, low: &str, high: &str) -> Result<String, Fail> {
+    let node = TypedNode::Between {
+        negated: false,
+        arg: boxed(alloc, arg)?,
+        low: boxed(alloc, low)?,
+        high: boxed(alloc, high)?,
+    };
+    worth(alloc, truth(node))
+}
+
+fn cast(alloc: Global, arg: &str, to: SqlType) -> Result<String, Fail> {
+    let arg = boxed(alloc, arg)?;
+    let node = TypedNode::Cast { arg, to };
+    worth(alloc, Typed { ty: Some(to), node })
 }
 
 #[test]
-fn sums_and_products_wrap(rt: HostRuntime) -> Result<(), Fail> {
-    let alloc = rt.alloc();
-    assert_eq!(rt;
-        number(alloc, INT, int(2147483647), BinaryOp::Add, int(1))?.as_str(),
-        "-2147483648"
-    );
-    assert_eq!(rt;
-        number(alloc, BIG, big(i64::MAX), BinaryOp::Add, int(1))?.as_str(),
-        "-9223372036854775808 BIGINT"
-    );
-    assert_eq!(rt;
-        number(alloc, BIG, big(i64::MIN), BinaryOp::Sub, int(1))?.as_str(),
-        "9223372036854775807 BIGINT"
-    );
-    assert_eq!(rt;
-        number(alloc, INT, int(65536), BinaryOp::Mul, int(65536))?.as_str(),
-        "0"
-    );
-    assert_eq!(rt;
-        number(alloc, INT, null(), BinaryOp::Add, int(1))?.as_str(),
-        "NULL"
-    );
-    assert_eq!(rt;
-        shown(alloc, call(INT, Fun::Abs, vec![in alloc; int(i32::MIN)]?))?.as_str(),
-        "-2147483648"
-    );
-    Ok(())
-}
-
-#[test]
-fn division_goes_toward_zero(rt: HostRuntime) -> Result<(), Fail> {
-    let alloc = rt.alloc();
-    assert_eq!(rt;
-        number(alloc, INT, int(-7), BinaryOp::Div, int(2))?.as_str(),
-        "-3"
-    );
-    assert_eq!(rt;
-        number(alloc, INT, int(-7), BinaryOp::Rem, int(2))?.as_str(),
-        "-1"
-    );
-    assert_eq!(rt;
-        number(alloc, INT, int(7), BinaryOp::Rem, int(-2))?.as_str(),
-        "1"
-    );
-    assert_eq!(rt;
-        number(alloc, BIG, big(i64::MIN), BinaryOp::Div, int(-1))?.as_str(),
-        "-9223372036854775808 BIGINT"
-    );
-    assert_eq!(rt;
-        number(alloc, INT, int(7), BinaryOp::Div, int(0))?.as_str(),
-        "NULL"
-    );
-    assert_eq!(rt;
-        number(alloc, INT, int(7), BinaryOp::Rem, int(0))?.as_str(),
-        "NULL"
-    );
+fn operators_on_numbers_wrap_and_divide_toward_zero(rt: HostRuntime) -> Result<(), Fail> {
+    let rows = [
+        ("2147483647", BinaryOp::Add, "1", "-2147483648"),
+        ("2147483647", BinaryOp::Add, "1L", "2147483648L"),
+        (
+            "9223372036854775807L",
+            BinaryOp::Add,
+            "1",
+            "-9223372036854775808L",
+        ),
+        (
+            "-9223372036854775808L",
+            BinaryOp::Sub,
+            "1",
+            "9223372036854775807L",
+        ),
+        ("65536", BinaryOp::Mul, "65536", "0"),
+        ("NULL", BinaryOp::Add, "1", "NULL"),
+        ("-7", BinaryOp::Div, "2", "-3"),
+        ("-7", BinaryOp::Rem, "2", "-1"),
+        ("7", BinaryOp::Rem, "-2", "1"),
+        (
+            "-9223372036854775808L",
+            BinaryOp::Div,
+            "-1",
+            "-9223372036854775808L",
+        ),
+        ("7", BinaryOp::Div, "0", "NULL"),
+        ("7", BinaryOp::Rem, "0", "NULL"),
+    ];
+    for (left, op, right, want) in rows {
+        assert_eq!(rt; binary(rt.alloc(), left, op, right)?.as_str(), want);
+    }
     Ok(())
 }
 
 #[test]
 fn null_compares_with_nothing(rt: HostRuntime) -> Result<(), Fail> {
-    let alloc = rt.alloc();
-    let equal = binary(alloc, BOOL, null(), BinaryOp::Eq, int(1))?;
-    assert_eq!(rt; shown(alloc, not(alloc, equal)?)?.as_str(), "true");
-    assert_eq!(rt;
-        number(alloc, BOOL, null(), BinaryOp::Ne, int(1))?.as_str(),
-        "false"
-    );
-    assert_eq!(rt;
-        number(alloc, BOOL, int(1), BinaryOp::Eq, big(1))?.as_str(),
-        "true"
-    );
-    assert_eq!(rt;
-        number(alloc, BOOL, null(), BinaryOp::Or, truth(true))?.as_str(),
-        "true"
-    );
-    assert_eq!(rt; shown(alloc, not(alloc, null())?)?.as_str(), "true");
-    assert_eq!(rt;
-        shown(alloc, between(alloc, int(3), int(1), int(3))?)?.as_str(),
-        "true"
-    );
-    assert_eq!(rt;
-        shown(alloc, between(alloc, int(4), int(1), int(3))?)?.as_str(),
-        "false"
-    );
+    let rows = [
+        ("NULL", BinaryOp::Eq, "1", "false"),
+        ("NULL", BinaryOp::Eq, "NULL", "false"),
+        ("NULL", BinaryOp::Ne, "1", "false"),
+        ("1", BinaryOp::Eq, "1L", "true"),
+        ("'a", BinaryOp::Lt, "'b", "true"),
+        ("NULL", BinaryOp::Or, "true", "true"),
+        ("NULL", BinaryOp::And, "true", "false"),
+    ];
+    for (left, op, right, want) in rows {
+        assert_eq!(rt; binary(rt.alloc(), left, op, right)?.as_str(), want);
+    }
+    Ok(())
+}
+
+#[test]
+fn not_and_between(rt: HostRuntime) -> Result<(), Fail> {
+    assert_eq!(rt; not(rt.alloc(), "NULL")?.as_str(), "true");
+    assert_eq!(rt; between(rt.alloc(), "3", "1", "3")?.as_str(), "true");
+    assert_eq!(rt; between(rt.alloc(), "4", "1", "3")?.as_str(), "false");
+    assert_eq!(rt; between(rt.alloc(), "4", "1", "NULL")?.as_str(), "false");
     Ok(())
 }
 
 #[test]
 fn a_pattern_stands_for_texts(rt: HostRuntime) -> Result<(), Fail> {
-    let alloc = rt.alloc();
-    assert_eq!(rt;
-        shown(alloc, like(alloc, text(alloc, "a%")?, "a_")?)?.as_str(),
-        "true"
-    );
-    assert_eq!(rt;
-        shown(alloc, like(alloc, text(alloc, "aXbXXc")?, "a%X%c")?)?.as_str(),
-        "true"
-    );
-    assert_eq!(rt;
-        shown(alloc, like(alloc, text(alloc, "abab")?, "%ab")?)?.as_str(),
-        "true"
-    );
-    assert_eq!(rt;
-        shown(alloc, like(alloc, text(alloc, "aba")?, "%b")?)?.as_str(),
-        "false"
-    );
-    assert_eq!(rt;
-        shown(alloc, like(alloc, text(alloc, "ä")?, "_")?)?.as_str(),
-        "true"
-    );
-    assert_eq!(rt;
-        shown(alloc, like(alloc, text(alloc, "")?, "%")?)?.as_str(),
-        "true"
-    );
-    assert_eq!(rt; shown(alloc, like(alloc, null(), "%")?)?.as_str(), "false");
+    let rows = [
+        ("'a%", "a_", "true"),
+        ("'aXbXXc", "a%X%c", "true"),
+        ("'abab", "%ab", "true"),
+        ("'aba", "%b", "false"),
+        ("'ä", "_", "true"),
+        ("'", "%", "true"),
+        ("NULL", "%", "false"),
+    ];
+    for (arg, pattern, want) in rows {
+        assert_eq!(rt; like(rt.alloc(), arg, pattern)?.as_str(), want);
+    }
     Ok(())
 }
 
 #[test]
-fn parts_of_texts(rt: HostRuntime) -> Result<(), Fail> {
-    let alloc = rt.alloc();
-    let part = call(
-        TEXT,
-        Fun::Substring,
-        vec![in alloc; text(alloc, "abcd")?, int(2), int(2)]?,
-    );
-    assert_eq!(rt; shown(alloc, part)?.as_str(), "bc");
-    let part = call(
-        TEXT,
-        Fun::Substring,
-        vec![in alloc; text(alloc, "abcd")?, int(0)]?,
-    );
-    assert_eq!(rt; shown(alloc, part)?.as_str(), "abcd");
-    let part = call(
-        TEXT,
-        Fun::Substring,
-        vec![in alloc; text(alloc, "äöü")?, int(-2), big(1)]?,
-    );
-    assert_eq!(rt; shown(alloc, part)?.as_str(), "ö");
-    let part = call(
-        TEXT,
-        Fun::Substring,
-        vec![in alloc; text(alloc, "abcd")?, int(9)]?,
-    );
-    assert_eq!(rt; shown(alloc, part)?.as_str(), "");
-    let part = call(
-        TEXT,
-        Fun::Substring,
-        vec![in alloc; text(alloc, "abcd")?, null()]?,
-    );
-    assert_eq!(rt; shown(alloc, part)?.as_str(), "NULL");
-    Ok(())
-}
-
-#[test]
-fn texts_are_measured_and_changed(rt: HostRuntime) -> Result<(), Fail> {
-    let alloc = rt.alloc();
-    let len = call(INT, Fun::Len, vec![in alloc; text(alloc, "äb")?]?);
-    assert_eq!(rt; shown(alloc, len)?.as_str(), "2");
-    let trimmed = call(TEXT, Fun::Trim, vec![in alloc; text(alloc, "  a b ")?]?);
-    assert_eq!(rt; shown(alloc, trimmed)?.as_str(), "a b");
-    let capitals = call(TEXT, Fun::Ucase, vec![in alloc; text(alloc, "äb")?]?);
-    assert_eq!(rt; shown(alloc, capitals)?.as_str(), "äB");
-    let small = call(TEXT, Fun::Lcase, vec![in alloc; text(alloc, "AZ[")?]?);
-    assert_eq!(rt; shown(alloc, small)?.as_str(), "az[");
+fn functions(rt: HostRuntime) -> Result<(), Fail> {
+    let rows = [
+        (Fun::Abs, "-2147483648", "-2147483648"),
+        (Fun::Substring, "'abcd|2|2", "bc"),
+        (Fun::Substring, "'abcd|0", "abcd"),
+        (Fun::Substring, "'äöü|-2|1L", "ö"),
+        (Fun::Substring, "'abcd|9", ""),
+        (Fun::Substring, "'abcd|NULL", "NULL"),
+        (Fun::Len, "'äb", "2"),
+        (Fun::Trim, "'  a b ", "a b"),
+        (Fun::Ucase, "'äb", "äB"),
+        (Fun::Lcase, "'AZ[", "az["),
+        (Fun::Concat, "'a|NULL|'b", "ab"),
+        (Fun::Coalesce, "NULL|5|6L", "5L"),
+        (Fun::IfNull, "NULL|5", "5"),
+        (Fun::NullIf, "5|5L", "NULL"),
+        (Fun::NullIf, "5|NULL", "5"),
+    ];
+    for (fun, words, want) in rows {
+        assert_eq!(rt; call(rt.alloc(), fun, words)?.as_str(), want);
+    }
     Ok(())
 }
 
 #[test]
 fn texts_are_joined_up_to_a_limit(rt: HostRuntime) -> Result<(), Fail> {
-    let alloc = rt.alloc();
-    let whole = binary(
-        alloc,
-        TEXT,
-        long(alloc, 65_536)?,
-        BinaryOp::Add,
-        text(alloc, "")?,
-    )?;
-    assert_eq!(rt; shown(alloc, whole)?.len(), 65_536);
-    let over = binary(
-        alloc,
-        TEXT,
-        long(alloc, 65_536)?,
-        BinaryOp::Concat,
-        text(alloc, "a")?,
-    )?;
-    assert_eq!(rt; shown(alloc, over)?.as_str(), "NULL");
-    let some = call(
-        TEXT,
-        Fun::Concat,
-        vec![in alloc; text(alloc, "a")?, null(), text(alloc, "b")?]?,
+    let letters = "a".repeat(rt.alloc(), 65_536)?;
+    let long = format!(in rt.alloc(); "'{letters}")?;
+    let whole = binary(rt.alloc(), long.as_str(), BinaryOp::Add, "'")?;
+    assert_eq!(rt; whole.as_str(), letters.as_str());
+    let over = binary(rt.alloc(), long.as_str(), BinaryOp::Concat, "'a")?;
+    assert_eq!(rt; over.as_str(), "NULL");
+    let words = format!(in rt.alloc(); "'a|{long}")?;
+    assert_eq!(rt;
+        call(rt.alloc(), Fun::Concat, words.as_str())?.as_str(),
+        "NULL"
     );
-    assert_eq!(rt; shown(alloc, some)?.as_str(), "ab");
-    let over = call(
-        TEXT,
-        Fun::Concat,
-        vec![in alloc; text(alloc, "a")?, long(alloc, 65_536)?]?,
-    );
-    assert_eq!(rt; shown(alloc, over)?.as_str(), "NULL");
     Ok(())
 }
 
 #[test]
 fn casts(rt: HostRuntime) -> Result<(), Fail> {
-    let alloc = rt.alloc();
-    assert_eq!(rt;
-        shown(alloc, cast(alloc, big(2147483648), SqlType::Int)?)?.as_str(),
-        "NULL"
-    );
-    assert_eq!(rt;
-        shown(alloc, cast(alloc, big(-2147483648), SqlType::Int)?)?.as_str(),
-        "-2147483648"
-    );
-    assert_eq!(rt;
-        shown(alloc, cast(alloc, text(alloc, "+07")?, SqlType::Big)?)?.as_str(),
-        "7 BIGINT"
-    );
-    assert_eq!(rt;
-        shown(alloc, cast(alloc, text(alloc, " 7")?, SqlType::Int)?)?.as_str(),
-        "NULL"
-    );
-    assert_eq!(rt;
-        shown(alloc, cast(alloc, int(-12), SqlType::Text)?)?.as_str(),
-        "-12"
-    );
-    assert_eq!(rt;
-        shown(alloc, cast(alloc, text(alloc, "TrUe")?, SqlType::Bool)?)?.as_str(),
-        "true"
-    );
-    assert_eq!(rt;
-        shown(alloc, cast(alloc, truth(false), SqlType::Text)?)?.as_str(),
-        "false"
-    );
+    let rows = [
+        ("2147483648L", SqlType::Int, "NULL"),
+        ("-2147483648L", SqlType::Int, "-2147483648"),
+        ("'+07", SqlType::Big, "7L"),
+        ("' 7", SqlType::Int, "NULL"),
+        ("-12", SqlType::Text, "-12"),
+        ("'TrUe", SqlType::Bool, "true"),
+        ("false", SqlType::Text, "false"),
+    ];
+    for (arg, to, want) in rows {
+        assert_eq!(rt; cast(rt.alloc(), arg, to)?.as_str(), want);
+    }
     Ok(())
 }
 
-#[test]
-fn choices_are_widened(rt: HostRuntime) -> Result<(), Fail> {
-    let alloc = rt.alloc();
-    let first = call(BIG, Fun::Coalesce, vec![in alloc; null(), int(5), big(6)]?);
-    assert_eq!(rt; shown(alloc, first)?.as_str(), "5 BIGINT");
-    let second = call(INT, Fun::IfNull, vec![in alloc; null(), int(5)]?);
-    assert_eq!(rt; shown(alloc, second)?.as_str(), "5");
-    let same = call(INT, Fun::NullIf, vec![in alloc; int(5), big(5)]?);
-    assert_eq!(rt; shown(alloc, same)?.as_str(), "NULL");
-    let other = call(INT, Fun::NullIf, vec![in alloc; int(5), null()]?);
-    assert_eq!(rt; shown(alloc, other)?.as_str(), "5");
-    Ok(())
+fn when(alloc: Global, cond: &str, then: &str) -> Result<TypedWhen, Fail> {
+    Ok(TypedWhen {
+        cond: literal(alloc, cond)?,
+        result: literal(alloc, then)?,
+    })
+}
+
+fn column(column: u32) -> Typed {
+    Typed {
+        ty: INT,
+        node: TypedNode::Column(column),
+    }
+}
+
+// CASE of the row's first cell.
+fn case(alloc: Global, whens: Vec<TypedWhen>) -> Result<String, Fail> {
+    let node = TypedNode::Case {
+        arg: Some(Boxed::of(alloc, column(0))?),
+        whens: Items::of(whens),
+        otherwise: None,
+    };
+    worth(alloc, Typed { ty: BIG, node })
 }
 
 #[test]
 fn a_case_takes_the_first_that_is_true(rt: HostRuntime) -> Result<(), Fail> {
-    let alloc = rt.alloc();
-    let whens = vec![in alloc;
-        TypedWhen {
-            cond: null(),
-            result: int(1)
-        },
-        TypedWhen {
-            cond: int(5),
-            result: int(2)
-        },
-    ]?;
-    let column = Typed {
-        ty: INT,
-        node: TypedNode::Column(0),
-    };
-    let case = Typed {
-        ty: BIG,
-        node: TypedNode::Case {
-            arg: Some(Boxed::of(alloc, column)?),
-            whens: Items::of(whens),
-            otherwise: None,
-        },
-    };
-    assert_eq!(rt; shown(alloc, case)?.as_str(), "2 BIGINT");
+    let mut whens = Vec::new(rt.alloc());
+    whens.push(when(rt.alloc(), "NULL", "1")?)?;
+    whens.push(when(rt.alloc(), "5", "2")?)?;
+    whens.push(when(rt.alloc(), "5", "3")?)?;
+    assert_eq!(rt; case(rt.alloc(), whens)?.as_str(), "2L");
+    assert_eq!(rt; case(rt.alloc(), Vec::new(rt.alloc()))?.as_str(), "NULL");
     Ok(())
 }
 
-#[test]
-fn columns_and_times(rt: HostRuntime) -> Result<(), Fail> {
-    let alloc = rt.alloc();
-    let missing = Typed {
-        ty: INT,
-        node: TypedNode::Column(1),
-    };
-    assert_eq!(rt; shown(alloc, missing)?.as_str(), "NULL");
-    let time = Typed {
+fn aggregate(fun: AggFun) -> Typed {
+    Typed {
+        ty: BIG,
+        node: TypedNode::Aggregate { fun, arg: None },
+    }
+}
+
+fn row_time() -> Typed {
+    Typed {
         ty: BIG,
         node: TypedNode::RowTime,
-    };
-    assert_eq!(rt; shown(alloc, time)?.as_str(), "9 BIGINT");
-    let count = Typed {
-        ty: BIG,
-        node: TypedNode::Aggregate {
-            fun: AggFun::CountAll,
-            arg: None,
-        },
-    };
-    assert_eq!(rt; shown(alloc, count)?.as_str(), "NULL");
+    }
+}
+
+#[test]
+fn columns_times_and_aggregates(rt: HostRuntime) -> Result<(), Fail> {
+    assert_eq!(rt; worth(rt.alloc(), column(0))?.as_str(), "5");
+    assert_eq!(rt; worth(rt.alloc(), column(1))?.as_str(), "NULL");
+    assert_eq!(rt; worth(rt.alloc(), row_time())?.as_str(), "9L");
+    assert_eq!(rt;
+        worth(rt.alloc(), aggregate(AggFun::CountAll))?.as_str(),
+        "NULL"
+    );
     Ok(())
 }
 
 #[test]
-fn types_of_operators_and_functions(rt: HostRuntime) -> Result<(), Fail> {
+fn types_of_operators(rt: HostRuntime) -> Result<(), Fail> {
     assert!(rt; binary_type(BinaryOp::Add, INT, BIG) == BIG);
     assert!(rt; binary_type(BinaryOp::Add, None, None) == INT);
     assert!(rt; binary_type(BinaryOp::Add, TEXT, INT) == None);
     assert!(rt; binary_type(BinaryOp::Lt, BOOL, BOOL) == None);
+    assert!(rt; can_cast(BOOL, SqlType::Text));
+    assert!(rt; !can_cast(BOOL, SqlType::Int));
+    Ok(())
+}
+
+#[test]
+fn types_of_functions(rt: HostRuntime) -> Result<(), Fail> {
     assert!(rt; fun_type(Fun::Coalesce, &[None, INT, BIG]) == Some(BIG));
     assert!(rt; fun_type(Fun::Concat, &[TEXT]) == None);
     assert!(rt; agg_type(AggFun::Count, None) == None);
     assert!(rt; case_type(None, &[BOOL, INT], &[INT]) == None);
-    assert!(rt; can_cast(BOOL, SqlType::Text) && !can_cast(BOOL, SqlType::Int));
     Ok(())
 }

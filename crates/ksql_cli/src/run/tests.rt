@@ -4,8 +4,7 @@ ghost use Rattle.ksql_types.specs.Text.{longest_text};
 use crate::run::ksql;
 use crate::status::{LineWhy, Status};
 use ksql_outside::{MemFolder, MemSink, NoGate};
-use ksql_types::Code;
-use ksql_types::{Bytes, Chars, Items, Word, Words};
+use ksql_types::{Bytes, Chars, Code, Items, Word, Words};
 use std::alloc::{AllocError, Global};
 use std::test::Fail;
 
@@ -76,22 +75,28 @@ fn words(alloc: Global, line: &str) -> Result<Words, AllocError> {
 
 const RUN: &str = "ksql run --script f";
 
+/// How the command of a line ends on these files: its status, and what it wrote.
+fn ended<R>(
+    rt: &R,
+    alloc: Global,
+    line: &str,
+    mut files: MemFolder,
+    mut out: MemSink,
+) -> Result<(Status, Vec<u8>), AllocError> {
+    let words = words(alloc, line)?;
+    let status = ksql(rt, alloc, &words, &mut files, &mut out, &NoGate);
+    Ok((status, Vec::from_slice(alloc, out.written())?))
+}
+
 #[test]
 fn two_records_are_filtered(rt: HostRuntime) -> Result<(), Fail> {
     let alloc = rt.alloc();
     for (lines, report) in [(LINES, REPORT), ("", EMPTY_REPORT)] {
-        let mut files = folder(alloc, SCRIPT.as_bytes(), lines, &[])?;
-        let mut out = MemSink::new(alloc, 1000, 1000)?;
-        let status = ksql(
-            &rt,
-            alloc,
-            &words(alloc, RUN)?,
-            &mut files,
-            &mut out,
-            &NoGate,
-        );
+        let files = folder(alloc, SCRIPT.as_bytes(), lines, &[])?;
+        let sink = MemSink::new(alloc, 1000, 1000)?;
+        let (status, written) = ended(&rt, alloc, RUN, files, sink)?;
         assert_eq!(rt; status, Status::Done);
-        assert_eq!(rt; out.written(), report.as_bytes());
+        assert_eq!(rt; written.as_slice(), report.as_bytes());
         assert_eq!(rt; status.code(), 0);
     }
     Ok(())
@@ -100,18 +105,11 @@ fn two_records_are_filtered(rt: HostRuntime) -> Result<(), Fail> {
 #[test]
 fn a_sink_that_takes_a_byte_a_call_gets_the_whole_report(rt: HostRuntime) -> Result<(), Fail> {
     let alloc = rt.alloc();
-    let mut files = folder(alloc, SCRIPT.as_bytes(), LINES, &[])?;
-    let mut out = MemSink::new(alloc, 1000, 1)?;
-    let status = ksql(
-        &rt,
-        alloc,
-        &words(alloc, RUN)?,
-        &mut files,
-        &mut out,
-        &NoGate,
-    );
+    let files = folder(alloc, SCRIPT.as_bytes(), LINES, &[])?;
+    let sink = MemSink::new(alloc, 1000, 1)?;
+    let (status, written) = ended(&rt, alloc, RUN, files, sink)?;
     assert_eq!(rt; status, Status::Done);
-    assert_eq!(rt; out.written(), REPORT.as_bytes());
+    assert_eq!(rt; written.as_slice(), REPORT.as_bytes());
     Ok(())
 }
 
@@ -119,18 +117,11 @@ fn a_sink_that_takes_a_byte_a_call_gets_the_whole_report(rt: HostRuntime) -> Res
 fn a_sink_that_fails_has_the_front_of_the_report(rt: HostRuntime) -> Result<(), Fail> {
     let alloc = rt.alloc();
     for (room, front) in [(0, ""), (1, "o"), (10, "order 2\n1 ")] {
-        let mut files = folder(alloc, SCRIPT.as_bytes(), LINES, &[])?;
-        let mut out = MemSink::new(alloc, room, 1000)?;
-        let status = ksql(
-            &rt,
-            alloc,
-            &words(alloc, RUN)?,
-            &mut files,
-            &mut out,
-            &NoGate,
-        );
+        let files = folder(alloc, SCRIPT.as_bytes(), LINES, &[])?;
+        let sink = MemSink::new(alloc, room, 1000)?;
+        let (status, written) = ended(&rt, alloc, RUN, files, sink)?;
         assert_eq!(rt; status, Status::WriteFault);
-        assert_eq!(rt; out.written(), front.as_bytes());
+        assert_eq!(rt; written.as_slice(), front.as_bytes());
         assert_eq!(rt; status.code(), 7);
     }
     Ok(())
@@ -140,20 +131,13 @@ fn a_sink_that_fails_has_the_front_of_the_report(rt: HostRuntime) -> Result<(), 
 fn a_read_that_fails_is_named(rt: HostRuntime) -> Result<(), Fail> {
     let alloc = rt.alloc();
     for (number, wanted) in [(1, "f"), (2, "./s.jsonl")] {
-        let mut files = folder(alloc, SCRIPT.as_bytes(), LINES, &[number])?;
-        let mut out = MemSink::new(alloc, 1000, 1000)?;
-        let status = ksql(
-            &rt,
-            alloc,
-            &words(alloc, RUN)?,
-            &mut files,
-            &mut out,
-            &NoGate,
-        );
+        let files = folder(alloc, SCRIPT.as_bytes(), LINES, &[number])?;
+        let sink = MemSink::new(alloc, 1000, 1000)?;
+        let (status, written) = ended(&rt, alloc, RUN, files, sink)?;
         let name = chars(alloc, wanted)?;
         assert_eq!(rt; status, Status::ReadFault { name });
         assert_eq!(rt; status.code(), 6);
-        assert!(rt; out.written().is_empty());
+        assert!(rt; written.is_empty());
     }
     Ok(())
 }
@@ -180,18 +164,11 @@ fn words_of_another_shape_are_no_command(rt: HostRuntime) -> Result<(), Fail> {
         long_name.as_str(),
         long_program.as_str(),
     ] {
-        let mut files = folder(alloc, SCRIPT.as_bytes(), LINES, &[])?;
-        let mut out = MemSink::new(alloc, 1000, 1000)?;
-        let status = ksql(
-            &rt,
-            alloc,
-            &words(alloc, line)?,
-            &mut files,
-            &mut out,
-            &NoGate,
-        );
+        let files = folder(alloc, SCRIPT.as_bytes(), LINES, &[])?;
+        let sink = MemSink::new(alloc, 1000, 1000)?;
+        let (status, written) = ended(&rt, alloc, line, files, sink)?;
         assert_eq!(rt; status, Status::Usage);
-        assert!(rt; out.written().is_empty());
+        assert!(rt; written.is_empty());
         assert_eq!(rt; status.code(), 2);
     }
     Ok(())
@@ -199,10 +176,9 @@ fn words_of_another_shape_are_no_command(rt: HostRuntime) -> Result<(), Fail> {
 
 /// What the command answers on this script, where the topic file has two records.
 fn status_of<R>(rt: &R, alloc: Global, script: &[u8]) -> Result<Status, AllocError> {
-    let mut files = folder(alloc, script, LINES, &[])?;
-    let mut out = MemSink::new(alloc, 1000, 1000)?;
-    let words = words(alloc, RUN)?;
-    Ok(ksql(rt, alloc, &words, &mut files, &mut out, &NoGate))
+    let files = folder(alloc, script, LINES, &[])?;
+    let (status, _) = ended(rt, alloc, RUN, files, MemSink::new(alloc, 1000, 1000)?)?;
+    Ok(status)
 }
 
 fn refused(statement: u32, code: Code) -> Status {
@@ -212,17 +188,10 @@ fn refused(statement: u32, code: Code) -> Status {
 #[test]
 fn lines_of_another_form_are_refused(rt: HostRuntime) -> Result<(), Fail> {
     let alloc = rt.alloc();
-    let mut out = MemSink::new(alloc, 1000, 1000)?;
     let lines = "{\"k\":\"a\",\"v\":{\"N\":1}}\n";
-    let mut files = folder(alloc, SCRIPT.as_bytes(), lines, &[])?;
-    let status = ksql(
-        &rt,
-        alloc,
-        &words(alloc, RUN)?,
-        &mut files,
-        &mut out,
-        &NoGate,
-    );
+    let files = folder(alloc, SCRIPT.as_bytes(), lines, &[])?;
+    let sink = MemSink::new(alloc, 1000, 1000)?;
+    let (status, written) = ended(&rt, alloc, RUN, files, sink)?;
     let refused = Status::TopicFile {
         topic: chars(alloc, "s")?,
         line: 0,
@@ -230,7 +199,7 @@ fn lines_of_another_form_are_refused(rt: HostRuntime) -> Result<(), Fail> {
     };
     assert_eq!(rt; status, refused);
     assert_eq!(rt; status.code(), 4);
-    assert!(rt; out.written().is_empty());
+    assert!(rt; written.is_empty());
     Ok(())
 }
 
@@ -240,35 +209,29 @@ fn comments_stand_between_tokens(rt: HostRuntime) -> Result<(), Fail> {
     let script = "/* a stream; */ CREATE STREAM S -- of the topic 's
   (ID VARCHAR KEY, N INTEGER) WITH (KAFKA_TOPIC='s', VALUE_FORMAT='JSON', PARTITIONS=1);
 create stream BIG as select ID, N from S where N > /* ( */ 1;--";
-    let mut files = folder(alloc, script.as_bytes(), LINES, &[])?;
-    let mut out = MemSink::new(alloc, 1000, 1000)?;
-    let status = ksql(
-        &rt,
-        alloc,
-        &words(alloc, RUN)?,
-        &mut files,
-        &mut out,
-        &NoGate,
-    );
+    let files = folder(alloc, script.as_bytes(), LINES, &[])?;
+    let sink = MemSink::new(alloc, 1000, 1000)?;
+    let (status, written) = ended(&rt, alloc, RUN, files, sink)?;
     assert_eq!(rt; status, Status::Done);
-    assert_eq!(rt; out.written(), REPORT.as_bytes());
+    assert_eq!(rt; written.as_slice(), REPORT.as_bytes());
     Ok(())
 }
 
 #[test]
 fn a_script_is_refused_as_a_whole(rt: HostRuntime) -> Result<(), Fail> {
     let alloc = rt.alloc();
-    let mut script = Vec::from_slice(alloc, SCRIPT.as_bytes())?;
-    while script.len() < 1_048_576 {
-        script.push(b' ')?;
+    let blanks = " ".repeat(alloc, 1_048_576_usize.saturating_sub(SCRIPT.len()))?;
+    let longest = format!(in alloc; "{SCRIPT}{blanks}")?;
+    let longer = format!(in alloc; "{longest} ")?;
+    for (script, status, code) in [
+        (longest.as_str().as_bytes(), Status::Done, 0),
+        (longer.as_str().as_bytes(), refused(0, Code::TooLarge), 3),
+        (b"CREATE STREAM \xff", refused(0, Code::Syntax), 3),
+    ] {
+        let found = status_of(&rt, alloc, script)?;
+        assert_eq!(rt; found, status);
+        assert_eq!(rt; found.code(), code);
     }
-    assert_eq!(rt; status_of(&rt, alloc, script.as_slice())?, Status::Done);
-    script.push(b' ')?;
-    let too_large = status_of(&rt, alloc, script.as_slice())?;
-    assert_eq!(rt; too_large, refused(0, Code::TooLarge));
-    assert_eq!(rt; too_large.code(), 3);
-    let not_text = status_of(&rt, alloc, b"CREATE STREAM \xff")?;
-    assert_eq!(rt; not_text, refused(0, Code::Syntax));
     Ok(())
 }
 
@@ -317,6 +280,26 @@ fn another_form_is_not_supported(rt: HostRuntime) -> Result<(), Fail> {
     let alloc = rt.alloc();
     for script in ["", DECLARED, "CREATE STREAM X AS SELECT * FROM Q;"] {
         let status = status_of(&rt, alloc, script.as_bytes())?;
+        assert_eq!(rt; status, refused(0, Code::Unsupported));
+    }
+    Ok(())
+}
+
+#[test]
+fn the_largest_statements_are_read(rt: HostRuntime) -> Result<(), Fail> {
+    let alloc = rt.alloc();
+    let open = "(".repeat(alloc, 64)?;
+    let close = ")".repeat(alloc, 64)?;
+    let nested = format!(in alloc; "{open}1{close}")?;
+    for (repeated, times, last) in [
+        ("NOT ", 1990, "TRUE"),
+        ("- ", 1990, "1"),
+        ("1 + ", 995, "1"),
+        ("", 1, nested.as_str()),
+    ] {
+        let front = repeated.repeat(alloc, times)?;
+        let script = format!(in alloc; "CREATE STREAM X AS SELECT ID, {front}{last} FROM S;")?;
+        let status = status_of(&rt, alloc, script.as_str().as_bytes())?;
         assert_eq!(rt; status, refused(0, Code::Unsupported));
     }
     Ok(())

@@ -66,7 +66,7 @@ returns-clause-found c =
     let vs = c.in_ok-source.rest.now in
     a_join (words ts us c.in-Some.kind c.in-Some.ensures)
     (along (if_some (r.source us) (λ x. Spells (g.source x.0) us x.1) (c.in_ok-source.source, vs) (source_found us) c.in_ok-source.ensures)
-        (if_some (behind_key key.On vs) (λ ws. vs ≡ Key key.On ∷ ws) c.in_ok-rest.rest.now (key_found key.On vs) c.in_ok-rest.ensures))
+    (if_some (behind_key key.On vs) (λ ws. vs ≡ Key key.On ∷ ws) c.in_ok-rest.rest.now (key_found key.On vs) c.in_ok-rest.ensures))
     c.in_ok-on.ensures.found
 
 pub returns-clause-only : goal.returns-clause-only

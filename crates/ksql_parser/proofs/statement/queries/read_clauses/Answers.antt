@@ -10,9 +10,15 @@ use Rattle.ksql_parser.proofs.Selects.{clauses_begin, clauses_read}
 use Rattle.ksql_parser.proofs.statement.queries.read_clauses.Goals as goal
 
 pub returns-clause-found : goal.returns-clause-found
-returns-clause-found c =
-    (c.in_ok-filter.rest.now, c.in_ok-group.rest.now, c.in_ok-partition.rest.now,
-        c.in_ok-filter.ensures.found, c.in_ok-group.ensures.found, c.in_ok-partition.ensures.found, c.in_ok-having.ensures.found)
+returns-clause-found c = (
+  c.in_ok-filter.rest.now,
+  c.in_ok-group.rest.now,
+  c.in_ok-partition.rest.now,
+  c.in_ok-filter.ensures.found,
+  c.in_ok-group.ensures.found,
+  c.in_ok-partition.ensures.found,
+  c.in_ok-having.ensures.found,
+)
 
 pub returns-in_err-filter-clause-only : goal.returns-in_err-filter-clause-only
 returns-in_err-filter-clause-only c = λ x rest d b.

@@ -26,13 +26,17 @@ returns-clause-found c =
     let ts = c.args.symbols.now in
     let vs = c.in_ok-items.rest.now in
     let us = c.in_ok-rest-2.rest.now in
-    let ws = c.in_ok-join.rest.now in
-    (c.in_ok-rest.rest.now, us, c.in_ok-source.rest.now, ws,
-        if_some (behind_key key.Select ts) (λ us. ts ≡ Key key.Select ∷ us) c.in_ok-rest.rest.now (key_found key.Select ts) c.in_ok-rest.ensures,
-        along c.in_ok-items.ensures.found (if_some (behind_key key.From vs) (λ us. vs ≡ Key key.From ∷ us) us (key_found key.From vs) c.in_ok-rest-2.ensures),
-        if_some (r.source us) (λ x. Spells (g.source x.0) us x.1) (c.in_ok-source.source, c.in_ok-source.rest.now) (source_found us) c.in_ok-source.ensures,
-        c.in_ok-join.ensures.found,
-        if_some (r.windowed ws) (λ x. Spells (g.windowed x.0) ws x.1) (c.in_ok-window.window, c.in_ok-window.rest.now) (windowed_found ws) c.in_ok-window.ensures)
+    let ws = c.in_ok-join.rest.now in (
+      c.in_ok-rest.rest.now,
+      us,
+      c.in_ok-source.rest.now,
+      ws,
+      if_some (behind_key key.Select ts) (λ us. ts ≡ Key key.Select ∷ us) c.in_ok-rest.rest.now (key_found key.Select ts) c.in_ok-rest.ensures,
+      along c.in_ok-items.ensures.found (if_some (behind_key key.From vs) (λ us. vs ≡ Key key.From ∷ us) us (key_found key.From vs) c.in_ok-rest-2.ensures),
+      if_some (r.source us) (λ x. Spells (g.source x.0) us x.1) (c.in_ok-source.source, c.in_ok-source.rest.now) (source_found us) c.in_ok-source.ensures,
+      c.in_ok-join.ensures.found,
+      if_some (r.windowed ws) (λ x. Spells (g.windowed x.0) ws x.1) (c.in_ok-window.window, c.in_ok-window.rest.now) (windowed_found ws) c.in_ok-window.ensures,
+    )
 
 pub returns-in_err-rest-clause-only : goal.returns-in_err-rest-clause-only
 returns-in_err-rest-clause-only c = λ f rest d b.

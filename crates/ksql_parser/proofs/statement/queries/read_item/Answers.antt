@@ -60,7 +60,7 @@ returns-in_err-alias-clause-only c = λ i rest d b.
     let x = same_read (c.in_ok-expr.expr, c.in_ok-expr.rest) h.0 h.2 (c.in_ok-expr.ensures.only h.0 h.2 h.4 h.5) in
     let p = err_from_is_err_and c.from_residual-in_err-alias.result c.from_residual-in_err-alias.ensures.1 in
     rw (p.1, p.2) (failed_at (with_rest {A = Option (List ℕ)}) (with_rest {A = SelectItem}) c.in_err-alias.field-0.0 (r.alias c.in_ok-expr.rest.now) (h.1, rest) (i, rest)
-        (ap r.alias (sym x.1) ∙ h.6) c.in_err-alias.ensures)
+    (ap r.alias (sym x.1) ∙ h.6) c.in_err-alias.ensures)
 
 pub returns-clause-only : goal.returns-clause-only
 returns-clause-only c = λ i rest d b.

@@ -25,7 +25,7 @@ loop-items-init c =
     let ts = c.args.symbols.now in
     record {
       spelled = subst (λ xs. FrontSpelled xs ts ts) (sym c.new-items.ensures.items) (λ is us d. d);
-      only = subst (λ xs. FrontOnly xs ts ts) (sym c.new-items.ensures.items) (λ is rest d. (is, refl, d))
+      only = subst (λ xs. FrontOnly xs ts ts) (sym c.new-items.ensures.items) (λ is rest d. (is, refl, d));
     }
 
 pub loop-items-preserved : goal.loop-items-preserved
@@ -39,7 +39,7 @@ loop-items-preserved c =
     record {
       spelled = subst (λ xs. FrontSpelled xs vs whole) (sym c.in_ok-push.ensures.items) (spelled_more front c.in_ok-item.item ts vs whole c.loop-items.invariant.spelled (along c.in_ok-item.ensures.found comma));
       only = subst (λ xs. FrontOnly xs vs whole) (sym c.in_ok-push.ensures.items)
-      (only_more front c.in_ok-item.item ts vs whole c.loop-items.invariant.only (subst (OnlyItem ts c.in_ok-item.item) comma c.in_ok-item.ensures.only))
+          (only_more front c.in_ok-item.item ts vs whole c.loop-items.invariant.only (subst (OnlyItem ts c.in_ok-item.item) comma c.in_ok-item.ensures.only));
     }
 
 pub returns-in_err-item-clause-only : goal.returns-in_err-item-clause-only

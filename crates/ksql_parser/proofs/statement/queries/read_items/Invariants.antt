@@ -6,7 +6,7 @@ use Rattle.ksql_parser.proofs.statement.queries.read_items.Given as goal
 abbrev pub invariant-loop-items : goal.invariant-loop-items
 invariant-loop-items l = record {
   spelled : FrontSpelled l.items.items l.rest l.symbols;
-  only : FrontOnly l.items.items l.rest l.symbols
+  only : FrontOnly l.items.items l.rest l.symbols;
 }
 
 abbrev pub decreases-loop-items : goal.decreases-loop-items
