@@ -1,4 +1,3 @@
-pub mod Aggregates
 pub mod Operand
 pub mod Rules
 pub mod Typing

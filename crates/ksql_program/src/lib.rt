@@ -1,8 +1,0 @@
-//! A script as it is run: its relations and its queries.
-#![tactic(auto)]
-
-mod program;
-mod query;
-
-pub use program::{Item, Program, ProgramItems, relation_of};
-pub use query::{Agg, Aggs, From, JoinKind, Query, Shape, Window};
