@@ -1,4 +1,4 @@
 pub mod Causes
-pub mod LineLemmas
-pub mod Refusals
-pub mod ReportLemmas
+pub mod Pieces
+pub mod Sounds
+pub mod TopicLaws

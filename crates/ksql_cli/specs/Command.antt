@@ -1,32 +1,25 @@
 -- What a command reads, what it writes, and the cause of each way in which it ends.
-use Rattle.std.specs.Prelude.{◌≡◌, ◌⊎◌, ℕ, ◌<◌, ◌≤◌, length, nat_le, ◌&&◌, List, [], ◌∷◌, ◌++◌, codes, bytes_eq, Option, None, Some, if◌then◌else◌, slice_get, option_map, unwrap_or}
+use Rattle.std.specs.Prelude.{◌≡◌, ◌⊎◌, ℕ, ◌-◌, length, nat_le, ◌&&◌, List, [], ◌∷◌, ◌++◌, codes, bytes_eq, Option, None, Some, if◌then◌else◌}
 use Rattle.std.specs.List.{list_all, AllByRecursion}
-use Rattle.std.specs.Str.{IsUtf8}
-use Rattle.ksql_types.specs.Text.{longest_text}
 use Rattle.ksql_types.specs.declared.relation.Relation.{Relation}
 use Rattle.ksql_outside.specs.Outside.{read_bytes, JoinedLast}
-use Rattle.first_form.specs.declared.form.FirstForm.{FirstForm}
-use Rattle.first_form.specs.FirstForm.{IsFormOf}
-use Rattle.ksql_lexer.specs.declared.token.Token.{Token}
-use Rattle.ksql_lexer.specs.declared.token.TokenKind.{TokenKind}
-use Rattle.ksql_lexer.specs.Script.{AreTokens, BreaksIn, kinds}
-use Rattle.ksql_grammar.specs.declared.tree.Statement.{Statement}
-use Rattle.ksql_types.specs.declared.code.Code.{Code}
-use Rattle.ksql_types.specs.declared.code.Code.TheVariants.{Syntax, TooLarge, Unsupported}
-use Rattle.ksql_parser.specs.Script.{AreTrees, FirstRefused, statements}
-use Rattle.query_meaning.specs.declared.change.Fed.{Fed}
-use Rattle.query_meaning.specs.declared.change.TopicLines.{TopicLines}
-use Rattle.query_meaning.specs.declared.program.Item.{Item}
-use Rattle.query_meaning.specs.declared.program.Item.TheVariants.{Declared, Started}
-use Rattle.query_meaning.specs.declared.program.Program.{Program}
-use Rattle.query_meaning.specs.Order.{order_of}
+use Rattle.ksql_program.specs.declared.program.Item.{Item}
+use Rattle.ksql_program.specs.declared.program.Item.TheVariants.{Declared, Started}
+use Rattle.ksql_program.specs.declared.program.Program.{Program}
+use Rattle.ksql_script.specs.Script.{IsAccepted, IsRefused}
+use Rattle.topic_files.specs.declared.topic.Fed.{Fed}
+use Rattle.topic_files.specs.declared.topic.LineWhy.{LineWhy}
+use Rattle.topic_files.specs.declared.topic.Room.{Room}
+use Rattle.topic_files.specs.declared.topic.TopicLines.{TopicLines}
+use Rattle.topic_files.specs.File.{first_fault, topic_lines}
+use Rattle.topic_feeds.specs.Feeding.{order_of}
 use Rattle.query_meaning.specs.Meaning.{meaning}
+use Rattle.ksql_program.specs.Program.{relations}
+use Rattle.run_text.specs.Report.{sections, report}
 use Rattle.ksql_cli.specs.declared.status.Status.{Status}
 use Rattle.ksql_cli.specs.declared.status.Status.TheVariants as ended
-use Rattle.ksql_cli.specs.declared.status.LineWhy.TheVariants.{BadLine}
-use Rattle.ksql_cli.specs.FirstProgram.{program_of}
-use Rattle.ksql_cli.specs.Lines.{feds_of}
-use Rattle.ksql_cli.specs.Report.{relations_of, sections, report}
+
+-- ---- the words
 
 -- files, by their names
 abbrev pub Files : Type 0
@@ -48,42 +41,11 @@ script_name _ = None
 abbrev pub IsScriptRead : List (List ℕ) → Files → List ℕ → Type 0
 IsScriptRead words all script = (name : List ℕ) × (script_name words ≡ Some name) × (read_bytes name all ≡ Some script)
 
--- Tokens are refused: by the first statement that a rule refuses, or else because they are not of the first form.
-abbrev pub IsRefusedForm : List TokenKind → ℕ → Code → Type 0
-IsRefusedForm ts statement code =
-    FirstRefused (statements ts) statement code
-    ⊎ (((trees : List Statement) × AreTrees (statements ts) trees) × ((form : FirstForm) → IsFormOf ts form → ⊥)
-    × (statement ≡ 0) × (code ≡ Unsupported))
+-- the script that was read is accepted as this program
+abbrev pub IsProgramRead : List (List ℕ) → Files → Program → Type 0
+IsProgramRead words all program = (script : List ℕ) × IsScriptRead words all script × IsAccepted script program
 
--- A text is refused: at its first place where no token begins, or else as its tokens are.
-abbrev pub IsRefusedText : List ℕ → ℕ → Code → Type 0
-IsRefusedText text statement code =
-    (BreaksIn text statement × (code ≡ Syntax)) ⊎ ((ts : List Token) × AreTokens text ts × IsRefusedForm (kinds ts) statement code)
-
--- Bytes are refused as a whole where they aren't UTF-8, or else as the text that they are.
-abbrev pub IsRefusedBytes : List ℕ → ℕ → Code → Type 0
-IsRefusedBytes bytes statement code =
-    ((IsUtf8 bytes → ⊥) × (statement ≡ 0) × (code ≡ Syntax)) ⊎ (IsUtf8 bytes × IsRefusedText bytes statement code)
-
--- A script is refused as a whole where it is too long, or else as its bytes are: in this statement, by this code.
-abbrev pub IsRefused : List ℕ → ℕ → Code → Type 0
-IsRefused script statement code =
-    ((longest_text < length script) × (statement ≡ 0) × (code ≡ TooLarge))
-    ⊎ ((length script ≤ longest_text) × IsRefusedBytes script statement code)
-
--- no step refuses the script, and it is of this form
-pub record IsScriptOf (script : List ℕ) (form : FirstForm) : Type 0 where
-  pub short : length script ≤ longest_text
-  pub utf8 : IsUtf8 script
-  pub tokens : List Token
-  pub lexed : AreTokens script tokens
-  pub trees : List Statement
-  pub parsed : AreTrees (statements (kinds tokens)) trees
-  pub of_form : IsFormOf (kinds tokens) form
-
--- the script is accepted, and this is its program
-abbrev pub IsAccepted : List ℕ → Program → Type 0
-IsAccepted script program = (form : FirstForm) × IsScriptOf script form × (program ≡ program_of form)
+-- ---- the topic files
 
 -- the declared relations of a program, in their order
 abbrev pub declared_of : List Item → List Relation
@@ -95,42 +57,49 @@ declared_of (Started query ∷ items) = declared_of items
 abbrev pub topic_file : Relation → List ℕ
 topic_file relation = codes "./" ++ (relation.topic ++ codes ".jsonl")
 
--- the name of the relation's first value column
-abbrev pub first_value : Relation → List ℕ
-first_value relation = unwrap_or (option_map (λ column. column.name) (slice_get relation.schema.values 0)) []
+-- how many records and bytes the topic files can have, all together
+unfoldable pub whole_room : Room
+whole_room = record { records = 200000; bytes = 67108864 }
 
--- the relation's topic file is good, and these are its records
-abbrev pub IsFed : Files → Relation → List Fed → Type 0
-IsFed all relation feds = (file : List ℕ) × (read_bytes (topic_file relation) all ≡ Some file) × (feds_of (first_value relation) file ≡ Some feds)
+-- what a file leaves of the room for those behind it
+abbrev pub room_behind : Room → List ℕ → List Fed → Room
+room_behind room file feds = record { records = room.records - length feds; bytes = room.bytes - length file }
 
--- the relation's topic file has a line that isn't good, or passes a limit
-abbrev pub IsBadFile : Files → Relation → Type 0
-IsBadFile all relation = (file : List ℕ) × (read_bytes (topic_file relation) all ≡ Some file) × (feds_of (first_value relation) file ≡ None)
+-- this is the relation's topic file, and it has no fault within the room
+abbrev pub IsGood : Files → Room → Relation → List ℕ → Type 0
+IsGood all room relation file = (read_bytes (topic_file relation) all ≡ Some file) × (first_fault room file ≡ None)
 
--- the topic files of the relations are good, and these are their records: one file for each relation, in their order
-abbrev pub AreFed : Files → List Relation → List TopicLines → Type 0
-AreFed all [] files = files ≡ []
-AreFed all (relation ∷ relations) files =
-    (feds : List Fed) × (others : List TopicLines) × IsFed all relation feds × AreFed all relations others
-    × (files ≡ record { relation = relation.number; feds = feds } ∷ others)
+-- the room behind a relation's topic file
+abbrev pub behind : Room → Relation → List ℕ → Room
+behind room relation file = room_behind room file (topic_lines relation file).feds
 
--- this relation's topic file is the first that isn't good
-abbrev pub IsFirstBad : Files → List Relation → List ℕ → Type 0
-IsFirstBad all [] topic = ⊥
-IsFirstBad all (relation ∷ relations) topic =
-    (IsBadFile all relation × (topic ≡ relation.topic)) ⊎ (((feds : List Fed) × IsFed all relation feds) × IsFirstBad all relations topic)
+-- the topic files of the relations are good within a room that they share, and these are their records: one file for
+-- each relation, in their order
+abbrev pub AreFed : Files → Room → List Relation → List TopicLines → Type 0
+AreFed all room [] files = files ≡ []
+AreFed all room (relation ∷ relations) files =
+    (file : List ℕ) × (others : List TopicLines) × IsGood all room relation file
+    × AreFed all (behind room relation file) relations others × (files ≡ topic_lines relation file ∷ others)
+
+-- the first topic file that isn't good is that of this topic, with this first fault
+abbrev pub IsFirstBad : Files → Room → List Relation → List ℕ → ℕ → LineWhy → Type 0
+IsFirstBad all room [] topic line why = ⊥
+IsFirstBad all room (relation ∷ relations) topic line why =
+    (file : List ℕ) × (read_bytes (topic_file relation) all ≡ Some file)
+    × (((first_fault room file ≡ Some (line, why)) × (topic ≡ relation.topic))
+    ⊎ ((first_fault room file ≡ None) × IsFirstBad all (behind room relation file) relations topic line why))
 
 -- the topic files before the one of this name are good
-abbrev pub IsTopicDue : Files → List Relation → List ℕ → Type 0
-IsTopicDue all [] name = ⊥
-IsTopicDue all (relation ∷ relations) name =
-    (name ≡ topic_file relation) ⊎ (((feds : List Fed) × IsFed all relation feds) × IsTopicDue all relations name)
+abbrev pub IsTopicDue : Files → Room → List Relation → List ℕ → Type 0
+IsTopicDue all room [] name = ⊥
+IsTopicDue all room (relation ∷ relations) name =
+    (name ≡ topic_file relation) ⊎ ((file : List ℕ) × IsGood all room relation file × IsTopicDue all (behind room relation file) relations name)
+
+-- ---- what is due
 
 -- this topic file is due: the script is accepted, and the topic files before it are good
 abbrev pub IsFileDue : List (List ℕ) → Files → List ℕ → Type 0
-IsFileDue words all name =
-    (script : List ℕ) × (program : Program) × IsScriptRead words all script × IsAccepted script program
-    × IsTopicDue all (declared_of program.items) name
+IsFileDue words all name = (program : Program) × IsProgramRead words all program × IsTopicDue all whole_room (declared_of program.items) name
 
 -- a file of this name is due: the script, or a topic file
 abbrev pub IsDue : List (List ℕ) → Files → List ℕ → Type 0
@@ -140,16 +109,19 @@ IsDue words all name = (script_name words ≡ Some name) ⊎ IsFileDue words all
 abbrev pub AreDue : List (List ℕ) → Files → List (List ℕ) → List (List ℕ) → Type 0
 AreDue words all old new = (names : List (List ℕ)) × (new ≡ old ++ names) × AllByRecursion (IsDue words all) names
 
+-- ---- what is run
+
 -- the command runs this program on these files
 abbrev pub Runs : List (List ℕ) → Files → Program → List TopicLines → Type 0
-Runs words all program files =
-    (script : List ℕ) × IsScriptRead words all script × IsAccepted script program × AreFed all (declared_of program.items) files
+Runs words all program files = IsProgramRead words all program × AreFed all whole_room (declared_of program.items) files
 
 -- the report of a program on its files, all in one feed: the meaning of the program on their records
 abbrev pub report_of : Program → List TopicLines → List ℕ
 report_of program files =
-    let order = order_of files in
-    report (relations_of program.items) order (sections 1 program.items order (meaning program.items order))
+    let order = order_of (declared_of program.items) files in
+    report (relations program.items) order (sections 1 program.items order (meaning program.items order))
+
+-- ---- the causes
 
 -- the cause of a status, with the names that failed before and after
 abbrev pub HasCause : List (List ℕ) → Files → List (List ℕ) → List (List ℕ) → Status → Type 0
@@ -158,8 +130,7 @@ HasCause words all old new ended.Usage = script_name words ≡ None
 HasCause words all old new (ended.Script statement code) =
     (script : List ℕ) × IsScriptRead words all script × IsRefused script statement code
 HasCause words all old new (ended.TopicFile topic line why) =
-    (line ≡ 0) × (why ≡ BadLine)
-    × ((script : List ℕ) × (program : Program) × IsScriptRead words all script × IsAccepted script program × IsFirstBad all (declared_of program.items) topic)
+    (program : Program) × IsProgramRead words all program × IsFirstBad all whole_room (declared_of program.items) topic line why
 HasCause words all old new (ended.ReadFault name) =
     ((script_name words ≡ Some name) × (new ≡ old ++ name ∷ [])) ⊎ (IsFileDue words all name × JoinedLast old new name)
 HasCause words all old new ended.WriteFault = (program : Program) × (files : List TopicLines) × Runs words all program files
@@ -173,7 +144,7 @@ IsDecided (ended.Script statement code) = Unit {0}
 IsDecided (ended.TopicFile topic line why) = Unit {0}
 IsDecided _ = ⊥
 
--- a status under which nothing is written
+-- a status under which the command's text isn't written
 abbrev pub IsRefusal : Status → Type 0
 IsRefusal ended.Done = ⊥
 IsRefusal ended.WriteFault = ⊥

@@ -1,7 +1,4 @@
 pub mod Command
-pub mod FirstProgram
-pub mod Lines
-pub mod Printed
-pub mod Report
+pub mod Fault
 pub mod Status
 pub mod Steps

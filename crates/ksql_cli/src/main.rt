@@ -1,18 +1,15 @@
 //! The program `ksql`: persistent ksqlDB queries over topic files.
 #![tactic(auto)]
 
-mod lines;
-mod printed;
-mod program;
-mod report;
+mod fault;
 mod run;
-mod script;
 mod status;
+mod topics;
 
 use ksql_outside::{DirFolder, NoGate, StdSink};
 use ksql_types::{Items, Word, Words};
 pub use run::ksql;
-pub use status::{LineWhy, Status};
+pub use status::Status;
 use std::env;
 use std::io::ErrorKind;
 use std::process::ExitCode;

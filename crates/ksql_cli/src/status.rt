@@ -2,6 +2,7 @@ ghost use Rattle.std.specs.Prelude.{◌≡◌};
 ghost use Rattle.ksql_cli.specs.Status.{exit_code};
 
 use ksql_types::{Chars, Code};
+use topic_files::LineWhy;
 
 /// How a command ended.
 #[derive(Debug, PartialEq, Eq, Drop)]
@@ -15,7 +16,7 @@ pub enum Status {
         statement: u32,
         code: Code,
     },
-    /// A topic file was refused: at this line, counted from 1 (0 is the file as a whole), for this reason.
+    /// A topic file was refused: at this line, counted from 1, for this reason.
     TopicFile {
         topic: Chars,
         line: u32,
@@ -29,13 +30,6 @@ pub enum Status {
     WriteFault,
     /// Want of memory.
     OutOfMemory,
-}
-
-/// Why a line of a topic file is refused.
-#[derive(Clone, Copy, Debug, PartialEq, Eq)]
-pub enum LineWhy {
-    BadLine,
-    TooLarge,
 }
 
 impl Status {

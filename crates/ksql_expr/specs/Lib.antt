@@ -1,3 +1,4 @@
+pub mod Aggregates
 pub mod Operand
 pub mod Rules
 pub mod Typing

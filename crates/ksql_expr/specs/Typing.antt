@@ -1,4 +1,5 @@
--- The type of an expression: one rule for each form. The columns of the row have the types cs.
+-- The type of an expression: one rule for each form. The columns of the row have the types cs; None is the type of NULL
+-- alone, which an aggregate can have.
 use Rattle.std.specs.Prelude.{◌≡◌, ℕ, Bool, IsTrue, List, [], ◌∷◌, ◌++◌, map, Option, Some, None, option_map, slice_get}
 use Rattle.ksql_types.specs.declared.operator.BinaryOp.{BinaryOp}
 use Rattle.ksql_types.specs.declared.value.SqlType.{SqlType}
@@ -35,41 +36,41 @@ pub data Part : Type 0 where
   each : List Typed → Part
   whens : List TypedWhen → Part
 
-pub data HasTypes : List SqlType → Part → Type 0 where
-  literal : {cs : List SqlType} {x : Value} → HasTypes cs (one (of (type_of x) (n.Literal x)))
-  column : {cs : List SqlType} {i : ℕ} {t : SqlType} → slice_get cs i ≡ Some t → HasTypes cs (one (of (Some t) (n.Column i)))
-  row_time : {cs : List SqlType} → HasTypes cs (one (of (Some sql.Big) n.RowTime))
-  sign : {cs : List SqlType} {minus : Bool} {a : Typed} {t : SqlType} → HasTypes cs (one a)
+pub data HasTypes : List (Option SqlType) → Part → Type 0 where
+  literal : {cs : List (Option SqlType)} {x : Value} → HasTypes cs (one (of (type_of x) (n.Literal x)))
+  column : {cs : List (Option SqlType)} {i : ℕ} {t : Option SqlType} → slice_get cs i ≡ Some t → HasTypes cs (one (of t (n.Column i)))
+  row_time : {cs : List (Option SqlType)} → HasTypes cs (one (of (Some sql.Big) n.RowTime))
+  sign : {cs : List (Option SqlType)} {minus : Bool} {a : Typed} {t : SqlType} → HasTypes cs (one a)
       → sign_type a.ty ≡ Some t → HasTypes cs (one (of (Some t) (n.Sign minus a)))
-  binary : {cs : List SqlType} {o : BinaryOp} {a b : Typed} {t : SqlType} → HasTypes cs (one a) → HasTypes cs (one b)
+  binary : {cs : List (Option SqlType)} {o : BinaryOp} {a b : Typed} {t : SqlType} → HasTypes cs (one a) → HasTypes cs (one b)
       → binary_type o a.ty b.ty ≡ Some t → HasTypes cs (one (of (Some t) (n.Binary o a b)))
-  not : {cs : List SqlType} {a : Typed} → HasTypes cs (one a) → IsTrue (fits sql.Bool a.ty) → HasTypes cs (one (truth (n.Not a)))
-  is_null : {cs : List SqlType} {negated : Bool} {a : Typed} → HasTypes cs (one a) → HasTypes cs (one (truth (n.IsNull negated a)))
-  between : {cs : List SqlType} {negated : Bool} {a low high : Typed}
+  not : {cs : List (Option SqlType)} {a : Typed} → HasTypes cs (one a) → IsTrue (fits sql.Bool a.ty) → HasTypes cs (one (truth (n.Not a)))
+  is_null : {cs : List (Option SqlType)} {negated : Bool} {a : Typed} → HasTypes cs (one a) → HasTypes cs (one (truth (n.IsNull negated a)))
+  between : {cs : List (Option SqlType)} {negated : Bool} {a low high : Typed}
       → HasTypes cs (one a) → HasTypes cs (one low) → HasTypes cs (one high)
       → IsTrue (is_between_typed a.ty low.ty high.ty) → HasTypes cs (one (truth (n.Between negated a low high)))
-  one_of : {cs : List SqlType} {negated : Bool} {a : Typed} {es : List Typed} → HasTypes cs (one a) → HasTypes cs (each es)
+  one_of : {cs : List (Option SqlType)} {negated : Bool} {a : Typed} {es : List Typed} → HasTypes cs (one a) → HasTypes cs (each es)
       → IsTrue (is_in_typed a.ty (types es)) → HasTypes cs (one (truth (n.OneOf negated a es)))
-  like : {cs : List SqlType} {negated : Bool} {a : Typed} {pattern : List ℕ} → HasTypes cs (one a)
+  like : {cs : List (Option SqlType)} {negated : Bool} {a : Typed} {pattern : List ℕ} → HasTypes cs (one a)
       → IsTrue (fits sql.Text a.ty) → HasTypes cs (one (truth (n.Like negated a pattern)))
-  cast : {cs : List SqlType} {a : Typed} {to : SqlType} → HasTypes cs (one a)
+  cast : {cs : List (Option SqlType)} {a : Typed} {to : SqlType} → HasTypes cs (one a)
       → IsTrue (can_cast a.ty to) → HasTypes cs (one (of (Some to) (n.Cast a to)))
-  case : {cs : List SqlType} {operand otherwise : Option Typed} {ws : List TypedWhen} {t : Option SqlType}
+  case : {cs : List (Option SqlType)} {operand otherwise : Option Typed} {ws : List TypedWhen} {t : Option SqlType}
       → HasTypes cs (perhaps operand) → HasTypes cs (whens ws) → HasTypes cs (perhaps otherwise)
       → case_type (option_map (λ e. e.ty) operand) (map (λ w. w.cond.ty) ws) (types (results ws otherwise)) ≡ Some t
       → HasTypes cs (one (of t (n.Case operand ws otherwise)))
-  call : {cs : List SqlType} {f : Fun} {es : List Typed} {t : Option SqlType} → HasTypes cs (each es)
+  call : {cs : List (Option SqlType)} {f : Fun} {es : List Typed} {t : Option SqlType} → HasTypes cs (each es)
       → fun_type f (types es) ≡ Some t → HasTypes cs (one (of t (n.Call f es)))
-  aggregate : {cs : List SqlType} {f : AggFun} {a : Option Typed} {t : Option SqlType} → HasTypes cs (perhaps a)
+  aggregate : {cs : List (Option SqlType)} {f : AggFun} {a : Option Typed} {t : Option SqlType} → HasTypes cs (perhaps a)
       → agg_type f (option_map (λ e. e.ty) a) ≡ Some t → HasTypes cs (one (of t (n.Aggregate f a)))
-  left_out : {cs : List SqlType} → HasTypes cs (perhaps None)
-  there : {cs : List SqlType} {a : Typed} → HasTypes cs (one a) → HasTypes cs (perhaps (Some a))
-  none : {cs : List SqlType} → HasTypes cs (each [])
-  more : {cs : List SqlType} {a : Typed} {es : List Typed} → HasTypes cs (one a) → HasTypes cs (each es) → HasTypes cs (each (a ∷ es))
-  no_when : {cs : List SqlType} → HasTypes cs (whens [])
-  more_whens : {cs : List SqlType} {w : TypedWhen} {ws : List TypedWhen} → HasTypes cs (one w.cond) → HasTypes cs (one w.result)
+  left_out : {cs : List (Option SqlType)} → HasTypes cs (perhaps None)
+  there : {cs : List (Option SqlType)} {a : Typed} → HasTypes cs (one a) → HasTypes cs (perhaps (Some a))
+  none : {cs : List (Option SqlType)} → HasTypes cs (each [])
+  more : {cs : List (Option SqlType)} {a : Typed} {es : List Typed} → HasTypes cs (one a) → HasTypes cs (each es) → HasTypes cs (each (a ∷ es))
+  no_when : {cs : List (Option SqlType)} → HasTypes cs (whens [])
+  more_whens : {cs : List (Option SqlType)} {w : TypedWhen} {ws : List TypedWhen} → HasTypes cs (one w.cond) → HasTypes cs (one w.result)
       → HasTypes cs (whens ws) → HasTypes cs (whens (w ∷ ws))
 
 -- an expression and its parts have their types
-abbrev pub IsTyped : List SqlType → Typed → Type 0
+abbrev pub IsTyped : List (Option SqlType) → Typed → Type 0
 IsTyped cs e = HasTypes cs (one e)

@@ -1,12 +1,12 @@
 ghost use Rattle.std.specs.Prelude.{◌≡◌};
 ghost use Rattle.std.specs.List.{list_all};
-ghost use Rattle.ksql_expr.specs.Rules.{same_type, fits, is_number, given, wider, are_ordered, are_comparable, binary_type, sign_type, can_cast, joint_of, joint, joint_type, typed, fun_type, agg_type, can_be_when, case_type};
+ghost use Rattle.ksql_expr.specs.Rules.{same_type, fits, is_number, given, wider, are_ordered, are_comparable, binary_type, sign_type, can_cast, joint_of, joint, joint_type, typed, fun_type, agg_type, can_be_when, case_type, is_between_typed, is_in_typed};
 
 use crate::typed::{AggFun, Fun};
 use ksql_types::{BinaryOp, SqlType};
 
 /// Whether two types are one.
-fn is_same(left: SqlType, right: SqlType) -> bool
+pub fn same_type(left: SqlType, right: SqlType) -> bool
     ensures { result ≡ same_type left right }
 {
     matches!(
@@ -24,7 +24,7 @@ pub fn fits(wanted: SqlType, ty: Option<SqlType>) -> bool
 {
     match ty {
         None => true,
-        Some(found) => is_same(wanted, found),
+        Some(found) => same_type(wanted, found),
     }
 }
 
@@ -128,7 +128,7 @@ fn joint_of(left: SqlType, right: SqlType) -> Option<SqlType>
 }
 
 /// The same where a result may have only the type of NULL.
-fn joint(left: Option<SqlType>, right: Option<SqlType>) -> Option<Option<SqlType>>
+pub fn joint(left: Option<SqlType>, right: Option<SqlType>) -> Option<Option<SqlType>>
     ensures { result ≡ joint left right }
 {
     match (left, right) {
@@ -202,7 +202,7 @@ pub fn agg_type(fun: AggFun, arg: Option<Option<SqlType>>) -> Option<Option<SqlT
 }
 
 /// Whether a condition can stand in a WHEN: a truth value, or what can be compared with the operand.
-fn can_be_when(operand: Option<Option<SqlType>>, cond: Option<SqlType>) -> bool
+pub fn can_be_when(operand: Option<Option<SqlType>>, cond: Option<SqlType>) -> bool
     ensures { result ≡ can_be_when operand cond }
 {
     match operand {
@@ -231,4 +231,18 @@ pub fn case_type(
     } else {
         None
     }
+}
+
+/// Whether BETWEEN can stand between operands of these types.
+pub fn is_between_typed(ty: Option<SqlType>, low: Option<SqlType>, high: Option<SqlType>) -> bool
+    ensures { result ≡ is_between_typed ty low high }
+{
+    are_ordered(ty, low) && are_ordered(ty, high)
+}
+
+/// Whether an operand of a type can be looked for among choices of these types.
+pub fn is_in_typed(ty: Option<SqlType>, choices: &[Option<SqlType>]) -> bool
+    ensures { result ≡ is_in_typed ty choices.now }
+{
+    choices.iter().all(|choice| are_comparable(ty, *choice))
 }

@@ -1,20 +1,23 @@
 -- A node that looks at nothing before an entry gives the results entry by entry.
-use Rattle.std.proofs.Common.{◌≡◌, ◌∙◌, ap, refl, ℕ, List, [], ◌∷◌, ◌++◌, map, Bool, true, false, cond}
+use Rattle.std.proofs.Common.{◌≡◌, ◌∙◌, ap, ap₂, refl, ℕ, List, [], ◌∷◌, ◌++◌, map, Bool, true, false, cond}
 use Rattle.std.specs.Prelude.{filter, ◌==◌, if◌then◌else◌, Option, Some, None}
 use Rattle.std.specs.List.{flat_map}
 use Rattle.std.proofs.lemmas.List.Folds.{flat_map-map}
 use Rattle.ksql_types.specs.declared.relation.Relation.{Relation}
-use Rattle.query_meaning.specs.declared.change.Change.{Change}
-use Rattle.query_meaning.specs.declared.change.SourceRecord.{SourceRecord}
-use Rattle.query_meaning.specs.declared.expression.Typed.{Typed}
-use Rattle.query_meaning.specs.declared.program.Item.{Item}
-use Rattle.query_meaning.specs.declared.program.Query.{Query}
-use Rattle.query_meaning.specs.declared.program.From.{From}
-use Rattle.query_meaning.specs.declared.program.From.TheVariants.{One}
-use Rattle.query_meaning.specs.declared.program.Shape.{Shape}
-use Rattle.query_meaning.specs.declared.program.Shape.TheVariants.{Plain}
-use Rattle.query_meaning.specs.Expression.{value_of}
-use Rattle.query_meaning.specs.Meaning.{results, stream_gives, records_of, declared_changes, Entry, node_meaning, where_gives, select_gives, with_key_cells, is_true_value, row_of, key_columns, changes_at, read_changes, filtered, shaped, query_changes}
+use Rattle.ksql_place.specs.declared.change.Change.{Change}
+use Rattle.ksql_place.specs.declared.change.SourceRecord.{SourceRecord}
+use Rattle.ksql_expr.specs.declared.typed.Typed.{Typed}
+use Rattle.ksql_expr.specs.Value.{value_of, is_true_value}
+use Rattle.ksql_program.specs.declared.program.Item.{Item}
+use Rattle.ksql_program.specs.declared.query.Query.{Query}
+use Rattle.ksql_program.specs.declared.query.Agg.{Agg}
+use Rattle.ksql_program.specs.declared.query.From.{From}
+use Rattle.ksql_program.specs.declared.query.From.TheVariants.{One, Join}
+use Rattle.ksql_program.specs.declared.query.JoinKind.{JoinKind}
+use Rattle.ksql_program.specs.declared.query.Shape.{Shape}
+use Rattle.ksql_program.specs.declared.query.Shape.TheVariants.{Plain, Group}
+use Rattle.ksql_program.specs.declared.query.Window.{Window}
+use Rattle.query_meaning.specs.Meaning.{results, stream_gives, records_of, declared_changes, Entry, node_meaning, where_gives, select_gives, with_key_cells, row_of, key_columns, changes_at, read_changes, filtered, shaped, query_changes}
 use Rattle.query_meaning.specs.Steps.{declared_gives, query_gives}
 
 results-each : {A B : Type 0} (f : A → List B) (before es : List A) → results (λ _ e. f e) before es ≡ flat_map f es
@@ -49,23 +52,42 @@ flat_map-kept w p f (x ∷ xs) =
     elim (p (w x)) as (λ b. flat_map f ((if b then w x ∷ [] else []) ++ kept xs) ≡ (if b then f (w x) else []) ++ given xs)
     [ true ↦ ap (λ rest. f (w x) ++ rest) (flat_map-kept w p f xs) | false ↦ flat_map-kept w p f xs ]
 
--- a query's shape and filter, on changes with their key cells
-query-each : (filter : Option Typed) (shape : Shape) (columns : ℕ) (changes : List Change) →
-    shaped shape (filtered filter (map (with_key_cells columns) changes)) ≡ flat_map (query_gives filter shape columns) changes
-query-each None (Plain keys values) columns changes =
+-- a query's select list and filter, on changes with their key cells
+query-each : (filter : Option Typed) (keys values : List Typed) (columns : ℕ) (changes : List Change) →
+    shaped (Plain keys values) (filtered filter (map (with_key_cells columns) changes)) ≡ flat_map (query_gives columns filter keys values) changes
+query-each None keys values columns changes =
     let select : Change → List Change = λ c. select_gives keys values [] (record { side = 0; change = c }) in
     node_meaning-each select (map (with_key_cells columns) changes) ∙ flat_map-map select (with_key_cells columns) changes
-query-each (Some on) (Plain keys values) columns changes =
+query-each (Some on) keys values columns changes =
     let select : Change → List Change = λ c. select_gives keys values [] (record { side = 0; change = c }) in
     let kept : Change → List Change = λ c. where_gives on [] (record { side = 0; change = c }) in
     node_meaning-each select (node_meaning (where_gives on) (map (with_key_cells columns) changes))
     ∙ ap (flat_map select) (node_meaning-each kept (map (with_key_cells columns) changes) ∙ flat_map-map kept (with_key_cells columns) changes)
-    ∙ flat_map-kept (with_key_cells columns) (λ c. is_true_value (value_of (row_of c) on)) select changes
+    ∙ flat_map-kept (with_key_cells columns) (λ c. is_true_value (value_of (row_of c) c.time on)) select changes
 
--- a query gives its results change by change
-pub query_changes-each : (items : List Item) (lists : List (List Change)) (query : Query) (number : ℕ) → query.from ≡ One number →
-    query_changes items lists query ≡ flat_map (query_gives query.filter query.shape (key_columns items number)) (changes_at lists number)
+-- a query over one stream without a grouping gives its results change by change
+pub query_changes-each : (items : List Item) (lists : List (List Change)) (query : Query) (number : ℕ) (keys values : List Typed) →
+    query.from ≡ One number → query.shape ≡ Plain keys values →
+    query_changes items lists query ≡ flat_map (query_gives (key_columns items number) query.filter keys values) (changes_at lists number)
 unfolding query_changes
-query_changes-each items lists query number from =
-    ap (λ (f : From). shaped query.shape (filtered query.filter (read_changes items lists f))) from
-    ∙ query-each query.filter query.shape (key_columns items number) (changes_at lists number)
+query_changes-each items lists query number keys values from shape =
+    ap₂ (λ (s : Shape) (f : From). shaped s (filtered query.filter (read_changes items lists f))) shape from
+    ∙ query-each query.filter keys values (key_columns items number) (changes_at lists number)
+
+-- what has no meaning yet gives nothing
+shaped-none : (shape : Shape) (filter : Option Typed) → shaped shape (filtered filter []) ≡ []
+shaped-none (Plain keys values) None = refl
+shaped-none (Plain keys values) (Some on) = refl
+shaped-none (Group keys window aggs having values) filter = refl
+
+pub query_changes-Join : (items : List Item) (lists : List (List Change)) (query : Query) (kind : JoinKind) (left right : ℕ) (on : Typed) →
+    query.from ≡ Join kind left right on → query_changes items lists query ≡ []
+unfolding query_changes
+query_changes-Join items lists query kind left right on from =
+    ap (λ (f : From). shaped query.shape (filtered query.filter (read_changes items lists f))) from ∙ shaped-none query.shape query.filter
+
+pub query_changes-Group : (items : List Item) (lists : List (List Change)) (query : Query) (keys : List Typed) (window : Option Window) (aggs : List Agg)
+    (having : Option Typed) (values : List Typed) → query.shape ≡ Group keys window aggs having values → query_changes items lists query ≡ []
+unfolding query_changes
+query_changes-Group items lists query keys window aggs having values shape =
+    ap (λ (s : Shape). shaped s (filtered query.filter (read_changes items lists query.from))) shape

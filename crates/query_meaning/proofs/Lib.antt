@@ -1,3 +1,1 @@
 pub mod ByEntry
-pub mod OrderLemmas
-pub mod Values

@@ -1,4 +1,3 @@
-pub mod Expression
-pub mod Order
+pub mod Built
 pub mod Meaning
 pub mod Steps

@@ -1,25 +1,37 @@
-ghost use Rattle.std.specs.Prelude.{◌≡◌, ◌++◌, replicate, IfOk, OnOk};
+ghost use Rattle.std.specs.Prelude.{◌≡◌, ◌<◌, ◌≤◌, ◌++◌, map, replicate, IfOk, OnOk};
 ghost use Rattle.std.specs.List.{flat_map};
 ghost use Rattle.ksql_types.specs.declared.value.Value.TheVariants.{Null};
-ghost use Rattle.query_meaning.specs.Meaning.{changes_at, declared_changes, is_true_value, item_changes, key_columns, key_of, meaning, query_changes, relation_of, values_of};
+ghost use Rattle.ksql_expr.specs.Value.{is_true_value, value_of};
+ghost use Rattle.query_meaning.specs.Built.{AreBuilt};
+ghost use Rattle.query_meaning.specs.Meaning.{changes_at, declared_changes, item_changes, key_columns, key_of, meaning, partition_of, query_changes};
 ghost use Rattle.query_meaning.specs.Steps.{declared_gives, passes, query_gives, selected, whole_row};
 
-use crate::change::{Body, Change, Changes, Decoded, Place, SourceRecord};
-use crate::expression::{Typed, eval};
-use crate::program::{From, Item, Program, Query, Shape};
-use ksql_types::{CopyOf, Items, Key, Relation, Value};
+use ksql_expr::{Typed, eval};
+use ksql_place::{Body, Change, Changes, Decoded, Place, SourceRecord};
+use ksql_program::{From, Item, Program, Query, Shape, relation_of};
+use ksql_types::{CopyOf, Items, Key, Relation, Value, lane};
 use std::alloc::{AllocError, Global};
 
 /// One list of changes for each relation of a program, in the order of its items.
 pub type Lists = Items<Changes>;
 
-/// The meaning of a program on the records that were fed, by going through them once for each relation. The only error
-/// is want of memory.
+/// A query over one stream without a grouping: how many key columns the stream has, WHERE, and the select list.
+#[derive(Drop)]
+struct Plain<'a> {
+    columns: usize,
+    filter: &'a Option<Typed>,
+    keys: &'a [Typed],
+    values: &'a [Typed],
+}
+
+/// The meaning of a program on the records that were fed, by going through them once for each declared relation, and
+/// through the changes of its source once for each query. The only error is want of memory.
 pub fn slow_meaning(
     alloc: Global,
     program: &Program,
     order: &[SourceRecord],
 ) -> Result<Lists, AllocError>
+    requires built { AreBuilt program.now.items }
     ensures { IfOk result (λ lists. lists ≡ meaning program.now.items order.now) }
 {
     let mut lists = Vec::new(alloc);
@@ -28,6 +40,17 @@ pub fn slow_meaning(
         lists.push(Items::of(changes))?;
     }
     Ok(Items::of(lists))
+}
+
+/// The partition of a relation's topic in which a change stands: the lane of its key among the relation's partitions,
+/// which are 1 to 64, and of no key that of its record. Takes no memory.
+pub fn partition_of(relation: &Relation, change: &Change) -> u32
+    requires some { 1 ≤ relation.now.partitions }
+    requires few { relation.now.partitions ≤ 64 }
+    ensures value { result ≡ partition_of relation.now change.now }
+    ensures within { result < relation.now.partitions }
+{
+    lane(&change.key, relation.partitions, change.place.stamp.part)
 }
 
 /// The changes of an item, from those of the items before it.
@@ -55,8 +78,8 @@ fn declared_changes(
     ensures { IfOk result (λ changes. changes.items ≡ declared_changes relation.now order.now) }
 {
     let mut changes = Vec::new(alloc);
-    for record in order {
-        push_declared(alloc, &mut changes, relation, record)?;
+    for fed in order {
+        push_declared(alloc, &mut changes, relation, fed)?;
     }
     Ok(changes)
 }
@@ -66,22 +89,22 @@ fn push_declared(
     alloc: Global,
     changes: &mut Vec<Change>,
     relation: &Relation,
-    record: &SourceRecord,
+    fed: &SourceRecord,
 ) -> Result<(), AllocError>
-    ensures { OnOk result (changes.new.items ≡ changes.old.items ++ declared_gives relation.now record.now) }
+    ensures { OnOk result (changes.new.items ≡ changes.old.items ++ declared_gives relation.now fed.now) }
 {
-    if record.stamp.topic != relation.number {
+    if fed.stamp.topic != relation.number {
         return Ok(());
     }
-    match &record.value {
+    match &fed.value {
         Decoded::Good(row) => {
             let change = Change {
                 place: Place {
-                    stamp: record.stamp,
+                    stamp: fed.stamp,
                     path: Items::of(Vec::new(alloc)),
                 },
-                time: record.time,
-                key: record.key.copy(alloc)?,
+                time: fed.time,
+                key: fed.key.copy(alloc)?,
                 span: None,
                 body: Body::Said(row.copy(alloc)?),
             };
@@ -92,7 +115,8 @@ fn push_declared(
     }
 }
 
-/// The changes of a query's result, from those of the relations before it.
+/// The changes of a query's result, from those of the relations before it; none of a join and of a grouping, which have
+/// no meaning yet.
 fn query_changes(
     alloc: Global,
     program: &Program,
@@ -101,32 +125,29 @@ fn query_changes(
 ) -> Result<Vec<Change>, AllocError>
     ensures { IfOk result (λ changes. changes.items ≡ query_changes program.now.items lists.now query.now) }
 {
-    let relation = source_of(&query.from);
-    let columns = key_columns(program, relation);
-    results_of(alloc, query, columns, changes_at(lists, relation))
+    let From::One { relation } = &query.from else {
+        return Ok(Vec::new(alloc));
+    };
+    let Shape::Plain { keys, values } = &query.shape else {
+        return Ok(Vec::new(alloc));
+    };
+    let plain = Plain {
+        columns: key_columns(program, *relation),
+        filter: &query.filter,
+        keys: keys.items(),
+        values: values.items(),
+    };
+    results_of(alloc, &plain, changes_at(lists, *relation))
 }
 
-/// The number of the relation that a query reads.
-fn source_of(from: &From) -> u32
-    ensures { from.now ≡ From.One result }
-{
-    match from {
-        From::One { relation } => *relation,
-    }
-}
-
-/// What the changes of a query's source, which have so many key columns, give to its result.
-fn results_of(
-    alloc: Global,
-    query: &Query,
-    columns: usize,
-    source: &[Change],
-) -> Result<Vec<Change>, AllocError>
-    ensures { IfOk result (λ changes. changes.items ≡ flat_map (query_gives query.now.filter query.now.shape columns) source.now) }
+/// What the changes of a query's source give to its result.
+fn results_of(alloc: Global, plain: &Plain, source: &[Change]) -> Result<Vec<Change>, AllocError>
+    ensures { IfOk result (λ changes. changes.items ≡ flat_map (query_gives plain.now.columns plain.now.filter.now plain.now.keys.now plain.now.values.now) source.now) }
 {
     let mut changes = Vec::new(alloc);
+    let mut row = Vec::new(alloc);
     for change in source {
-        push_result(alloc, &mut changes, query, columns, change)?;
+        push_result(alloc, &mut changes, &mut row, plain, change)?;
     }
     Ok(changes)
 }
@@ -141,16 +162,6 @@ fn key_columns(program: &Program, relation: u32) -> usize
     }
 }
 
-/// The relation of an item.
-pub fn relation_of(item: &Item) -> &Relation
-    ensures { result.now ≡ relation_of item.now }
-{
-    match item {
-        Item::Declared(relation) => relation,
-        Item::Started(query) => &query.out,
-    }
-}
-
 /// The changes of a relation; none where there is no such relation.
 fn changes_at(lists: &[Changes], relation: u32) -> &[Change]
     ensures { result.now ≡ changes_at lists.now relation }
@@ -161,36 +172,41 @@ fn changes_at(lists: &[Changes], relation: u32) -> &[Change]
     }
 }
 
-/// Adds what a change gives to a query's result.
+/// Adds what a change gives to a query's result. What `row` held before doesn't matter.
 fn push_result(
     alloc: Global,
     changes: &mut Vec<Change>,
-    query: &Query,
-    columns: usize,
+    row: &mut Vec<Value>,
+    plain: &Plain,
     change: &Change,
 ) -> Result<(), AllocError>
-    ensures { OnOk result (changes.new.items ≡ changes.old.items ++ query_gives query.now.filter query.now.shape columns change.now) }
+    ensures { OnOk result (changes.new.items ≡ changes.old.items ++ query_gives plain.now.columns plain.now.filter.now plain.now.keys.now plain.now.values.now change.now) }
 {
-    let row = whole_row(alloc, columns, change)?;
-    if passes(alloc, &query.filter, row.as_slice())? {
-        changes.push(selected(alloc, &query.shape, row.as_slice(), change)?)?;
+    fill(alloc, row, plain.columns, change)?;
+    if passes(alloc, plain.filter, row.as_slice(), change.time)? {
+        changes.push(selected(alloc, plain.keys, plain.values, row.as_slice(), change)?)?;
     }
     Ok(())
 }
 
-/// The row of a change with its key columns in front.
-fn whole_row(alloc: Global, columns: usize, change: &Change) -> Result<Vec<Value>, AllocError>
-    ensures { IfOk result (λ row. row.items ≡ whole_row columns change.now) }
+/// Makes `row` the row of a change with its key columns in front.
+fn fill(
+    alloc: Global,
+    row: &mut Vec<Value>,
+    columns: usize,
+    change: &Change,
+) -> Result<(), AllocError>
+    ensures { OnOk result (row.new.items ≡ whole_row columns change.now) }
 {
-    let mut row = Vec::new(alloc);
-    if change.key.items().is_empty() {
-        push_nulls(&mut row, columns)?;
-    } else {
-        push_copies(alloc, &mut row, change.key.items())?;
+    row.clear();
+    match change.key.items() {
+        [] => push_nulls(row, columns)?,
+        cells => push_copies(alloc, row, cells)?,
     }
-    let Body::Said(said) = &change.body;
-    push_copies(alloc, &mut row, said.items())?;
-    Ok(row)
+    match &change.body {
+        Body::Said(said) => push_copies(alloc, row, said.items()),
+        Body::Turned { .. } => Ok(()),
+    }
 }
 
 /// Adds so many NULLs.
@@ -213,13 +229,18 @@ fn push_copies(alloc: Global, row: &mut Vec<Value>, values: &[Value]) -> Result<
     Ok(())
 }
 
-/// Whether a row passes WHERE.
-fn passes(alloc: Global, filter: &Option<Typed>, row: &[Value]) -> Result<bool, AllocError>
-    ensures { IfOk result (λ passed. passed ≡ passes filter.now row.now) }
+/// Whether a row passes WHERE at a time.
+fn passes(
+    alloc: Global,
+    filter: &Option<Typed>,
+    row: &[Value],
+    time: u64,
+) -> Result<bool, AllocError>
+    ensures { IfOk result (λ passed. passed ≡ passes filter.now row.now time) }
 {
     match filter {
         None => Ok(true),
-        Some(on) => Ok(is_true_value(&eval(alloc, on, row)?)),
+        Some(on) => Ok(is_true_value(&eval(alloc, on, row, time)?)),
     }
 }
 
@@ -233,30 +254,36 @@ fn is_true_value(value: &Value) -> bool
 /// What the select list makes of a row.
 fn selected(
     alloc: Global,
-    shape: &Shape,
+    keys: &[Typed],
+    values: &[Typed],
     row: &[Value],
     change: &Change,
 ) -> Result<Change, AllocError>
-    ensures { IfOk result (λ made. made ≡ selected shape.now row.now change.now) }
+    ensures { IfOk result (λ made. made ≡ selected keys.now values.now row.now change.now) }
 {
-    let Shape::Plain { keys, values } = shape;
-    let key = key_of(alloc, values_of(alloc, keys.items(), row)?);
+    let key = key_of(alloc, values_of(alloc, keys, row, change.time)?);
+    let said = values_of(alloc, values, row, change.time)?;
     Ok(Change {
         place: change.place.copy(alloc)?,
         time: change.time,
         key,
         span: change.span,
-        body: Body::Said(Items::of(values_of(alloc, values.items(), row)?)),
+        body: Body::Said(Items::of(said)),
     })
 }
 
-/// The values of expressions on a row.
-fn values_of(alloc: Global, expressions: &[Typed], row: &[Value]) -> Result<Vec<Value>, AllocError>
-    ensures { IfOk result (λ values. values.items ≡ values_of row.now expressions.now) }
+/// The values of expressions on a row at a time.
+fn values_of(
+    alloc: Global,
+    expressions: &[Typed],
+    row: &[Value],
+    time: u64,
+) -> Result<Vec<Value>, AllocError>
+    ensures { IfOk result (λ values. values.items ≡ map (value_of row.now time) expressions.now) }
 {
     let mut values = Vec::new(alloc);
     for expression in expressions {
-        values.push(eval(alloc, expression, row)?)?;
+        values.push(eval(alloc, expression, row, time)?)?;
     }
     Ok(values)
 }

@@ -2,9 +2,9 @@ ghost use Rattle.std.specs.Prelude.{◌≡◌, ◌≤◌, length, IfOk};
 ghost use Rattle.ksql_types.specs.Text.{longest_text};
 
 use crate::run::ksql;
-use crate::status::{LineWhy, Status};
+use crate::status::Status;
 use ksql_outside::{MemFolder, MemSink, NoGate};
-use ksql_types::{Bytes, Chars, Code, Items, Word, Words};
+use ksql_types::{Bytes, Chars, Items, Word, Words};
 use std::alloc::{AllocError, Global};
 use std::test::Fail;
 
@@ -50,17 +50,19 @@ fn chars(alloc: Global, text: &str) -> Result<Chars, Fail> {
     Ok(Chars::of(String::from_str(alloc, text)?))
 }
 
-/// A folder with a script and a topic file, in which the reads of these numbers fail.
+/// A folder with a script and two topic files, in which the reads of these numbers fail.
 #[tactic(auto, unfolding(ksql_types::specs::Text::longest_text))]
 fn folder(
     alloc: Global,
     script: &[u8],
-    lines: &str,
+    s_lines: &str,
+    k_lines: &str,
     failing: &[u64],
 ) -> Result<MemFolder, AllocError> {
     let mut files = Vec::new(alloc);
     files.push(file(alloc, "f", script)?)?;
-    files.push(file(alloc, "./s.jsonl", lines.as_bytes())?)?;
+    files.push(file(alloc, "./s.jsonl", s_lines.as_bytes())?)?;
+    files.push(file(alloc, "./k.jsonl", k_lines.as_bytes())?)?;
     Ok(MemFolder::new(alloc, files, Vec::from_slice(alloc, failing)?))
 }
 
@@ -88,16 +90,27 @@ fn ended<R>(
     Ok((status, Vec::from_slice(alloc, out.written())?))
 }
 
+/// What a run of a script on two topic files writes, and its exit status.
+fn run_on<R>(
+    rt: &R,
+    alloc: Global,
+    script: &[u8],
+    s_lines: &str,
+    k_lines: &str,
+) -> Result<(u8, Vec<u8>), AllocError> {
+    let files = folder(alloc, script, s_lines, k_lines, &[])?;
+    let sink = MemSink::new(alloc, 4000, 4000)?;
+    let (status, written) = ended(rt, alloc, RUN, files, sink)?;
+    Ok((status.code(), written))
+}
+
 #[test]
 fn two_records_are_filtered(rt: HostRuntime) -> Result<(), Fail> {
     let alloc = rt.alloc();
     for (lines, report) in [(LINES, REPORT), ("", EMPTY_REPORT)] {
-        let files = folder(alloc, SCRIPT.as_bytes(), lines, &[])?;
-        let sink = MemSink::new(alloc, 1000, 1000)?;
-        let (status, written) = ended(&rt, alloc, RUN, files, sink)?;
-        assert_eq!(rt; status, Status::Done);
+        let (code, written) = run_on(&rt, alloc, SCRIPT.as_bytes(), lines, "")?;
+        assert_eq!(rt; code, 0);
         assert_eq!(rt; written.as_slice(), report.as_bytes());
-        assert_eq!(rt; status.code(), 0);
     }
     Ok(())
 }
@@ -105,7 +118,7 @@ fn two_records_are_filtered(rt: HostRuntime) -> Result<(), Fail> {
 #[test]
 fn a_sink_that_takes_a_byte_a_call_gets_the_whole_report(rt: HostRuntime) -> Result<(), Fail> {
     let alloc = rt.alloc();
-    let files = folder(alloc, SCRIPT.as_bytes(), LINES, &[])?;
+    let files = folder(alloc, SCRIPT.as_bytes(), LINES, "", &[])?;
     let sink = MemSink::new(alloc, 1000, 1)?;
     let (status, written) = ended(&rt, alloc, RUN, files, sink)?;
     assert_eq!(rt; status, Status::Done);
@@ -117,7 +130,7 @@ fn a_sink_that_takes_a_byte_a_call_gets_the_whole_report(rt: HostRuntime) -> Res
 fn a_sink_that_fails_has_the_front_of_the_report(rt: HostRuntime) -> Result<(), Fail> {
     let alloc = rt.alloc();
     for (room, front) in [(0, ""), (1, "o"), (10, "order 2\n1 ")] {
-        let files = folder(alloc, SCRIPT.as_bytes(), LINES, &[])?;
+        let files = folder(alloc, SCRIPT.as_bytes(), LINES, "", &[])?;
         let sink = MemSink::new(alloc, room, 1000)?;
         let (status, written) = ended(&rt, alloc, RUN, files, sink)?;
         assert_eq!(rt; status, Status::WriteFault);
@@ -130,14 +143,17 @@ fn a_sink_that_fails_has_the_front_of_the_report(rt: HostRuntime) -> Result<(), 
 #[test]
 fn a_read_that_fails_is_named(rt: HostRuntime) -> Result<(), Fail> {
     let alloc = rt.alloc();
-    for (number, wanted) in [(1, "f"), (2, "./s.jsonl")] {
-        let files = folder(alloc, SCRIPT.as_bytes(), LINES, &[number])?;
+    for (number, wanted, line) in [
+        (1, "f", "ksql: cannot read f\n"),
+        (2, "./s.jsonl", "ksql: cannot read ./s.jsonl\n"),
+    ] {
+        let files = folder(alloc, SCRIPT.as_bytes(), LINES, "", &[number])?;
         let sink = MemSink::new(alloc, 1000, 1000)?;
         let (status, written) = ended(&rt, alloc, RUN, files, sink)?;
         let name = chars(alloc, wanted)?;
         assert_eq!(rt; status, Status::ReadFault { name });
         assert_eq!(rt; status.code(), 6);
-        assert!(rt; written.is_empty());
+        assert_eq!(rt; written.as_slice(), line.as_bytes());
     }
     Ok(())
 }
@@ -145,109 +161,22 @@ fn a_read_that_fails_is_named(rt: HostRuntime) -> Result<(), Fail> {
 #[test]
 fn words_of_another_shape_are_no_command(rt: HostRuntime) -> Result<(), Fail> {
     let alloc = rt.alloc();
-    let long = String::from_utf8(vec![in alloc; b'f'; 4097]?)
-        .ok()
-        .ok_or("ASCII")?;
+    let long = "f".repeat(alloc, 4097)?;
     let long_name = format!(in alloc; "ksql run --script {}", long.as_str())?;
-    let long_program = format!(in alloc; "{} run --script f", long.as_str())?;
     for line in [
         "",
-        "ksql",
-        "ksql run",
         "ksql run --script",
         "ksql run --script f ",
         "ksql Run --script f",
-        "ksql explain --script f",
-        "ksql run --Script f",
         "ksql run --script=f f",
-        "run --script f",
         long_name.as_str(),
-        long_program.as_str(),
     ] {
-        let files = folder(alloc, SCRIPT.as_bytes(), LINES, &[])?;
+        let files = folder(alloc, SCRIPT.as_bytes(), LINES, "", &[])?;
         let sink = MemSink::new(alloc, 1000, 1000)?;
         let (status, written) = ended(&rt, alloc, line, files, sink)?;
         assert_eq!(rt; status, Status::Usage);
-        assert!(rt; written.is_empty());
+        assert_eq!(rt; written.as_slice(), b"ksql: bad command line\n".as_slice());
         assert_eq!(rt; status.code(), 2);
-    }
-    Ok(())
-}
-
-/// What the command answers on this script, where the topic file has two records.
-fn status_of<R>(rt: &R, alloc: Global, script: &[u8]) -> Result<Status, AllocError> {
-    let files = folder(alloc, script, LINES, &[])?;
-    let (status, _) = ended(rt, alloc, RUN, files, MemSink::new(alloc, 1000, 1000)?)?;
-    Ok(status)
-}
-
-fn refused(statement: u32, code: Code) -> Status {
-    Status::Script { statement, code }
-}
-
-#[test]
-fn lines_of_another_form_are_refused(rt: HostRuntime) -> Result<(), Fail> {
-    let alloc = rt.alloc();
-    let lines = "{\"k\":\"a\",\"v\":{\"N\":1}}\n";
-    let files = folder(alloc, SCRIPT.as_bytes(), lines, &[])?;
-    let sink = MemSink::new(alloc, 1000, 1000)?;
-    let (status, written) = ended(&rt, alloc, RUN, files, sink)?;
-    let refused = Status::TopicFile {
-        topic: chars(alloc, "s")?,
-        line: 0,
-        why: LineWhy::BadLine,
-    };
-    assert_eq!(rt; status, refused);
-    assert_eq!(rt; status.code(), 4);
-    assert!(rt; written.is_empty());
-    Ok(())
-}
-
-#[test]
-fn comments_stand_between_tokens(rt: HostRuntime) -> Result<(), Fail> {
-    let alloc = rt.alloc();
-    let script = "/* a stream; */ CREATE STREAM S -- of the topic 's
-  (ID VARCHAR KEY, N INTEGER) WITH (KAFKA_TOPIC='s', VALUE_FORMAT='JSON', PARTITIONS=1);
-create stream BIG as select ID, N from S where N > /* ( */ 1;--";
-    let files = folder(alloc, script.as_bytes(), LINES, &[])?;
-    let sink = MemSink::new(alloc, 1000, 1000)?;
-    let (status, written) = ended(&rt, alloc, RUN, files, sink)?;
-    assert_eq!(rt; status, Status::Done);
-    assert_eq!(rt; written.as_slice(), REPORT.as_bytes());
-    Ok(())
-}
-
-#[test]
-fn a_script_is_refused_as_a_whole(rt: HostRuntime) -> Result<(), Fail> {
-    let alloc = rt.alloc();
-    let blanks = " ".repeat(alloc, 1_048_576_usize.saturating_sub(SCRIPT.len()))?;
-    let longest = format!(in alloc; "{SCRIPT}{blanks}")?;
-    let longer = format!(in alloc; "{longest} ")?;
-    for (script, status, code) in [
-        (longest.as_str().as_bytes(), Status::Done, 0),
-        (longer.as_str().as_bytes(), refused(0, Code::TooLarge), 3),
-        (b"CREATE STREAM \xff", refused(0, Code::Syntax), 3),
-    ] {
-        let found = status_of(&rt, alloc, script)?;
-        assert_eq!(rt; found, status);
-        assert_eq!(rt; found.code(), code);
-    }
-    Ok(())
-}
-
-#[test]
-fn a_script_is_refused_in_a_statement(rt: HostRuntime) -> Result<(), Fail> {
-    let alloc = rt.alloc();
-    let nested = "(".repeat(alloc, 65)?;
-    for (script, code) in [
-        ("CREATE STREAM X AS SELECT 'a", Code::Syntax),
-        (";;CREATE 1a", Code::Syntax),
-        (nested.as_str(), Code::TooLarge),
-        ("CREATE STREAM S;", Code::Syntax),
-    ] {
-        let status = status_of(&rt, alloc, script.as_bytes())?;
-        assert_eq!(rt; status, refused(1, code));
-        assert_eq!(rt; status.code(), 3);
     }
     Ok(())
 }
@@ -257,50 +186,210 @@ CREATE TABLE T (ID VARCHAR PRIMARY KEY, V VARCHAR) WITH (KAFKA_TOPIC='t');
 CREATE TABLE U (ID VARCHAR PRIMARY KEY, W INTEGER) WITH (KAFKA_TOPIC='u', PARTITIONS=3);
 ";
 
+const REFUSED: [(&str, &str); 16] = [
+    ("CREATE STREAM X AS SELECT FROM S;", "S1 Syntax"),
+    (
+        "CREATE STREAM X AS SELECT ID, 9223372036854775808 AS A FROM S;",
+        "S2 TooLarge",
+    ),
+    ("CREATE STREAM X AS SELECT * FROM Q;", "S3 UnknownRelation"),
+    ("CREATE STREAM S AS SELECT * FROM S;", "S4 NameTaken"),
+    (
+        "CREATE STREAM X AS SELECT ID, M FROM S;",
+        "S5 UnknownColumn",
+    ),
+    (
+        "CREATE STREAM X AS SELECT ID FROM S JOIN T ON S.ID = T.ID;",
+        "S6 AmbiguousColumn",
+    ),
+    (
+        "CREATE STREAM X AS SELECT ID, N AS A, N AS A FROM S;",
+        "S7 DuplicateColumn",
+    ),
+    (
+        "CREATE STREAM X AS SELECT ID, N + ID AS A FROM S;",
+        "S8 TypeMismatch",
+    ),
+    ("CREATE TABLE X AS SELECT ID, N FROM S;", "S9 WrongKind"),
+    ("CREATE STREAM X AS SELECT N FROM S;", "S10 KeyMissing"),
+    (
+        "CREATE STREAM X AS SELECT S.ID, V FROM S JOIN T ON S.ID = T.V;",
+        "S11 JoinNotOnKey",
+    ),
+    (
+        "CREATE STREAM X AS SELECT S.ID, W FROM S JOIN U ON S.ID = U.ID;",
+        "S12 PartitionMismatch",
+    ),
+    (
+        "CREATE TABLE X AS SELECT W, MIN(W) AS A FROM U GROUP BY W;",
+        "S13 AggregateMisuse",
+    ),
+    (
+        "CREATE TABLE X AS SELECT ID, COUNT(*) AS C FROM S WINDOW HOPPING (SIZE 10 SECONDS, ADVANCE BY 0 SECONDS) GROUP BY ID;",
+        "S14 BadWindow",
+    ),
+    ("DROP TABLE T;", "S15 Unsupported"),
+    (
+        "CREATE STREAM X WITH (KEY_FORMAT='JSON') AS SELECT ID, N FROM S;",
+        "S16 BadProperty",
+    ),
+];
+
 #[test]
-fn a_fourth_statement_is_refused(rt: HostRuntime) -> Result<(), Fail> {
+fn a_fourth_statement_is_refused_by_its_code(rt: HostRuntime) -> Result<(), Fail> {
     let alloc = rt.alloc();
-    for (statement, code) in [
-        ("CREATE STREAM X AS SELECT FROM S;", Code::Syntax),
-        (
-            "CREATE STREAM X AS SELECT ID, 9223372036854775808 AS A FROM S;",
-            Code::TooLarge,
-        ),
-        ("DROP TABLE T;", Code::Unsupported),
-    ] {
+    for (statement, code) in REFUSED {
         let script = format!(in alloc; "{DECLARED}{statement}")?;
-        let status = status_of(&rt, alloc, script.as_str().as_bytes())?;
-        assert_eq!(rt; status, refused(4, code));
+        let wanted = format!(in alloc; "ksql: script statement 4: {code}\n")?;
+        let (status, written) = run_on(&rt, alloc, script.as_str().as_bytes(), "", "")?;
+        assert_eq!(rt; written.as_slice(), wanted.as_str().as_bytes());
+        assert_eq!(rt; status, 3);
     }
     Ok(())
 }
 
+const STREAM: &str = "CREATE STREAM S (ID VARCHAR KEY, N INTEGER)
+  WITH (KAFKA_TOPIC='s', VALUE_FORMAT='JSON', PARTITIONS=1);
+";
+
+// Sums wrap, by zero is NULL, and NULL = NULL is false. A value that isn't of its column's type is skipped. A line that
+// isn't a topic line is refused. Records of one key keep their order in its partition, where a late one waits.
+const RUNS: [(&str, &str, &str, &str); 7] = [
+    (
+        "CREATE STREAM X AS SELECT ID, N + 1 AS A, 7 / 0 AS B, NULL = NULL AS C FROM S;",
+        "{\"t\":1,\"k\":\"a\",\"v\":{\"N\":2147483647}}\n",
+        "",
+        "order 1
+1 s 0 0 1
+stream S declared c=1 skipped=0 changes=1
+{\"p\":0,\"t\":1,\"k\":\"a\",\"v\":{\"N\":2147483647}}
+stream X query c=1 changes=1
+{\"p\":0,\"t\":1,\"k\":\"a\",\"v\":{\"A\":-2147483648,\"B\":null,\"C\":false}}
+end
+",
+    ),
+    (
+        "",
+        "{\"t\":1,\"k\":\"a\",\"v\":{\"N\":\"x\"}}\n",
+        "",
+        "order 1
+1 s 0 0 1
+stream S declared c=1 skipped=1 changes=0
+end
+",
+    ),
+    (
+        "",
+        "{\"t\":1,\"k\":\"a\",\"v\":{\"N\":\"x\"}}\n{\"k\":\"a\",\"v\":{\"N\":1}}\n",
+        "",
+        "ksql: topic s line 2: BadLine\n",
+    ),
+    (
+        "",
+        "{\"t\":1,\"k\":\"a\",\"v\":{\"N\":\"x\"}}\n{\"t\":1,\"k\":\"a\"",
+        "",
+        "ksql: topic s line 2: BadLine\n",
+    ),
+    (
+        "CREATE STREAM K (ID VARCHAR KEY, PAGE VARCHAR) WITH (KAFKA_TOPIC='k', VALUE_FORMAT='JSON', PARTITIONS=2);",
+        "",
+        "{\"t\":9,\"k\":\"a\",\"v\":{}}\n{\"t\":1,\"k\":\"a\",\"v\":{}}\n{\"t\":5,\"k\":\"b\",\"v\":{}}\n",
+        "order 3
+1 k 0 0 5
+1 k 1 0 9
+1 k 1 1 1
+stream S declared c=1 skipped=0 changes=0
+stream K declared c=1 skipped=0 changes=3
+{\"p\":0,\"t\":5,\"k\":\"b\",\"v\":{\"PAGE\":null}}
+{\"p\":1,\"t\":9,\"k\":\"a\",\"v\":{\"PAGE\":null}}
+{\"p\":1,\"t\":1,\"k\":\"a\",\"v\":{\"PAGE\":null}}
+end
+",
+    ),
+    (
+        "CREATE TABLE G AS SELECT ID, COUNT(*) AS C FROM S GROUP BY ID;",
+        "",
+        "",
+        "ksql: script statement 2: S15 Unsupported\n",
+    ),
+    (
+        "CREATE STREAM X AS SELECT N, ID FROM S PARTITION BY N;",
+        "{\"t\":1,\"k\":\"a\",\"v\":{}}\n{\"t\":2,\"k\":\"a\",\"v\":{\"N\":7}}\n",
+        "",
+        "order 2
+1 s 0 0 1
+1 s 0 1 2
+stream S declared c=1 skipped=0 changes=2
+{\"p\":0,\"t\":1,\"k\":\"a\",\"v\":{\"N\":null}}
+{\"p\":0,\"t\":2,\"k\":\"a\",\"v\":{\"N\":7}}
+stream X query c=1 changes=2
+{\"p\":0,\"t\":1,\"k\":null,\"v\":{\"ID\":\"a\"}}
+{\"p\":0,\"t\":2,\"k\":7,\"v\":{\"ID\":\"a\"}}
+end
+",
+    ),
+];
+
 #[test]
-fn another_form_is_not_supported(rt: HostRuntime) -> Result<(), Fail> {
+fn streams_are_run_behind_a_stream(rt: HostRuntime) -> Result<(), Fail> {
     let alloc = rt.alloc();
-    for script in ["", DECLARED, "CREATE STREAM X AS SELECT * FROM Q;"] {
-        let status = status_of(&rt, alloc, script.as_bytes())?;
-        assert_eq!(rt; status, refused(0, Code::Unsupported));
+    for (statement, s_lines, k_lines, wanted) in RUNS {
+        let script = format!(in alloc; "{STREAM}{statement}")?;
+        let (_, written) = run_on(&rt, alloc, script.as_str().as_bytes(), s_lines, k_lines)?;
+        assert_eq!(rt; written.as_slice(), wanted.as_bytes());
     }
     Ok(())
 }
 
 #[test]
-fn the_largest_statements_are_read(rt: HostRuntime) -> Result<(), Fail> {
+fn scripts_are_refused_in_their_statements(rt: HostRuntime) -> Result<(), Fail> {
+    let alloc = rt.alloc();
+    let nested = "(".repeat(alloc, 65)?;
+    let blanks = " ".repeat(alloc, 1_048_577)?;
+    for (script, wanted) in [
+        (b"".as_slice(), "order 0\nend\n"),
+        (
+            b"CREATE STREAM \xff",
+            "ksql: script statement 0: S1 Syntax\n",
+        ),
+        (
+            blanks.as_str().as_bytes(),
+            "ksql: script statement 0: S2 TooLarge\n",
+        ),
+        (
+            b"CREATE STREAM X AS SELECT 'a",
+            "ksql: script statement 1: S1 Syntax\n",
+        ),
+        (b";;CREATE 1a", "ksql: script statement 1: S1 Syntax\n"),
+        (
+            nested.as_str().as_bytes(),
+            "ksql: script statement 1: S2 TooLarge\n",
+        ),
+    ] {
+        let (_, written) = run_on(&rt, alloc, script, "", "")?;
+        assert_eq!(rt; written.as_slice(), wanted.as_bytes());
+    }
+    Ok(())
+}
+
+#[test]
+fn the_largest_statements_are_run(rt: HostRuntime) -> Result<(), Fail> {
     let alloc = rt.alloc();
     let open = "(".repeat(alloc, 64)?;
     let close = ")".repeat(alloc, 64)?;
     let nested = format!(in alloc; "{open}1{close}")?;
     for (repeated, times, last) in [
-        ("NOT ", 1990, "TRUE"),
-        ("- ", 1990, "1"),
-        ("1 + ", 995, "1"),
+        ("NOT ", 1988, "TRUE"),
+        ("- ", 1988, "1"),
+        ("1 + ", 994, "1"),
         ("", 1, nested.as_str()),
     ] {
         let front = repeated.repeat(alloc, times)?;
-        let script = format!(in alloc; "CREATE STREAM X AS SELECT ID, {front}{last} FROM S;")?;
-        let status = status_of(&rt, alloc, script.as_str().as_bytes())?;
-        assert_eq!(rt; status, refused(0, Code::Unsupported));
+        let script = format!(in alloc;
+            "{STREAM}CREATE STREAM X AS SELECT ID, {front}{last} AS A FROM S;"
+        )?;
+        let (status, _) = run_on(&rt, alloc, script.as_str().as_bytes(), LINES, "")?;
+        assert_eq!(rt; status, 0);
     }
     Ok(())
 }

@@ -22,9 +22,9 @@ returns-in-Ok-clause-complete g c =
 pub returns-clause-exact : goal.returns-clause-exact
 returns-clause-exact g c =
     exact_refusal (g.F.Folder.files c.args.folder.now) c.args.words.now (g.F.Folder.failed c.args.folder.now) (g.F.Folder.failed c.whole_text.new.folder)
-    (¬ Rose (g.K.Sink.faults c.args.out.now) (g.K.Sink.faults c.args.out.now)) c.in-Err.status c.in-Err.ensures.refusal c.in-Err.ensures.cause
+    (¬ Rose (g.K.Sink.faults c.args.out.now) (g.K.Sink.faults c.write_fault.new.out)) c.in-Err.status c.in-Err.ensures.refusal c.in-Err.ensures.cause
 
 pub returns-clause-complete : goal.returns-clause-complete
 returns-clause-complete g c =
     complete_of (g.F.Folder.files c.args.folder.now) c.args.words.now (g.F.Folder.failed c.args.folder.now) (g.F.Folder.failed c.whole_text.new.folder)
-    (¬ Rose (g.K.Sink.faults c.args.out.now) (g.K.Sink.faults c.args.out.now)) c.in-Err.status (returns-clause-exact g c)
+    (¬ Rose (g.K.Sink.faults c.args.out.now) (g.K.Sink.faults c.write_fault.new.out)) c.in-Err.status (returns-clause-exact g c)

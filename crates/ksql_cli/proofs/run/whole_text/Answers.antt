@@ -1,41 +1,66 @@
-use Rattle.std.proofs.Common.{subst}
-use Rattle.std.specs.Prelude.{Option, IfSome}
-use Rattle.ksql_cli.specs.Command.{Files, IsFed}
-use Rattle.ksql_cli.specs.FirstProgram.{stream_of}
-use Rattle.ksql_cli.specs.Steps.{IsTopicFailure}
-use Rattle.ksql_cli.proofs.Causes.{if_some_both, run_found, topic_cause, topic_joined, topics_due}
+use Rattle.std.proofs.Common.{List, subst, sym}
+use Rattle.std.specs.Prelude.{All}
+use Rattle.ksql_program.specs.declared.program.Item.{Item}
+use Rattle.ksql_cli.specs.Command.{declared_of, whole_room}
+use Rattle.ksql_cli.specs.Steps.{AreTopicsDue, IsFeedable, IsTopicFailure}
+use Rattle.ksql_cli.proofs.Causes.{topic_joined, topics_cause, topics_due}
+use Rattle.ksql_cli.proofs.Sounds.{feedable}
+use Rattle.ksql_cli.proofs.TopicLaws.{as_before, whole_few, whole_short}
 use Rattle.ksql_cli.proofs.run.whole_text.Goals as goal
 
-pub returns-in-Err-topic_of-clause-cause : goal.returns-in-Err-topic_of-clause-cause
-returns-in-Err-topic_of-clause-cause g c =
-    let mid = g.F.Folder.failed c.accepted_script.new.folder in
-    let new = g.F.Folder.failed c.topic_of.new.folder in
-    let failed = subst (λ (files : Option Files). IfSome files (λ all. IsTopicFailure all c.in-Ok.form mid new c.in-Err-topic_of.status)) c.in-Ok.ensures.same_files c.in-Err-topic_of.ensures.cause in
-    if_some_both _ _ _ _ (λ all read why. topic_cause c.args.words.now all c.in-Ok.form (g.F.Folder.failed c.args.folder.now) mid new c.in-Err-topic_of.status c.in-Ok.ensures.grows read why)
-    c.in-Ok.ensures.found failed
+pub read_topics-requires-clause-feedable : goal.read_topics-requires-clause-feedable
+read_topics-requires-clause-feedable g c =
+    subst (λ (items : List Item). All IsFeedable (declared_of items)) (sym c.items.ensures) (feedable c.in-Ok.program.items c.in-Ok.ensures.sound)
 
-pub returns-in-Ok-report_of-clause-found : goal.returns-in-Ok-report_of-clause-found
-returns-in-Ok-report_of-clause-found g c =
-    let fed = subst (λ (files : Option Files). IfSome files (λ all. IsFed all (stream_of c.in-Ok.form) c.in-Ok-topic_of.feds)) c.in-Ok.ensures.same_files c.in-Ok-topic_of.ensures.found in
-    if_some_both _ _ _ _ (λ all read good. run_found c.args.words.now all c.in-Ok.form c.in-Ok-topic_of.feds _ c.in-Ok-report_of.ensures read good)
-    c.in-Ok.ensures.found fed
+pub read_topics-requires-clause-few : goal.read_topics-requires-clause-few
+read_topics-requires-clause-few g c = whole_few c.whole_room.result c.whole_room.ensures
 
-pub returns-in-Err-topic_of-clause-joined : goal.returns-in-Err-topic_of-clause-joined
-returns-in-Err-topic_of-clause-joined g c =
-    topic_joined c.args.words.now (g.F.Folder.failed c.args.folder.now) (g.F.Folder.failed c.accepted_script.new.folder) (g.F.Folder.failed c.topic_of.new.folder)
-    c.in-Err-topic_of.status c.in-Ok.ensures.grows c.in-Err-topic_of.ensures.joined
+pub read_topics-requires-clause-short : goal.read_topics-requires-clause-short
+read_topics-requires-clause-short g c = whole_short c.whole_room.result c.whole_room.ensures
 
-pub returns-in-Err-topic_of-clause-reads : goal.returns-in-Err-topic_of-clause-reads
-returns-in-Err-topic_of-clause-reads g c =
-    topics_due (g.F.Folder.files c.args.folder.now) c.args.words.now c.in-Ok.form (g.F.Folder.failed c.args.folder.now) (g.F.Folder.failed c.accepted_script.new.folder)
-    (g.F.Folder.failed c.topic_of.new.folder) c.in-Ok.ensures.grows c.in-Err-topic_of.ensures.grows c.in-Ok.ensures.found
+pub returns-in-Err-read_topics-clause-cause : goal.returns-in-Err-read_topics-clause-cause
+returns-in-Err-read_topics-clause-cause g c =
+    let mid = g.F.Folder.failed c.accepted_program.new.folder in
+    let new = g.F.Folder.failed c.read_topics.new.folder in
+    let status = c.in-Err-read_topics.status in
+    topics_cause (g.F.Folder.files c.args.folder.now) c.args.words.now c.in-Ok.program (g.F.Folder.failed c.args.folder.now) mid new status
+    c.in-Ok.ensures.grows
+    (as_before (λ all room items. IsTopicFailure all room (declared_of items) mid new status) (g.F.Folder.files c.args.folder.now)
+    (g.F.Folder.files c.accepted_program.new.folder) c.whole_room.result whole_room c.items.result.now c.in-Ok.program.items
+    c.in-Ok.ensures.same_files c.whole_room.ensures c.items.ensures c.in-Err-read_topics.ensures.cause)
+    c.in-Ok.ensures.found
+
+pub returns-in-Err-read_topics-clause-joined : goal.returns-in-Err-read_topics-clause-joined
+returns-in-Err-read_topics-clause-joined g c =
+    topic_joined c.args.words.now (g.F.Folder.failed c.args.folder.now) (g.F.Folder.failed c.accepted_program.new.folder)
+    (g.F.Folder.failed c.read_topics.new.folder) c.in-Err-read_topics.status c.in-Ok.ensures.grows c.in-Err-read_topics.ensures.joined
+
+pub returns-in-Err-read_topics-clause-reads : goal.returns-in-Err-read_topics-clause-reads
+returns-in-Err-read_topics-clause-reads g c =
+    let mid = g.F.Folder.failed c.accepted_program.new.folder in
+    let new = g.F.Folder.failed c.read_topics.new.folder in
+    topics_due (g.F.Folder.files c.args.folder.now) c.args.words.now c.in-Ok.program (g.F.Folder.failed c.args.folder.now) mid new c.in-Ok.ensures.grows
+    (as_before (λ all room items. AreTopicsDue all room (declared_of items) mid new) (g.F.Folder.files c.args.folder.now)
+    (g.F.Folder.files c.accepted_program.new.folder) c.whole_room.result whole_room c.items.result.now c.in-Ok.program.items
+    c.in-Ok.ensures.same_files c.whole_room.ensures c.items.ensures c.read_topics.ensures.reads)
+    c.in-Ok.ensures.found
 
 pub returns-in-Ok-report_of-clause-reads : goal.returns-in-Ok-report_of-clause-reads
 returns-in-Ok-report_of-clause-reads g c =
-    topics_due (g.F.Folder.files c.args.folder.now) c.args.words.now c.in-Ok.form (g.F.Folder.failed c.args.folder.now) (g.F.Folder.failed c.accepted_script.new.folder)
-    (g.F.Folder.failed c.topic_of.new.folder) c.in-Ok.ensures.grows c.in-Ok-topic_of.ensures.grows c.in-Ok.ensures.found
+    let mid = g.F.Folder.failed c.accepted_program.new.folder in
+    let new = g.F.Folder.failed c.read_topics.new.folder in
+    topics_due (g.F.Folder.files c.args.folder.now) c.args.words.now c.in-Ok.program (g.F.Folder.failed c.args.folder.now) mid new c.in-Ok.ensures.grows
+    (as_before (λ all room items. AreTopicsDue all room (declared_of items) mid new) (g.F.Folder.files c.args.folder.now)
+    (g.F.Folder.files c.accepted_program.new.folder) c.whole_room.result whole_room c.items.result.now c.in-Ok.program.items
+    c.in-Ok.ensures.same_files c.whole_room.ensures c.items.ensures c.read_topics.ensures.reads)
+    c.in-Ok.ensures.found
 
 pub returns-clause-reads : goal.returns-clause-reads
 returns-clause-reads g c =
-    topics_due (g.F.Folder.files c.args.folder.now) c.args.words.now c.in-Ok.form (g.F.Folder.failed c.args.folder.now) (g.F.Folder.failed c.accepted_script.new.folder)
-    (g.F.Folder.failed c.topic_of.new.folder) c.in-Ok.ensures.grows c.in-Ok-topic_of.ensures.grows c.in-Ok.ensures.found
+    let mid = g.F.Folder.failed c.accepted_program.new.folder in
+    let new = g.F.Folder.failed c.read_topics.new.folder in
+    topics_due (g.F.Folder.files c.args.folder.now) c.args.words.now c.in-Ok.program (g.F.Folder.failed c.args.folder.now) mid new c.in-Ok.ensures.grows
+    (as_before (λ all room items. AreTopicsDue all room (declared_of items) mid new) (g.F.Folder.files c.args.folder.now)
+    (g.F.Folder.files c.accepted_program.new.folder) c.whole_room.result whole_room c.items.result.now c.in-Ok.program.items
+    c.in-Ok.ensures.same_files c.whole_room.ensures c.items.ensures c.read_topics.ensures.reads)
+    c.in-Ok.ensures.found

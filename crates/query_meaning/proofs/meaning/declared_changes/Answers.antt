@@ -7,6 +7,6 @@ use Rattle.query_meaning.proofs.meaning.declared_changes.Goals as goal
 
 pub returns : goal.returns
 returns c =
-    c.loop-record.invariant
-    ∙ ap (flat_map (declared_gives c.args.relation.now)) (take_all _ _ c.loop-record-test.false)
+    c.loop-fed.invariant
+    ∙ ap (flat_map (declared_gives c.args.relation.now)) (take_all _ _ c.loop-fed-test.false)
     ∙ sym (declared_changes-each c.args.relation.now c.args.order.now)

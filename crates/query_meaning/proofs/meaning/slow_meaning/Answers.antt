@@ -1,7 +1,7 @@
 use Rattle.std.proofs.Common.{◌≡◌, ◌∙◌, ◌+◌, ◌++◌, ◌∷◌, [], ap, sym, List, drop}
 use Rattle.std.proofs.lemmas.List.{at_drop_more, at_drop_all}
-use Rattle.query_meaning.specs.declared.change.Change.{Change}
-use Rattle.query_meaning.specs.declared.program.Item.{Item}
+use Rattle.ksql_place.specs.declared.change.Change.{Change}
+use Rattle.ksql_program.specs.declared.program.Item.{Item}
 use Rattle.query_meaning.specs.Meaning.{meaning_from, item_changes}
 use Rattle.query_meaning.proofs.meaning.slow_meaning.Goals as goal
 

@@ -1,4 +1,0 @@
-pub mod Numbers
-pub mod Spelled
-pub mod Respelled
-pub mod Scripts

@@ -1,3 +1,0 @@
-pub mod FirstForm
-pub mod Names
-pub mod Reading

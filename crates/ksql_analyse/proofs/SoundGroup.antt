@@ -1,0 +1,280 @@
+-- What a grouped query makes is sound.
+use Rattle.std.proofs.Common.{◌≡◌, ℕ, suc, ◌*◌, ◌^◌, ◌≤◌, ◌<◌, ◌==◌, arith, Bool, true, false, ◌&&◌, ◌||◌, if◌then◌else◌, nat_lt, List, [], ◌∷◌, ◌++◌, length, map, Option, Some, None, refl, ap, ap₂, sym, ◌∙◌, subst}
+use Rattle.std.specs.Prelude.{option_map}
+use Rattle.std.specs.List.{list_any, flat_map, AllByRecursion as Each}
+use Rattle.std.proofs.lemmas.Bool.{false≢true, ltb-false, lt-ltb}
+use Rattle.std.proofs.lemmas.Option.{same_Some}
+use Rattle.ksql_types.specs.declared.relation.Column.{Column}
+use Rattle.ksql_types.specs.declared.relation.Kind.{Kind}
+use Rattle.ksql_types.specs.declared.relation.Kind.TheVariants as kind
+use Rattle.ksql_types.specs.declared.value.SqlType.{SqlType}
+use Rattle.ksql_grammar.specs.declared.tree.Expr.{Expr}
+use Rattle.ksql_grammar.specs.declared.tree.Expr.TheVariants as e
+use Rattle.ksql_grammar.specs.declared.tree.Select.{Select}
+use Rattle.ksql_grammar.specs.declared.tree.SelectItem.{SelectItem}
+use Rattle.ksql_grammar.specs.declared.tree.SelectItem.TheVariants.{Star, StarOf, One}
+use Rattle.ksql_grammar.specs.declared.tree.SpanText.{SpanText}
+use Rattle.ksql_grammar.specs.declared.tree.WindowText.{WindowText}
+use Rattle.ksql_grammar.specs.declared.tree.WindowText.TheVariants.{Tumbling, Hopping}
+use Rattle.ksql_expr.specs.declared.typed.Typed.{Typed}
+use Rattle.ksql_expr.specs.Rules.{agg_type}
+use Rattle.ksql_program.specs.declared.query.Agg.{Agg}
+use Rattle.ksql_program.specs.declared.query.Window.{Window}
+use Rattle.ksql_program.specs.Names.{is_among}
+use Rattle.ksql_program.specs.Sound as sound
+use Rattle.ksql_program.specs.Sound.{IsSoundWindow, IsWindowed, Aggregates, AreColumns, IsSoundOver, argument_type, window_types, grouped_kind}
+use Rattle.ksql_typing.specs.declared.scope.Scope.{Scope}
+use Rattle.ksql_typing.specs.Functions.{is_aggregate}
+use Rattle.ksql_typing.specs.Uses.{IsSmall}
+use Rattle.ksql_grouping.specs.Grouping.{has_aggregate, aggregates_of, ordered_aggregates, regrouped}
+use Rattle.ksql_grouping.proofs.Calls as called
+use Rattle.ksql_clauses.specs.declared.items.Named.{Named}
+use Rattle.ksql_clauses.specs.declared.sources.Known.{Known}
+use Rattle.ksql_clauses.specs.Items.{result_columns, named_from, all_stars, stars_of, plain_name, numbered_name, named}
+use Rattle.ksql_clauses.specs.Resolved.{resolved}
+use Rattle.ksql_clauses.specs.Sources.{item_scope, late_exprs, item_exprs, there}
+use Rattle.ksql_clauses.specs.Windows.{window_of, is_bad, is_too_large, millis, grace_millis, spans, perhaps, keeps_too_little}
+use Rattle.ksql_clauses.proofs.Naming as naming
+use Rattle.ksql_rules.specs.Breaks.{shown_exprs}
+use Rattle.ksql_analyse.specs.Judgement.{AreAggs, AreLateTrees, IsLateTree, late_types, late_scope, aggregate_exprs}
+use Rattle.ksql_analyse.proofs.AggregatesIn.{aggregates-inherit, aggregates-seen, Kept}
+use Rattle.ksql_analyse.proofs.Bearing.{no-aggregate-held, short-texts-held, some, some-append}
+use Rattle.ksql_analyse.proofs.Handing.{IsFlat, CallsNone, flat-inherits, small-inherits, calls-inherit, nested-Name, nested-resolved}
+use Rattle.ksql_analyse.proofs.Once.{IsAmong, once-has, once-each, once-some, each-flat-of}
+use Rattle.ksql_analyse.proofs.Regrouping.{late-none, late-small}
+use Rattle.ksql_analyse.proofs.Resolution.{calls-resolved, small-resolved}
+use Rattle.ksql_analyse.proofs.SoundAggregates.{IsAlone, aggregate-alone, agg-sound}
+use Rattle.ksql_analyse.proofs.SoundPlain.{exprs-hold, plain-name}
+use Rattle.ksql_analyse.proofs.SoundTrees.{IsPlain, each-front, each-behind}
+use Rattle.ksql_analyse.proofs.SoundPlain.{typed_column}
+use Rattle.ksql_analyse.proofs.Distinct.{or-false, not-zero, and-false}
+use Rattle.ksql_analyse.proofs.Refusals.{or-four}
+use Rattle.ksql_analyse.proofs.SoundColumns.{each-append, each-map, each-of-map, each-weaker}
+
+-- ---- windows
+
+-- the last of some spans
+last-span : (retention grace : Option SpanText) → list_any (λ s. nat_lt (2 ^ 53) (millis s)) (perhaps retention ++ perhaps grace) ≡ false → grace_millis grace ≤ 2 ^ 53
+last-span retention None h = omega arith
+last-span None (Some s) h = ltb-false (2 ^ 53) (millis s) (or-false (nat_lt (2 ^ 53) (millis s)) false h).0
+last-span (Some r) (Some s) h =
+    ltb-false (2 ^ 53) (millis s)
+    (or-false (nat_lt (2 ^ 53) (millis s)) false (or-false (nat_lt (2 ^ 53) (millis r)) (nat_lt (2 ^ 53) (millis s) || false) h).1).0
+
+window-parts : (w : Window) (retention : Option SpanText)
+    → ((w.size == 0) || (w.advance == 0) || nat_lt w.size w.advance || keeps_too_little w retention) ≡ false
+    → (nat_lt 0 w.advance && nat_lt (64 * w.advance) w.size) ≡ false → w.size ≤ 2 ^ 53 → w.grace ≤ 2 ^ 53 → IsSoundWindow w
+window-parts w retention bad many short waits =
+    let b = or-four (w.size == 0) (w.advance == 0) (nat_lt w.size w.advance) (keeps_too_little w retention) bad in
+    let moves : 0 < w.advance = not-zero w.advance b.1 in
+    record {
+      moves = moves;
+      covers = ltb-false w.size w.advance b.2;
+      short = short;
+      few = ltb-false (64 * w.advance) w.size (and-false (nat_lt 0 w.advance) (nat_lt (64 * w.advance) w.size) (lt-ltb 0 w.advance moves) many);
+      waits = waits;
+    }
+
+pub window-sound : (w : WindowText) → is_bad w ≡ false → is_too_large w ≡ false → IsSoundWindow (window_of w)
+window-sound (Tumbling size retention grace) bad large =
+    let w = window_of (Tumbling size retention grace) in
+    let l = or-false (list_any (λ s. nat_lt (2 ^ 53) (millis s)) (spans (Tumbling size retention grace))) (nat_lt 0 w.advance && nat_lt (64 * w.advance) w.size) large in
+    let first = or-false (nat_lt (2 ^ 53) (millis size)) (list_any (λ s. nat_lt (2 ^ 53) (millis s)) (perhaps retention ++ perhaps grace)) l.0 in
+    window-parts w retention bad l.1 (ltb-false (2 ^ 53) (millis size) first.0) (last-span retention grace first.1)
+window-sound (Hopping size advance retention grace) bad large =
+    let w = window_of (Hopping size advance retention grace) in
+    let l = or-false (list_any (λ s. nat_lt (2 ^ 53) (millis s)) (spans (Hopping size advance retention grace))) (nat_lt 0 w.advance && nat_lt (64 * w.advance) w.size) large in
+    let first = or-false (nat_lt (2 ^ 53) (millis size)) (nat_lt (2 ^ 53) (millis advance) || list_any (λ s. nat_lt (2 ^ 53) (millis s)) (perhaps retention ++ perhaps grace)) l.0 in
+    let second = or-false (nat_lt (2 ^ 53) (millis advance)) (list_any (λ s. nat_lt (2 ^ 53) (millis s)) (perhaps retention ++ perhaps grace)) first.1 in
+    window-parts w retention bad l.1 (ltb-false (2 ^ 53) (millis size) first.0) (last-span retention grace second.1)
+
+-- ---- what holds of the columns of a result holds of the items
+
+each-move : {A : Type 0} (P : A → Type 0) (xs ys : List A) → xs ≡ ys → Each P xs → Each P ys
+each-move P xs ys h = subst (Each P) h
+
+module _ (P : Expr → Type 0) (s : Scope) (ks : List Known) where
+  abbrev Behind : List SelectItem → Type 0
+  Behind items = (number : ℕ) → Each (λ c. P c.expr) (named_from s ks number items) → Each (λ a. P (resolved s a)) (flat_map item_exprs items)
+
+  pub items-back : (items : List SelectItem) → Behind items
+  items-back [] number h = tt
+  items-back (Star ∷ items) number h =
+      items-back items number
+      (each-behind (λ c. P c.expr) (all_stars ks) (named_from s ks number items)
+      (each-move (λ c. P c.expr) (named_from s ks number (Star ∷ items)) (all_stars ks ++ named_from s ks number items) (naming.from-Star s ks number items) h))
+  items-back (StarOf alias ∷ items) number h =
+      items-back items number
+      (each-behind (λ c. P c.expr) (stars_of alias ks) (named_from s ks number items)
+      (each-move (λ c. P c.expr) (named_from s ks number (StarOf alias ∷ items)) (stars_of alias ks ++ named_from s ks number items)
+      (naming.from-StarOf s ks number alias items) h))
+  items-back (One a (Some alias) ∷ items) number h =
+      let k = each-move (λ c. P c.expr) (named_from s ks number (One a (Some alias) ∷ items)) (record { name = alias; expr = resolved s a } ∷ named_from s ks number items)
+      (naming.from-alias s ks number a alias items) h in
+      (k.0, items-back items number k.1)
+  items-back (One a None ∷ items) number h = at (plain_name ks a) refl (items-back items)
+    where
+      at : (o : Option (List ℕ)) → plain_name ks a ≡ o → Behind items → Each (λ a. P (resolved s a)) (flat_map item_exprs (One a None ∷ items))
+      at (Some name) g rest =
+          let k = each-move (λ c. P c.expr) (named_from s ks number (One a None ∷ items)) (record { name = name; expr = resolved s a } ∷ named_from s ks number items)
+          (naming.from-plain s ks number a name items g) h in
+          (k.0, rest number k.1)
+      at None g rest =
+          let k = each-move (λ c. P c.expr) (named_from s ks number (One a None ∷ items)) (named (numbered_name number) (resolved s a) ∷ named_from s ks (suc number) items)
+          (naming.from-numbered s ks number a items g) h in
+          (k.0, rest (suc number) k.1)
+
+-- ---- the expressions that are shown
+
+each-if : {A : Type 0} (C : Type 0) (P : A → Type 0) (xs : List A) → (C → Each P xs) → Each (λ x. C → P x) xs
+each-if C P [] h = tt
+each-if C P (x ∷ xs) h = (λ c. (h c).0, each-if C P xs (λ c. (h c).1))
+
+each-of-all : {A : Type 0} (P : A → Type 0) (xs : List A) → ((x : A) → P x) → Each P xs
+each-of-all P [] h = tt
+each-of-all P (x ∷ xs) h = (h x, each-of-all P xs h)
+
+some-flat : (f : Expr → List Expr) (es : List Expr) → some (flat_map f es) ≡ false → Each (λ a. some (f a) ≡ false) es
+some-flat f [] h = tt
+some-flat f (a ∷ es) h =
+    let k = or-false (some (f a)) (some (flat_map f es)) (sym (some-append (f a) (flat_map f es)) ∙ h) in
+    (k.0, some-flat f es k.1)
+
+none-again : (p : Expr → Bool) (es : List Expr) → Each (λ a. p a ≡ false) es → list_any p es ≡ false
+none-again p [] h = refl
+none-again p (a ∷ es) h = ap₂ (λ x y. x || y) h.0 (none-again p es h.1)
+
+-- an expression without nested aggregates, with short literals, and over a table without ordered aggregates
+abbrev pub IsShown : Bool → Expr → Type 0
+IsShown stream a = IsFlat a × IsSmall a × (stream ≡ false → CallsNone (is_among ordered_aggregates) a)
+
+-- an aggregate of such
+abbrev pub IsFit : Bool → Expr → Type 0
+IsFit stream g = IsAlone g × IsSmall g × (stream ≡ false → CallsNone (is_among ordered_aggregates) g)
+
+pub shown-name : (stream : Bool) (q : Option (List ℕ)) (name : List ℕ) → IsShown stream (e.Name q name)
+shown-name stream q name = (nested-Name q name, (plain-name q name).1, λ m. called.calls-Name (is_among ordered_aggregates) (e.Name q name) q name refl)
+
+pub shown-resolved : (stream : Bool) (s : Scope) (a : Expr) → IsShown stream a → IsShown stream (resolved s a)
+shown-resolved stream s a h =
+    (nested-resolved s a ∙ h.0, small-resolved s a ∙ h.1, λ m. ap (list_any (is_among ordered_aggregates)) (calls-resolved s a) ∙ h.2 m)
+
+fit-aggregates : (stream : Bool) (a : Expr) → IsShown stream a → Each (IsFit stream) (aggregates_of a)
+fit-aggregates stream a h =
+    zip (aggregates_of a) (aggregates-inherit IsFlat flat-inherits a h.0) (aggregates-inherit IsSmall small-inherits a h.1)
+    (each-if (stream ≡ false) (Kept (CallsNone (is_among ordered_aggregates)) (calls-inherit (is_among ordered_aggregates))) (aggregates_of a)
+    (λ m. aggregates-inherit (CallsNone (is_among ordered_aggregates)) (calls-inherit (is_among ordered_aggregates)) a (h.2 m)))
+  where
+    zip : (gs : List Expr) → Each (Kept IsFlat flat-inherits) gs → Each (Kept IsSmall small-inherits) gs
+        → Each (λ g. stream ≡ false → Kept (CallsNone (is_among ordered_aggregates)) (calls-inherit (is_among ordered_aggregates)) g) gs → Each (IsFit stream) gs
+    zip [] k l m = tt
+    zip (g ∷ gs) k l m = ((aggregate-alone g k.0.1 k.0.0, l.0.0, λ z. (m.0 z).0), zip gs k.1 l.1 m.1)
+
+module _ (q : Select) (ks : List Known) (few : nat_lt 64 (length (result_columns q ks)) ≡ false) where
+  abbrev s : Scope
+  s = item_scope q ks
+
+  -- of the columns and of HAVING
+  pub shown-hold : (P : Expr → Type 0) → ((alias name : List ℕ) → P (e.Name (Some alias) name)) → ((a : Expr) → P a → P (resolved s a)) → Each P (late_exprs q)
+      → Each P (shown_exprs q ks)
+  shown-hold P named kept h =
+      each-append P (map (λ c. c.expr) (result_columns q ks)) (there (option_map (resolved s) q.having))
+      (each-map P (λ (c : Named). c.expr) (result_columns q ks) (exprs-hold P q ks named kept few (each-front P (flat_map item_exprs q.items) (there q.having) h)))
+      (of-having q.having (each-behind P (flat_map item_exprs q.items) (there q.having) h))
+    where
+      of-having : (o : Option Expr) → Each P (there o) → Each P (there (option_map (resolved s) o))
+      of-having None k = tt
+      of-having (Some a) k = (kept a k.0, tt)
+
+  -- and back to the items and HAVING
+  late-back : (P : Expr → Type 0) → Each P (shown_exprs q ks) → Each (λ a. P (resolved s a)) (late_exprs q)
+  late-back P h =
+      each-append (λ a. P (resolved s a)) (flat_map item_exprs q.items) (there q.having)
+      (items-back P s ks q.items 0 (each-of-map P (λ (c : Named). c.expr) (result_columns q ks)
+      (each-front P (map (λ (c : Named). c.expr) (result_columns q ks)) (there (option_map (resolved s) q.having)) h)))
+      (of-having q.having (each-behind P (map (λ (c : Named). c.expr) (result_columns q ks)) (there (option_map (resolved s) q.having)) h))
+    where
+      of-having : (o : Option Expr) → Each P (there (option_map (resolved s) o)) → Each (λ a. P (resolved s a)) (there o)
+      of-having None k = tt
+      of-having (Some a) k = (k.0, tt)
+
+  -- there is an aggregate where one is called
+  pub some-aggregates : list_any has_aggregate (late_exprs q) ≡ true → some (aggregate_exprs q ks) ≡ true
+  some-aggregates h = once-some (flat_map aggregates_of (shown_exprs q ks)) (at (some (flat_map aggregates_of (shown_exprs q ks))) refl)
+    where
+      at : (b : Bool) → some (flat_map aggregates_of (shown_exprs q ks)) ≡ b → some (flat_map aggregates_of (shown_exprs q ks)) ≡ true
+      at true k = k
+      at false k =
+          let none = late-back (λ a. some (aggregates_of a) ≡ false) (some-flat aggregates_of (shown_exprs q ks) k) in
+          let free = each-weaker (λ a. some (aggregates_of (resolved s a)) ≡ false) (λ a. has_aggregate a ≡ false)
+          (λ a m. sym (ap (list_any is_aggregate) (calls-resolved s a)) ∙ aggregates-seen (resolved s a) ∙ m) (late_exprs q) none in
+          absurd (false≢true (sym (none-again has_aggregate (late_exprs q) free) ∙ h))
+
+  -- each shown expression's aggregates are among those of the query
+  pub shown-among : Each (λ a. Each (IsAmong (aggregate_exprs q ks)) (aggregates_of a)) (shown_exprs q ks)
+  shown-among =
+      each-flat-of (IsAmong (aggregate_exprs q ks)) aggregates_of (shown_exprs q ks) (once-has (flat_map aggregates_of (shown_exprs q ks)) [])
+
+  pub aggregates-fit : (stream : Bool) → Each (IsShown stream) (shown_exprs q ks) → Each (IsFit stream) (aggregate_exprs q ks)
+  aggregates-fit stream h = once-each (IsFit stream) (flat_map aggregates_of (shown_exprs q ks)) [] tt (flat (shown_exprs q ks) h)
+    where
+      flat : (es : List Expr) → Each (IsShown stream) es → Each (IsFit stream) (flat_map aggregates_of es)
+      flat [] k = tt
+      flat (a ∷ es) k = each-append (IsFit stream) (aggregates_of a) (flat_map aggregates_of es) (fit-aggregates stream a k.0) (flat es k.1)
+
+-- ---- the types behind a grouping
+
+-- the keys' types come first
+pub types-split : (keys : List Typed) (os : List (Option (Option SqlType))) (types : List (Option SqlType)) → map (λ x. Some x.ty) keys ++ os ≡ map Some types
+    → (ats : List (Option SqlType)) × (types ≡ map (λ x. x.ty) keys ++ ats) × (os ≡ map Some ats)
+types-split [] os types h = (types, refl, h)
+types-split (x ∷ keys) os [] h = absurd (cc (h))
+types-split (x ∷ keys) os (t ∷ types) h =
+    let first : Some x.ty ≡ Some t = cc (h) in
+    let rest : map (λ y. Some y.ty) keys ++ os ≡ map Some types = cc (h) in
+    let r = types-split keys os types rest in
+    (r.0, ap₂ (λ y ys. y ∷ ys) (sym (same_Some x.ty t first)) r.1, r.2)
+
+-- aggregates with their types
+pub aggs-sound : (over : Kind) (stream : Bool) (s : Scope) (types : List (Option SqlType)) → map typed_column s.columns ≡ types → (if stream then kind.Stream else kind.Table) ≡ over
+    → (es : List Expr) (gs : List Agg) (ats : List (Option SqlType)) → Each (IsFit stream) es → AreAggs s es gs
+    → map (λ g. agg_type g.fun (argument_type g.arg)) gs ≡ map Some ats → Aggregates over types gs ats
+aggs-sound over stream s types same kinds [] [] [] f h e = sound.none
+aggs-sound over stream s types same kinds [] [] (t ∷ ats) f h e = absurd (cc (e))
+aggs-sound over stream s types same kinds [] (g ∷ gs) ats f h e = absurd h
+aggs-sound over stream s types same kinds (a ∷ es) [] ats f h e = absurd h
+aggs-sound over stream s types same kinds (a ∷ es) (g ∷ gs) [] f h e = absurd (cc (e))
+aggs-sound over stream s types same kinds (a ∷ es) (g ∷ gs) (t ∷ ats) f h e =
+    let k = agg-sound over stream s a g kinds f.0.0 f.0.1 f.0.2 h.0 in
+    let first : agg_type g.fun (argument_type g.arg) ≡ Some t = cc (e) in
+    let rest : map (λ o. agg_type o.fun (argument_type o.arg)) gs ≡ map Some ats = cc (e) in
+    sound.more k.over_kind (subst (λ ts. sound.IsArgument ts g.arg) same k.argument) first (aggs-sound over stream s types same kinds es gs ats f.1 h.1 rest)
+
+pub aggs-length : (s : Scope) (es : List Expr) (gs : List Agg) → AreAggs s es gs → some es ≡ true → 1 ≤ length gs
+aggs-length s [] gs h k = absurd (cc (k))
+aggs-length s (a ∷ es) [] h k = absurd h
+aggs-length s (a ∷ es) (g ∷ gs) h k = omega arith
+
+-- ---- trees behind a grouping
+
+abbrev pub IsLateFit : List Expr → Expr → Type 0
+IsLateFit aggs a = Each (IsAmong aggs) (aggregates_of a) × IsSmall a
+
+pub late-plain : (groups aggs : List Expr) (a : Expr) → IsLateFit aggs a → IsPlain (regrouped groups aggs a)
+late-plain groups aggs a h = (late-none groups aggs a h.0, late-small groups aggs a h.1)
+
+pub late-sound : (q : Select) (types : List (Option SqlType)) (a : Expr) (x : Typed) → IsPlain a → IsLateTree q types a x → IsSoundOver (late_types q types) x
+late-sound q types a x p h =
+    record { typed = h.1; plain = no-aggregate-held (late_scope q types) a x h.0 p.0; short = short-texts-held (late_scope q types) a x h.0 p.1 }
+
+pub late-columns : (q : Select) (types all : List (Option SqlType)) → late_types q types ≡ all → (es : List Expr) (xs : List Typed) (cs : List Column) → Each IsPlain es
+    → AreLateTrees q types es xs → map (λ c. Some c.ty) cs ≡ map (λ x. x.ty) xs → AreColumns all xs cs
+late-columns q types all same [] [] [] k h e = tt
+late-columns q types all same [] [] (c ∷ cs) k h e = absurd (cc (e))
+late-columns q types all same [] (x ∷ xs) cs k h e = absurd h
+late-columns q types all same (a ∷ es) [] cs k h e = absurd h
+late-columns q types all same (a ∷ es) (x ∷ xs) [] k h e = absurd (cc (e))
+late-columns q types all same (a ∷ es) (x ∷ xs) (c ∷ cs) k h e =
+    let first : Some c.ty ≡ x.ty = cc (e) in
+    let rest : map (λ d. Some d.ty) cs ≡ map (λ y. y.ty) xs = cc (e) in
+    (subst (λ t. IsSoundOver t x) same (late-sound q types a x k.0 h.0), sym first, late-columns q types all same es xs cs k.1 h.1 rest)

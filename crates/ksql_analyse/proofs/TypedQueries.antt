@@ -1,0 +1,204 @@
+-- The expressions of an accepted query have typed trees.
+use Rattle.std.proofs.Common.{◌≡◌, ◌⊎◌, ◌↔◌, ℕ, Bool, true, false, not, ◌&&◌, ◌||◌, if◌then◌else◌, nat_lt, List, [], ◌∷◌, ◌++◌, map, length, Option, Some, None, is_some, refl, ap, sym, ◌∙◌, subst, IsTrue, inl, inr}
+use Rattle.std.specs.Prelude.{option_map}
+use Rattle.std.specs.List.{All, list_any, flat_map, AllByRecursion as Each}
+use Rattle.std.proofs.lemmas.List.Elements.{recursion_from_All}
+use Rattle.ksql_types.specs.declared.relation.Relation.{Relation}
+use Rattle.ksql_types.specs.declared.value.SqlType.{SqlType}
+use Rattle.ksql_grammar.specs.declared.tree.Expr.{Expr}
+use Rattle.ksql_grammar.specs.declared.tree.Expr.TheVariants as e
+use Rattle.ksql_grammar.specs.declared.tree.Property.{Property}
+use Rattle.ksql_grammar.specs.declared.tree.Select.{Select}
+use Rattle.ksql_expr.specs.declared.typed.Typed.{Typed}
+use Rattle.ksql_typing.specs.declared.scope.Scope.{Scope}
+use Rattle.ksql_typing.specs.Decisions as decided
+use Rattle.ksql_typing.specs.Decisions.{HasValue, CanBeTrue, CanAgree}
+use Rattle.ksql_typing.specs.Judged.{judged}
+use Rattle.ksql_typing.specs.Possible.{is_some_in}
+use Rattle.ksql_typing.specs.Standing.{IsTypedTree}
+use Rattle.ksql_typing.specs.Typing.{HasType, HasSomeType}
+use Rattle.ksql_typing.specs.Uses.{IsSmall, is_small, has_unknown_function, calls}
+use Rattle.ksql_typing.specs.Functions.{is_unknown}
+use Rattle.ksql_typing.proofs.Equations as equation
+use Rattle.ksql_typing.proofs.OneTyping.{one-tree}
+use Rattle.ksql_typing.proofs.TypeLaws.{accepted, tree_type, known, some_type, value, truth, agreement}
+use Rattle.ksql_clauses.specs.declared.items.Named.{Named}
+use Rattle.ksql_clauses.specs.declared.sources.Known.{Known}
+use Rattle.ksql_clauses.specs.Items.{result_columns}
+use Rattle.ksql_clauses.specs.Resolved.{resolved}
+use Rattle.ksql_clauses.specs.Sources.{from_scope, item_scope, early_exprs, late_exprs, item_exprs, there, on_exprs}
+use Rattle.ksql_grouping.specs.Grouping.{aggregates_of, once_from}
+use Rattle.ksql_rules.specs.Breaks as rules
+use Rattle.ksql_rules.specs.Breaks.{IsQueryTyped, IfThere, group_exprs, shown_exprs}
+use Rattle.ksql_rules.specs.Keys.{on_sides}
+use Rattle.ksql_rules.specs.Limits.{IsQueryWithin}
+use Rattle.ksql_rules.proofs.Smallness.{small-Name}
+use Rattle.ksql_analyse.specs.Judgement.{aggregate_exprs, exprs}
+use Rattle.ksql_analyse.specs.Typable.{IsTypable, IsValued, IsAggregable}
+use Rattle.ksql_analyse.proofs.AggregateTrees.{aggregates-fine, IsFine}
+use Rattle.ksql_analyse.proofs.LateTrees.{HasPlainColumns}
+use Rattle.ksql_analyse.proofs.Once.{once-each}
+use Rattle.ksql_analyse.proofs.Refusals.{KeepsQuery}
+use Rattle.ksql_analyse.proofs.Resolution.{calls-resolved, small-resolved}
+use Rattle.ksql_analyse.proofs.NamesTyped.{resolved-typed}
+use Rattle.ksql_analyse.proofs.SoundColumns.{each-append, each-map, each-of-map, each-weaker}
+use Rattle.ksql_analyse.proofs.SoundPlain.{exprs-hold}
+use Rattle.ksql_analyse.proofs.SoundQuery.{filter-part, group-part, on-part, items-part, having-part}
+use Rattle.ksql_analyse.proofs.SoundTrees.{each-both, each-false}
+
+-- ---- what is decided holds where it isn't false that it holds
+
+abbrev Stable : Type 0 → Type 0
+Stable P = ¬ ¬ P → P
+
+by-test : (P : Type 0) (b : Bool) → IsTrue b ↔ P → Stable P
+by-test P true d h = d.0 refl
+by-test P false d h = absurd (h (λ p. let e : false ≡ true = d.1 p in cc))
+
+each-stable : {A : Type 0} (P : A → Type 0) → ((x : A) → Stable (P x)) → (xs : List A) → Stable (rules.Each P xs)
+each-stable P s [] h = tt
+each-stable P s (x ∷ xs) h = (s x (λ no. h (λ p. no p.0)), each-stable P s xs (λ no. h (λ p. no p.1)))
+
+there-stable : {A : Type 0} (P : A → Type 0) → ((x : A) → Stable (P x)) → (o : Option A) → Stable (IfThere P o)
+there-stable P s None h = tt
+there-stable P s (Some x) h = s x h
+
+typed-stable : (s : Scope) (a : Expr) → Stable (HasSomeType s a)
+typed-stable s a = by-test (HasSomeType s a) (is_some_in (judged a s).types) (some_type s a)
+
+value-stable : (s : Scope) (c : Named) → Stable (HasValue s c.expr)
+value-stable s c = by-test (HasValue s c.expr) (decided.has_value (judged c.expr s).types) (value s c.expr)
+
+truth-stable : (s : Scope) (a : Expr) → Stable (CanBeTrue s a)
+truth-stable s a = by-test (CanBeTrue s a) (decided.can_be_true (judged a s).types) (truth s a)
+
+agreement-stable : (s : Scope) (sides : Expr × Expr) → Stable (CanAgree s sides)
+agreement-stable s sides =
+    by-test (CanAgree s sides) (decided.can_agree (judged sides.0 s).types (judged sides.1 s).types) (agreement s sides.0 sides.1)
+
+pub query-typed : (q : Select) (ks : List Known) → ¬ ¬ IsQueryTyped q ks → IsQueryTyped q ks
+query-typed q ks h = record {
+  early = each-stable (HasSomeType (from_scope q ks)) (typed-stable (from_scope q ks)) (early_exprs q) (λ no. h (λ t. no t.early));
+  late = each-stable (HasSomeType (item_scope q ks)) (typed-stable (item_scope q ks)) (late_exprs q) (λ no. h (λ t. no t.late));
+  where_true = there-stable (CanBeTrue (from_scope q ks)) (truth-stable (from_scope q ks)) q.filter (λ no. h (λ t. no t.where_true));
+  having_true = there-stable (CanBeTrue (item_scope q ks)) (truth-stable (item_scope q ks)) q.having (λ no. h (λ t. no t.having_true));
+  valued = each-stable (λ c. HasValue (item_scope q ks) c.expr) (value-stable (item_scope q ks)) (result_columns q ks) (λ no. h (λ t. no t.valued));
+  on_agrees = each-stable (λ on. IfThere (CanAgree (from_scope q ks)) (on_sides on))
+      (λ on. there-stable (CanAgree (from_scope q ks)) (agreement-stable (from_scope q ks)) (on_sides on)) (on_exprs q) (λ no. h (λ t. no t.on_agrees));
+}
+
+-- ---- expressions that have typed trees
+
+each-of : {A : Type 0} (P : A → Type 0) (xs : List A) → rules.Each P xs → Each P xs
+each-of P [] h = tt
+each-of P (x ∷ xs) h = (h.0, each-of P xs h.1)
+
+all-typable : (s : Scope) (es : List Expr) → Each IsSmall es → Each (λ a. has_unknown_function a ≡ false) es → Each (HasSomeType s) es → Each (IsTypable s) es
+all-typable s [] h k l = tt
+all-typable s (a ∷ es) h k l = (record { small = h.0; known = k.0; typed = l.0 }, all-typable s es h.1 k.1 l.1)
+
+resolved-typable : (s : Scope) → HasPlainColumns s → (a : Expr) → IsTypable s a → IsTypable s (resolved s a)
+resolved-typable s plain a h = record {
+  small = small-resolved s a ∙ h.small;
+  known = ap (list_any is_unknown) (calls-resolved s a) ∙ h.known;
+  typed = (h.typed.0, resolved-typed s plain a h.typed.0 h.typed.1);
+}
+
+-- its typed tree
+pub tree-of : (s : Scope) (a : Expr) → IsTypable s a → (x : Typed) × IsTypedTree s a x
+tree-of s a h = let r = accepted s a h.typed.0 h.known h.typed.1 in (r.0, r.1)
+
+-- the tree of a value has a type
+pub tree-valued : (s : Scope) (a : Expr) (x : Typed) → IsValued s a → IsTypedTree s a x → (t : SqlType) × (x.ty ≡ Some t)
+tree-valued s a x h k =
+    let r = accepted s a (Some h.value.0) h.typable.known h.value.1 in
+    (h.value.0, ap (λ y. y.ty) (one-tree s a x r.0 k r.1) ∙ r.2)
+
+part-of : (P : Expr → Type 0) (o : Option Expr) → Each P (there o) → IfThere P o
+part-of P None h = tt
+part-of P (Some a) h = h.0
+
+pub of-part : (P : Expr → Type 0) (o : Option Expr) → IfThere P o → Each P (there o)
+of-part P None h = tt
+of-part P (Some a) h = (h, tt)
+
+aggregables-of : (s : Scope) (a : Expr) → IsTypable s a → Each (IsAggregable s) (aggregates_of a)
+aggregables-of s a h =
+    let x = tree-of s a h in
+    each-weaker (IsFine s) (IsAggregable s) (λ b f. record {
+      typable = record { small = f.1; known = known s b f.0.0 f.0.1; typed = (f.0.0.ty, tree_type s b f.0.0 f.0.1) };
+      aggregate = λ y k. (f.0.2.0, f.0.2.1, ap (λ z. z.node) (one-tree s b y f.0.0 k f.0.1) ∙ f.0.2.2);
+    }) (aggregates_of a) (aggregates-fine s x.1.0 x.1.1 h.small)
+
+each-aggregable : (s : Scope) (es : List Expr) → Each (IsTypable s) es → Each (IsAggregable s) (flat_map aggregates_of es)
+each-aggregable s [] h = tt
+each-aggregable s (a ∷ es) h = each-append (IsAggregable s) (aggregates_of a) (flat_map aggregates_of es) (aggregables-of s a h.0) (each-aggregable s es h.1)
+
+-- ---- of an accepted query
+
+module _ (catalog : List Relation) (table : Bool) (name : List ℕ) (ps : List Property) (q : Select) (ks : List Known)
+    (keeps : KeepsQuery catalog table name ps q ks) (within : IsQueryWithin q)
+    (from_plain : HasPlainColumns (from_scope q ks)) (item_plain : HasPlainColumns (item_scope q ks)) where
+  abbrev front : Scope
+  front = from_scope q ks
+
+  abbrev items : Scope
+  items = item_scope q ks
+
+  typed : IsQueryTyped q ks
+  typed = query-typed q ks keeps.typed
+
+  pub early : Each (IsTypable front) (early_exprs q)
+  early =
+      all-typable front (early_exprs q) (recursion_from_All IsSmall (early_exprs q) within.early_small)
+      (each-false has_unknown_function (early_exprs q) keeps.early_known) (each-of (HasSomeType front) (early_exprs q) typed.early)
+
+  pub late : Each (IsTypable items) (late_exprs q)
+  late =
+      all-typable items (late_exprs q) (recursion_from_All IsSmall (late_exprs q) within.late_small)
+      (each-false has_unknown_function (late_exprs q) keeps.late_known) (each-of (HasSomeType items) (late_exprs q) typed.late)
+
+  pub filter-typable : Each (IsTypable front) (there q.filter)
+  filter-typable = filter-part (IsTypable front) q early
+
+  pub groups-typable : Each (IsTypable front) (group_exprs q ks)
+  groups-typable =
+      each-map (IsTypable front) (resolved front) q.group
+      (each-weaker (IsTypable front) (λ a. IsTypable front (resolved front a)) (resolved-typable front from_plain) q.group (group-part (IsTypable front) q early))
+
+  abbrev IsKnownSmall : Expr → Type 0
+  IsKnownSmall a = IsSmall a × (has_unknown_function a ≡ false)
+
+  name-small : (q : Option (List ℕ)) (n : List ℕ) → IsKnownSmall (e.Name q n)
+  name-small p n = (small-Name p n, ap (list_any is_unknown) (equation.calls-Name p n))
+
+  columns-small : Each (λ c. IsKnownSmall c.expr) (result_columns q ks)
+  columns-small =
+      exprs-hold IsKnownSmall q ks (λ alias n. name-small (Some alias) n)
+      (λ a h. (small-resolved items a ∙ h.0, ap (list_any is_unknown) (calls-resolved items a) ∙ h.1)) keeps.few
+      (items-part IsKnownSmall q (each-weaker (IsTypable items) IsKnownSmall (λ a h. (h.small, h.known)) (late_exprs q) late))
+
+  pub columns-valued : Each (λ c. IsValued items c.expr) (result_columns q ks)
+  columns-valued = all (result_columns q ks) columns-small (each-of (λ c. HasValue items c.expr) (result_columns q ks) typed.valued)
+    where
+      all : (cs : List Named) → Each (λ c. IsKnownSmall c.expr) cs → Each (λ c. HasValue items c.expr) cs → Each (λ c. IsValued items c.expr) cs
+      all [] h k = tt
+      all (c ∷ cs) h k =
+          (record { typable = record { small = h.0.0; known = h.0.1; typed = (Some k.0.0, k.0.1) }; value = k.0 }, all cs h.1 k.1)
+
+  pub having-typable : Each (IsTypable items) (there (option_map (resolved items) q.having))
+  having-typable = at q.having (having-part (IsTypable items) q late)
+    where
+      at : (o : Option Expr) → Each (IsTypable items) (there o) → Each (IsTypable items) (there (option_map (resolved items) o))
+      at None h = tt
+      at (Some a) h = (resolved-typable items item_plain a h.0, tt)
+
+  pub shown-typable : Each (IsTypable items) (shown_exprs q ks)
+  shown-typable =
+      each-append (IsTypable items) (exprs (result_columns q ks)) (there (option_map (resolved items) q.having))
+      (each-map (IsTypable items) (λ (c : Named). c.expr) (result_columns q ks)
+      (each-weaker (λ c. IsValued items c.expr) (λ c. IsTypable items c.expr) (λ c h. h.typable) (result_columns q ks) columns-valued))
+      having-typable
+
+  pub aggregates-typable : Each (IsAggregable items) (aggregate_exprs q ks)
+  aggregates-typable = once-each (IsAggregable items) (flat_map aggregates_of (shown_exprs q ks)) [] tt (each-aggregable items (shown_exprs q ks) shown-typable)

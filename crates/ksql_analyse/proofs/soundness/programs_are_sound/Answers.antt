@@ -1,0 +1,5 @@
+use Rattle.ksql_analyse.proofs.SoundPrograms.{sound}
+use Rattle.ksql_analyse.proofs.soundness.programs_are_sound.Goals as goal
+
+pub returns : goal.returns
+returns c = sound

@@ -1,0 +1,262 @@
+-- The judgement of statements: the program that they are, or their first refusal.
+use Rattle.std.specs.Prelude.{Result, Ok, Err, ◌≡◌, ℕ, suc, ◌+◌, ◌*◌, Bool, true, false, ◌⊎◌, if◌then◌else◌, List, [], ◌∷◌, ◌++◌, length, map, filter, not, Option, Some, None, is_some, unwrap_or, option_map, slice_get, IsTrue}
+use Rattle.std.specs.List.{flat_map}
+use Rattle.ksql_types.specs.declared.relation.Column.{Column}
+use Rattle.ksql_types.specs.declared.relation.Format.TheVariants.{Json}
+use Rattle.ksql_types.specs.declared.relation.Kind.{Kind}
+use Rattle.ksql_types.specs.declared.relation.Kind.TheVariants as kind
+use Rattle.ksql_types.specs.declared.relation.Relation.{Relation}
+use Rattle.ksql_types.specs.declared.value.SqlType.{SqlType}
+use Rattle.ksql_types.specs.declared.value.SqlType.TheVariants as sql
+use Rattle.ksql_grammar.specs.declared.tree.ColumnText.{ColumnText}
+use Rattle.ksql_grammar.specs.declared.tree.Expr.{Expr, out-Expr}
+use Rattle.ksql_grammar.specs.declared.tree.Expr.TheOpen.{Expr-F}
+use Rattle.ksql_grammar.specs.declared.tree.JoinWord.{JoinWord}
+use Rattle.ksql_grammar.specs.declared.tree.JoinWord.TheVariants as word
+use Rattle.ksql_grammar.specs.declared.tree.Property.{Property}
+use Rattle.ksql_grammar.specs.declared.tree.Select.{Select}
+use Rattle.ksql_grammar.specs.declared.tree.Statement.{Statement}
+use Rattle.ksql_grammar.specs.declared.tree.StatementBody.{StatementBody}
+use Rattle.ksql_grammar.specs.declared.tree.StatementBody.TheVariants as body
+use Rattle.ksql_types.specs.declared.code.Code.{Code}
+use Rattle.ksql_lexer.specs.declared.token.TokenKind.{TokenKind}
+use Rattle.ksql_parser.specs.Script.{AreTrees}
+use Rattle.ksql_expr.specs.declared.typed.Typed.{Typed}
+use Rattle.ksql_expr.specs.declared.typed.TypedNode.TheVariants as n
+use Rattle.ksql_program.specs.declared.program.Item.{Item}
+use Rattle.ksql_program.specs.declared.program.Program.{Program}
+use Rattle.ksql_program.specs.declared.program.Item.TheVariants.{Declared, Started}
+use Rattle.ksql_program.specs.declared.query.Agg.{Agg}
+use Rattle.ksql_program.specs.declared.query.From.{From}
+use Rattle.ksql_program.specs.declared.query.From.TheVariants as from
+use Rattle.ksql_program.specs.declared.query.JoinKind.{JoinKind}
+use Rattle.ksql_program.specs.declared.query.JoinKind.TheVariants as join
+use Rattle.ksql_program.specs.declared.query.Query.{Query}
+use Rattle.ksql_program.specs.declared.query.Shape.{Shape}
+use Rattle.ksql_program.specs.declared.query.Shape.TheVariants as shape
+use Rattle.ksql_program.specs.declared.query.Window.{Window}
+use Rattle.ksql_expr.specs.Rules.{agg_type}
+use Rattle.ksql_program.specs.Program.{relation_of, relations}
+use Rattle.ksql_program.specs.Sound.{argument_type}
+use Rattle.ksql_typing.specs.declared.scope.Scope.{Scope}
+use Rattle.ksql_typing.specs.declared.scope.ScopeColumn.{ScopeColumn}
+use Rattle.ksql_rules.specs.Breaks.{topic_of, key_columns, value_columns, result_format, is_grouped, group_exprs, shown_exprs, is_key}
+use Rattle.ksql_grouping.specs.Grouping.{aggregates_of, once_from, regrouped, late_column}
+use Rattle.ksql_clauses.specs.declared.items.Named.{Named}
+use Rattle.ksql_rules.specs.Keys.{join_key}
+use Rattle.ksql_rules.specs.Lowest.{IsAccepted, IsRefused}
+use Rattle.ksql_clauses.specs.Properties.{topic_in, partitions_in, format_in}
+use Rattle.ksql_clauses.specs.Resolved.{resolved}
+use Rattle.ksql_clauses.specs.declared.sources.Known.{Known}
+use Rattle.ksql_clauses.specs.Sources.{all_known, from_scope, item_scope, reads_stream}
+use Rattle.ksql_expr.specs.Typing.{IsTyped}
+use Rattle.ksql_typing.specs.Standing.{Stands, one, IsTypedTree}
+use Rattle.ksql_clauses.specs.Windows.{window_of}
+use Rattle.ksql_analyse.specs.declared.fault.AnalyseFault.{AnalyseFault}
+use Rattle.ksql_analyse.specs.declared.fault.AnalyseFault.TheVariants.{Refused, OutOfMemory}
+
+-- ---- the relation of a declaration
+
+abbrev pub column_of : ColumnText → Column
+column_of c = record { name = c.name; ty = c.ty }
+
+abbrev pub kind_of : Bool → Kind
+kind_of table = if table then kind.Table else kind.Stream
+
+-- JSON and one partition, unless the properties say otherwise
+abbrev pub declared_relation : ℕ → Statement → List ColumnText → List Property → Relation
+declared_relation number st cs ps = record {
+  number = number;
+  name = st.name;
+  kind = kind_of st.table;
+  schema = record { keys = map column_of (filter is_key cs); values = map column_of (filter (λ c. not (is_key c)) cs) };
+  topic = unwrap_or (topic_in ps) [];
+  partitions = unwrap_or (partitions_in ps) 1;
+  format = unwrap_or (format_in ps) Json;
+  declared = true;
+}
+
+-- ---- the program of a query
+
+abbrev pub join_kind : JoinWord → JoinKind
+join_kind word.Inner = join.Inner
+join_kind word.Left = join.Left
+join_kind word.Full = join.Full
+
+-- what a query reads
+abbrev pub IsFrom : Select → List Known → From → Type 0
+IsFrom q ks (from.One number) = (k : Known) × (ks ≡ k ∷ []) × (number ≡ k.relation.number)
+IsFrom q ks (from.Join k left right on) =
+    (l : Known) × (r : Known) × (ks ≡ l ∷ r ∷ []) × (option_map (λ j. join_kind j.kind) q.join ≡ Some k)
+    × (left ≡ l.relation.number) × (right ≡ r.relation.number)
+    × (a : Expr) × (join_key q ks ≡ Some a) × IsTypedTree (from_scope q ks) a on
+
+-- the typed tree of a part that may be left out
+abbrev pub IsTypedPart : Scope → Option Expr → Option Typed → Type 0
+IsTypedPart s None None = Unit {0}
+IsTypedPart s (Some a) (Some x) = IsTypedTree s a x
+IsTypedPart s _ _ = ⊥
+
+-- the typed trees of some expressions
+abbrev pub AreTypedTrees : Scope → List Expr → List Typed → Type 0
+AreTypedTrees s [] [] = Unit {0}
+AreTypedTrees s (a ∷ es) (x ∷ xs) = IsTypedTree s a x × AreTypedTrees s es xs
+AreTypedTrees s _ _ = ⊥
+
+abbrev pub exprs : List Named → List Expr
+exprs cs = map (λ c. c.expr) cs
+
+-- the aggregates of a query: those of its items and then those of HAVING, equal ones once
+abbrev pub aggregate_exprs : Select → List Known → List Expr
+aggregate_exprs q ks = once_from [] (flat_map aggregates_of (shown_exprs q ks))
+
+-- an aggregate, as a typed tree
+abbrev pub IsAgg : Scope → Expr → Agg → Type 0
+IsAgg s a g = (t : Typed) × IsTypedTree s a t × (t.node ≡ n.Aggregate g.fun g.arg)
+
+abbrev pub AreAggs : Scope → List Expr → List Agg → Type 0
+AreAggs s [] [] = Unit {0}
+AreAggs s (a ∷ es) (g ∷ gs) = IsAgg s a g × AreAggs s es gs
+AreAggs s _ _ = ⊥
+
+-- the columns of a row behind a grouping have no names that a script can write; their types are said beside
+abbrev pub name_in : {A B : Type 0} → Expr-F A B → List ℕ
+name_in (Expr-F.Name q name) = name
+name_in form = []
+
+unfoldable pub late_columns : ℕ → List (Option SqlType) → List ScopeColumn
+late_columns number [] = []
+late_columns number (t ∷ ts) =
+    record { alias = Some []; column = record { name = name_in (out-Expr (late_column number)); ty = unwrap_or t sql.Bool } } ∷ late_columns (suc number) ts
+
+-- what HAVING and the items can name behind a grouping: the keys, the aggregates and, where there is a window, its start
+-- and end
+abbrev pub late_scope : Select → List (Option SqlType) → Scope
+late_scope q types = record { columns = late_columns 0 types; stream = false; windowed = is_some q.window }
+
+-- the types of a row behind a grouping
+abbrev pub late_types : Select → List (Option SqlType) → List (Option SqlType)
+late_types q types = types ++ (if is_some q.window then Some sql.Big ∷ Some sql.Big ∷ [] else [])
+
+-- the typed tree of an expression behind a grouping
+abbrev pub IsLateTree : Select → List (Option SqlType) → Expr → Typed → Type 0
+IsLateTree q types a x = Stands (late_scope q types) (one a x) × IsTyped (late_types q types) x
+
+abbrev pub IsLatePart : Select → List (Option SqlType) → Option Expr → Option Typed → Type 0
+IsLatePart q types None None = Unit {0}
+IsLatePart q types (Some a) (Some x) = IsLateTree q types a x
+IsLatePart q types _ _ = ⊥
+
+abbrev pub AreLateTrees : Select → List (Option SqlType) → List Expr → List Typed → Type 0
+AreLateTrees q types [] [] = Unit {0}
+AreLateTrees q types (a ∷ es) (x ∷ xs) = IsLateTree q types a x × AreLateTrees q types es xs
+AreLateTrees q types _ _ = ⊥
+
+-- an expression behind a grouping
+abbrev pub late : Select → List Known → Expr → Expr
+late q ks a = regrouped (group_exprs q ks) (aggregate_exprs q ks) a
+
+-- the types of the group expressions and of the aggregates
+abbrev pub AreLateTypes : List Typed → List Agg → List (Option SqlType) → Type 0
+AreLateTypes keys aggs types = map (λ x. Some x.ty) keys ++ map (λ g. agg_type g.fun (argument_type g.arg)) aggs ≡ map Some types
+
+-- what is made of the rows
+abbrev pub IsShape : Select → List Known → Shape → Type 0
+IsShape q ks (shape.Plain keys values) =
+    IsTrue (not (is_grouped q)) × AreTypedTrees (item_scope q ks) (exprs (key_columns q ks)) keys
+    × AreTypedTrees (item_scope q ks) (exprs (value_columns q ks)) values
+IsShape q ks (shape.Group keys window aggs having values) =
+    IsTrue (is_grouped q) × (window ≡ option_map window_of q.window) × AreTypedTrees (from_scope q ks) (group_exprs q ks) keys
+    × AreAggs (item_scope q ks) (aggregate_exprs q ks) aggs
+    × ((types : List (Option SqlType)) × AreLateTypes keys aggs types
+    × IsLatePart q types (option_map (λ h. late q ks (resolved (item_scope q ks) h)) q.having) having
+    × AreLateTrees q types (map (late q ks) (exprs (value_columns q ks))) values)
+
+-- ---- the relation of a query
+
+abbrev pub shape_keys : Shape → List Typed
+shape_keys (shape.Plain keys values) = keys
+shape_keys (shape.Group keys window aggs having values) = keys
+
+abbrev pub shape_values : Shape → List Typed
+shape_values (shape.Plain keys values) = values
+shape_values (shape.Group keys window aggs having values) = values
+
+-- the kind of a result: that of the left source, or of a grouping a table, with a window or without
+abbrev pub result_kind : Select → List Known → Kind
+result_kind q ks = if is_grouped q then (if is_some q.window then kind.Windowed else kind.Table) else if reads_stream ks then kind.Stream else kind.Table
+
+-- columns have the names and the types of expressions, one by one
+abbrev pub AreColumnsOf : List Named → List Typed → List Column → Type 0
+AreColumnsOf cs xs columns = (map (λ c. c.name) columns ≡ map (λ c. c.name) cs) × (map (λ c. Some c.ty) columns ≡ map (λ x. x.ty) xs)
+
+abbrev pub left_partitions : List Known → ℕ
+left_partitions [] = 1
+left_partitions (k ∷ ks) = k.relation.partitions
+
+pub record IsResult (number : ℕ) (st : Statement) (ps : List Property) (q : Select) (ks : List Known) (made : Shape) (r : Relation) : Type 0 where
+  pub numbered : r.number ≡ number
+  pub named : r.name ≡ st.name
+  pub kinded : r.kind ≡ result_kind q ks
+  pub keyed : AreColumnsOf (key_columns q ks) (shape_keys made) r.schema.keys
+  pub valued : AreColumnsOf (value_columns q ks) (shape_values made) r.schema.values
+  pub topic : Some r.topic ≡ topic_of st.name st.body
+  pub partitions : r.partitions ≡ unwrap_or (partitions_in ps) (left_partitions ks)
+  pub format : r.format ≡ result_format ps ks
+  pub query : r.declared ≡ false
+
+-- the query of a statement, over these sources
+pub record IsQuery (number : ℕ) (st : Statement) (ps : List Property) (q : Select) (ks : List Known) (made : Query) : Type 0 where
+  pub reads : IsFrom q ks made.from
+  pub filters : IsTypedPart (from_scope q ks) q.filter made.filter
+  pub makes : IsShape q ks made.shape
+  pub gives : IsResult number st ps q ks made.shape made.out
+
+-- the item of an accepted statement, where these relations stand before it
+abbrev pub IsItemOf : List Relation → Statement → Item → Type 0
+IsItemOf catalog st i = of st.body i
+  where
+    of : StatementBody → Item → Type 0
+    of (body.Declared cs ps) (Declared r) = r ≡ declared_relation (length catalog) st cs ps
+    of (body.Query ps q) (Started made) = IsQuery (length catalog) st ps q (all_known catalog q) made
+    of _ _ = ⊥
+
+-- ---- statements
+
+-- the items of statements behind other items: each statement is accepted behind those before it
+pub data Judged : List Item → List Statement → List Item → Type 0 where
+  done : {items : List Item} → Judged items [] items
+  next : {before items : List Item} {st : Statement} {sts : List Statement} (i : Item) → IsAccepted (relations before) st
+      → IsItemOf (relations before) st i → Judged (before ++ i ∷ []) sts items → Judged before (st ∷ sts) items
+
+-- the first statement that is refused has this number, and this is its lowest code
+pub data FirstRefused : List Item → List Statement → ℕ → Code → Type 0 where
+  here : {before : List Item} {st : Statement} {sts : List Statement} {c : Code} → IsRefused (relations before) st c
+      → FirstRefused before (st ∷ sts) 1 c
+  later : {before : List Item} {st : Statement} {sts : List Statement} {number : ℕ} {c : Code} (i : Item) → IsAccepted (relations before) st
+      → IsItemOf (relations before) st i → FirstRefused (before ++ i ∷ []) sts number c → FirstRefused before (st ∷ sts) (suc number) c
+
+-- the program of statements
+abbrev pub IsProgramOf : List Statement → List Item → Type 0
+IsProgramOf sts items = Judged [] sts items
+
+-- their first refusal
+abbrev pub AreRefused : List Statement → ℕ → Code → Type 0
+AreRefused sts number c = FirstRefused [] sts number c
+
+-- ---- what is answered
+
+-- statements that are the trees of some tokens, none of which the grammar's rules refuse
+abbrev pub AreParsed : List Statement → Type 0
+AreParsed sts = (parts : List (List TokenKind)) × AreTrees parts sts
+
+-- an answer is so: the program of the statements, or their first refusal
+abbrev pub IsJudgement : List Statement → Result Program AnalyseFault → Type 0
+IsJudgement sts (Ok program) = IsProgramOf sts program.items
+IsJudgement sts (Err (Refused number c)) = AreRefused sts number c
+IsJudgement sts (Err OutOfMemory) = Unit {0}
+
+-- what is answered is this, unless memory ran out
+abbrev pub Answers : Result Program AnalyseFault → Result Program AnalyseFault → Type 0
+Answers (Err OutOfMemory) wanted = Unit {0}
+Answers answer wanted = answer ≡ wanted

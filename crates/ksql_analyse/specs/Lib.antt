@@ -1,0 +1,5 @@
+pub mod Judgement
+pub mod Next
+pub mod Plain
+pub mod Readable
+pub mod Typable

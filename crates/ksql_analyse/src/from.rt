@@ -1,0 +1,75 @@
+//! What a query reads, as a part of its program.
+
+ghost use Rattle.std.specs.Prelude.{◌≡◌, ◌≤◌, ◌-◌, ◌^◌, ◌∷◌, [], All, IfOk, length};
+ghost use Rattle.ksql_clauses.specs.Sources as sources;
+ghost use Rattle.ksql_typing.specs.Uses.{IsSmall};
+ghost use Rattle.ksql_analyse.specs.Judgement as spec;
+
+use crate::trees::tree_of;
+use ksql_clauses::Known;
+use ksql_grammar::{JoinWord, Select};
+use ksql_program::{From, JoinKind};
+use ksql_rules::join_key;
+use ksql_typing::Scope;
+use std::alloc::{AllocError, Global};
+
+/// What a query reads: one relation, or two that are joined. An error says that memory is short, or that there is no
+/// such query.
+pub(crate) fn from_of(
+    alloc: Global,
+    scope: &Scope,
+    select: &Select,
+    known: &[Known],
+) -> Result<From, AllocError>
+    requires of_from { scope.now ≡ sources.from_scope select.now known.now }
+    requires small { All IsSmall (sources.early_exprs select.now) }
+    requires columns { length scope.now.columns ≤ 2 ^ 32 - 2 }
+    ensures { IfOk result (λ from. spec.IsFrom select.now known.now from) }
+{
+    match known {
+        [one] => Ok(From::One {
+            relation: one.relation.number,
+        }),
+        [left, right] => joined(alloc, scope, select, known, left, right),
+        _ => Err(AllocError),
+    }
+}
+
+/// A join of two relations.
+fn joined(
+    alloc: Global,
+    scope: &Scope,
+    select: &Select,
+    known: &[Known],
+    left: &Known,
+    right: &Known,
+) -> Result<From, AllocError>
+    requires of_from { scope.now ≡ sources.from_scope select.now known.now }
+    requires two { known.now ≡ left.now ∷ right.now ∷ [] }
+    requires small { All IsSmall (sources.early_exprs select.now) }
+    requires columns { length scope.now.columns ≤ 2 ^ 32 - 2 }
+    ensures { IfOk result (λ from. spec.IsFrom select.now known.now from) }
+{
+    let Some(join) = &select.join else {
+        return Err(AllocError);
+    };
+    let Some(key) = join_key(alloc, scope, select, known)? else {
+        return Err(AllocError);
+    };
+    Ok(From::Join {
+        kind: join_kind(join.kind),
+        left: left.relation.number,
+        right: right.relation.number,
+        on: tree_of(alloc, scope, key)?,
+    })
+}
+
+fn join_kind(word: JoinWord) -> JoinKind
+    ensures { result ≡ spec.join_kind word }
+{
+    match word {
+        JoinWord::Inner => JoinKind::Inner,
+        JoinWord::Left => JoinKind::Left,
+        JoinWord::Full => JoinKind::Full,
+    }
+}

@@ -1,0 +1,16 @@
+//! Laws of the judgement. None of these functions does anything.
+ghost use Rattle.std.specs.Prelude.{◌≡◌, List, ℕ};
+ghost use Rattle.ksql_grammar.specs.declared.tree.Statement.{Statement as OneStatement};
+ghost use Rattle.ksql_program.specs.declared.program.Item.{Item as OneItem};
+ghost use Rattle.ksql_types.specs.declared.code.Code.{Code as OneCode};
+ghost use Rattle.ksql_analyse.specs.Judgement.{AreRefused, IsProgramOf};
+
+/// Statements have at most one program, or one refusal, and not both.
+pub fn one_judgement()
+    ensures program { (statements : List OneStatement) (a b : List OneItem) → IsProgramOf statements a → IsProgramOf statements b
+        → a ≡ b }
+    ensures refusal { (statements : List OneStatement) (m n : ℕ) (c d : OneCode) → AreRefused statements m c → AreRefused statements n d
+        → (m ≡ n) × (c ≡ d) }
+    ensures not_both { (statements : List OneStatement) (items : List OneItem) (number : ℕ) (code : OneCode) → IsProgramOf statements items
+        → AreRefused statements number code → ⊥ }
+{}

@@ -1,0 +1,22 @@
+//! The judgement of statements: the program that they are, or their first refusal.
+#![tactic(auto)]
+
+mod declaration;
+mod fault;
+mod from;
+mod grouped;
+mod item;
+mod judgement;
+mod laws;
+mod query;
+mod reading;
+mod result;
+mod shape;
+mod soundness;
+mod trees;
+
+pub use fault::AnalyseFault;
+pub use judgement::analyse;
+pub use ksql_typing::{Scope, ScopeColumn, ScopeColumns, TypeFault, typed};
+pub use laws::one_judgement;
+pub use soundness::programs_are_sound;

@@ -1,0 +1,75 @@
+//! The typed trees of a query's expressions.
+
+ghost use Rattle.std.specs.Prelude.{◌≡◌, ◌≤◌, ◌-◌, ◌^◌, All, length, map, IfOk};
+ghost use Rattle.ksql_typing.specs.Standing.{IsTypedTree};
+ghost use Rattle.ksql_typing.specs.Uses.{IsSmall};
+ghost use Rattle.ksql_clauses.specs.Sources.{there};
+ghost use Rattle.ksql_analyse.specs.Judgement.{AreTypedTrees, IsTypedPart, exprs};
+
+use ksql_clauses::Named;
+use ksql_expr::Typed;
+use ksql_grammar::Expr;
+use ksql_typing::{Scope, typed};
+use std::alloc::{AllocError, Global};
+
+/// The typed tree of an expression. An error says that memory is short, or that there is none.
+pub(crate) fn tree_of(alloc: Global, scope: &Scope, expr: &Expr) -> Result<Typed, AllocError>
+    requires small { IsSmall expr.now }
+    requires columns { length scope.now.columns ≤ 2 ^ 32 - 2 }
+    ensures { IfOk result (λ tree. IsTypedTree scope.now expr.now tree) }
+{
+    match typed(alloc, expr, scope) {
+        Ok(tree) => Ok(tree),
+        Err(_) => Err(AllocError),
+    }
+}
+
+/// The typed trees of expressions.
+pub(crate) fn trees_of(
+    alloc: Global,
+    scope: &Scope,
+    exprs: &[Expr],
+) -> Result<Vec<Typed>, AllocError>
+    requires small { All IsSmall exprs.now }
+    requires columns { length scope.now.columns ≤ 2 ^ 32 - 2 }
+    ensures { IfOk result (λ trees. AreTypedTrees scope.now exprs.now trees.items) }
+{
+    let mut trees = Vec::new(alloc);
+    for expr in exprs {
+        trees.push(tree_of(alloc, scope, expr)?)?;
+    }
+    Ok(trees)
+}
+
+/// The typed trees of the expressions of columns.
+pub(crate) fn column_trees(
+    alloc: Global,
+    scope: &Scope,
+    columns: &[&Named],
+) -> Result<Vec<Typed>, AllocError>
+    requires small { All (λ c. IsSmall c.now.expr) columns.now }
+    requires columns { length scope.now.columns ≤ 2 ^ 32 - 2 }
+    ensures { IfOk result (λ trees. AreTypedTrees scope.now (exprs (map (λ c. c.now) columns.now)) trees.items) }
+{
+    let mut trees = Vec::new(alloc);
+    for column in columns {
+        trees.push(tree_of(alloc, scope, &column.expr)?)?;
+    }
+    Ok(trees)
+}
+
+/// The typed tree of a part that may be left out.
+pub(crate) fn part_tree(
+    alloc: Global,
+    scope: &Scope,
+    part: &Option<Expr>,
+) -> Result<Option<Typed>, AllocError>
+    requires small { All IsSmall (there part.now) }
+    requires columns { length scope.now.columns ≤ 2 ^ 32 - 2 }
+    ensures { IfOk result (λ tree. IsTypedPart scope.now part.now tree) }
+{
+    match part {
+        None => Ok(None),
+        Some(expr) => Ok(Some(tree_of(alloc, scope, expr)?)),
+    }
+}

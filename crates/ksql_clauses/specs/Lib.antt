@@ -1,0 +1,5 @@
+pub mod Items
+pub mod Properties
+pub mod Resolved
+pub mod Sources
+pub mod Windows

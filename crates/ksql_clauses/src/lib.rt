@@ -1,0 +1,17 @@
+//! The clauses of a query and of a declaration: sources, result columns, windows and properties.
+#![tactic(auto)]
+
+mod full_names;
+mod items;
+mod properties;
+mod sources;
+mod windows;
+
+pub use full_names::{first_known_as, full_name, is_known_as, is_row_time, resolved};
+pub use items::{Named, is_join, made_name, result_columns};
+pub use properties::{are_bad, format_in, has_topic, is_word, partitions_in, topic_in, value_of};
+pub use sources::{
+    Known, alias_of, all_known, from_scope, has_unknown_source, have_one_alias, is_full, is_stream,
+    is_windowed, item_scope, joined_streams, reads_stream,
+};
+pub use windows::{is_bad, is_too_large, window_of};

@@ -1,0 +1,40 @@
+-- What a sound program keeps that its topic files and its report ask for.
+use Rattle.std.proofs.Common.{◌≡◌, ℕ, List, [], ◌∷◌, ◌++◌, length, arith}
+use Rattle.std.specs.Prelude.{All, IsTrue, ◌≤◌, map}
+use Rattle.std.proofs.lemmas.Bool.Decides.{nat_tests}
+use Rattle.std.proofs.lemmas.List.Elements.{All-cons, All-nil}
+use Rattle.ksql_program.specs.declared.program.Item.{Item}
+use Rattle.ksql_program.specs.declared.program.Item.TheVariants.{Declared, Started}
+use Rattle.ksql_program.specs.Names.{is_topic_name}
+use Rattle.ksql_program.specs.Program.{relations}
+use Rattle.ksql_program.specs.Sound.{AreSoundItems, IsSound}
+use Rattle.run_text.specs.Report.{HasPartitions}
+use Rattle.ksql_cli.specs.Command.{declared_of}
+use Rattle.ksql_cli.specs.Steps.{IsFeedable}
+
+-- a legal topic name is short
+legal_short : (topic : List ℕ) → IsTrue (is_topic_name topic) → length topic ≤ 249
+legal_short topic legal = grind (arith, nat_tests)
+
+each_feedable : (before is : List Item) → AreSoundItems before is → All IsFeedable (declared_of is)
+each_feedable before [] sound = All-nil IsFeedable
+each_feedable before (Declared r ∷ is) sound =
+    All-cons IsFeedable r (declared_of is)
+    (record { short = legal_short r.topic sound.0.0.topic_named; some = sound.0.0.some_partition; few = sound.0.0.partitions_few })
+    (each_feedable (before ++ Declared r ∷ []) is sound.1)
+each_feedable before (Started q ∷ is) sound = each_feedable (before ++ Started q ∷ []) is sound.1
+
+pub feedable : (items : List Item) → IsSound items → All IsFeedable (declared_of items)
+feedable items sound = each_feedable [] items sound.sound
+
+each_parted : (before is : List Item) → AreSoundItems before is → All HasPartitions (relations is)
+each_parted before [] sound = All-nil HasPartitions
+each_parted before (Declared r ∷ is) sound =
+    All-cons HasPartitions r (relations is) (record { some = sound.0.0.some_partition; few = sound.0.0.partitions_few })
+    (each_parted (before ++ Declared r ∷ []) is sound.1)
+each_parted before (Started q ∷ is) sound =
+    All-cons HasPartitions q.out (relations is) (record { some = sound.0.0.some_partition; few = sound.0.0.partitions_few })
+    (each_parted (before ++ Started q ∷ []) is sound.1)
+
+pub parted : (items : List Item) → IsSound items → All HasPartitions (relations items)
+parted items sound = each_parted [] items sound.sound

@@ -1,0 +1,48 @@
+use Rattle.std.proofs.Common.{rules}
+use Rattle.ksql_cli.specs.Command.{declared_of, topic_file}
+use Rattle.ksql_cli.proofs.TopicLaws.{all_caused, all_due, all_found, all_joined, declared_first, rest_feedable, rest_of}
+use Rattle.ksql_cli.proofs.topics.+read_topics.Goals as goal
+
+pub read_topics-requires-in-Ok : goal.read_topics-requires-in-Ok
+read_topics-requires-in-Ok g t c κs within =
+    let first = declared_first c.args.items.now c.first-item.result c.in-Declared.relation c.in-len1-up.len_at_least c.first-item.is c.in-Declared.is in (
+      search rules,
+      (
+        search rules,
+        (
+          rest_feedable c.in-Declared.relation (declared_of (rest_of c.args.items.now)) (declared_of c.args.items.now) first c.requires.feedable,
+          (c.in-Ok.ensures.few, c.in-Ok.ensures.short),
+        ),
+      ),
+    )
+
+pub returns-in-Ok-clause-found : goal.returns-in-Ok-clause-found
+returns-in-Ok-clause-found g t c =
+    all_found c.read_topics-in-Ok.result (λ records. records.items) (g.F.Folder.files c.args.folder.now) (g.F.Folder.files c.with_topic.new.folder)
+    c.args.reading.room c.in-Ok.reading.room c.in-Declared.relation (declared_of (rest_of c.args.items.now)) (declared_of c.args.items.now)
+    c.args.reading.records.items c.in-Ok.reading.records.items
+    (declared_first c.args.items.now c.first-item.result c.in-Declared.relation c.in-len1-up.len_at_least c.first-item.is c.in-Declared.is)
+    c.in-Ok.ensures.same_files c.in-Ok.ensures.found c.read_topics-in-Ok.ensures.found
+
+pub returns-in-Ok-clause-cause : goal.returns-in-Ok-clause-cause
+returns-in-Ok-clause-cause g t c =
+    all_caused c.read_topics-in-Ok.result (g.F.Folder.files c.args.folder.now) (g.F.Folder.files c.with_topic.new.folder)
+    c.args.reading.room c.in-Ok.reading.room c.in-Declared.relation (declared_of (rest_of c.args.items.now)) (declared_of c.args.items.now)
+    c.args.reading.records.items c.in-Ok.reading.records.items
+    (g.F.Folder.failed c.args.folder.now) (g.F.Folder.failed c.with_topic.new.folder) (g.F.Folder.failed c.read_topics-in-Ok.new.folder)
+    (declared_first c.args.items.now c.first-item.result c.in-Declared.relation c.in-len1-up.len_at_least c.first-item.is c.in-Declared.is)
+    c.in-Ok.ensures.same_files c.in-Ok.ensures.found c.in-Ok.ensures.grows c.read_topics-in-Ok.ensures.cause
+
+pub returns-in-Ok-clause-joined : goal.returns-in-Ok-clause-joined
+returns-in-Ok-clause-joined g t c =
+    all_joined c.read_topics-in-Ok.result (g.F.Folder.failed c.args.folder.now) (g.F.Folder.failed c.with_topic.new.folder) (g.F.Folder.failed c.read_topics-in-Ok.new.folder)
+    (topic_file c.in-Declared.relation) c.in-Ok.ensures.grows c.read_topics-in-Ok.ensures.joined
+
+pub returns-in-Ok-clause-reads : goal.returns-in-Ok-clause-reads
+returns-in-Ok-clause-reads g t c =
+    all_due (g.F.Folder.files c.args.folder.now) (g.F.Folder.files c.with_topic.new.folder)
+    c.args.reading.room c.in-Ok.reading.room c.in-Declared.relation (declared_of (rest_of c.args.items.now)) (declared_of c.args.items.now)
+    c.args.reading.records.items c.in-Ok.reading.records.items
+    (g.F.Folder.failed c.args.folder.now) (g.F.Folder.failed c.with_topic.new.folder) (g.F.Folder.failed c.read_topics-in-Ok.new.folder)
+    (declared_first c.args.items.now c.first-item.result c.in-Declared.relation c.in-len1-up.len_at_least c.first-item.is c.in-Declared.is)
+    c.in-Ok.ensures.same_files c.in-Ok.ensures.found c.in-Ok.ensures.grows c.read_topics-in-Ok.ensures.reads

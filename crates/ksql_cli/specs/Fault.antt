@@ -1,0 +1,63 @@
+-- The line that says why a command was refused.
+use Rattle.std.specs.Prelude.{ℕ, List, [], ◌++◌, codes, decimal}
+use Rattle.ksql_types.specs.declared.code.Code.{Code}
+use Rattle.ksql_types.specs.declared.code.Code.TheVariants.{Syntax, TooLarge, UnknownRelation, NameTaken, UnknownColumn, AmbiguousColumn, DuplicateColumn, TypeMismatch, WrongKind, KeyMissing, JoinNotOnKey, PartitionMismatch, AggregateMisuse, BadWindow, Unsupported, BadProperty}
+use Rattle.topic_files.specs.declared.topic.LineWhy.{LineWhy}
+use Rattle.topic_files.specs.declared.topic.LineWhy.TheVariants as why
+use Rattle.ksql_cli.specs.declared.status.Status.{Status}
+use Rattle.ksql_cli.specs.declared.status.Status.TheVariants as ended
+
+-- a code of refusal, and its name
+abbrev pub code_text : Code → List ℕ
+code_text Syntax = codes "S1 Syntax"
+code_text TooLarge = codes "S2 TooLarge"
+code_text UnknownRelation = codes "S3 UnknownRelation"
+code_text NameTaken = codes "S4 NameTaken"
+code_text UnknownColumn = codes "S5 UnknownColumn"
+code_text AmbiguousColumn = codes "S6 AmbiguousColumn"
+code_text DuplicateColumn = codes "S7 DuplicateColumn"
+code_text TypeMismatch = codes "S8 TypeMismatch"
+code_text WrongKind = codes "S9 WrongKind"
+code_text KeyMissing = codes "S10 KeyMissing"
+code_text JoinNotOnKey = codes "S11 JoinNotOnKey"
+code_text PartitionMismatch = codes "S12 PartitionMismatch"
+code_text AggregateMisuse = codes "S13 AggregateMisuse"
+code_text BadWindow = codes "S14 BadWindow"
+code_text Unsupported = codes "S15 Unsupported"
+code_text BadProperty = codes "S16 BadProperty"
+
+abbrev pub why_text : LineWhy → List ℕ
+why_text why.BadLine = codes "BadLine"
+why_text why.TooLarge = codes "TooLarge"
+
+-- the line of a script that is refused in this statement by this code
+unfoldable pub script_line : ℕ → Code → List ℕ
+script_line statement code =
+    codes "ksql: script statement " ++ (decimal statement ++ (codes ": " ++ (code_text code ++ codes "\n")))
+
+-- the line of a topic file that is refused at this line
+unfoldable pub topic_line : List ℕ → ℕ → LineWhy → List ℕ
+topic_line topic line why =
+    codes "ksql: topic " ++ (topic ++ (codes " line " ++ (decimal line ++ (codes ": " ++ (why_text why ++ codes "\n")))))
+
+-- the line of a file that can't be read
+unfoldable pub read_line : List ℕ → List ℕ
+read_line name = codes "ksql: cannot read " ++ (name ++ codes "\n")
+
+-- the line of words that aren't a command
+unfoldable pub usage_line : List ℕ
+usage_line = codes "ksql: bad command line\n"
+
+-- the line of want of memory
+unfoldable pub memory_line : List ℕ
+memory_line = codes "ksql: out of memory\n"
+
+-- the line of a refusal; a command whose own text was begun has none
+abbrev pub fault_line : Status → List ℕ
+fault_line ended.Done = []
+fault_line ended.Usage = usage_line
+fault_line (ended.Script statement code) = script_line statement code
+fault_line (ended.TopicFile topic line why) = topic_line topic line why
+fault_line (ended.ReadFault name) = read_line name
+fault_line ended.WriteFault = []
+fault_line ended.OutOfMemory = memory_line

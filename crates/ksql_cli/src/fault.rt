@@ -1,0 +1,163 @@
+//! The line that says why a command was refused.
+
+ghost use Rattle.std.specs.Prelude.{◌≡◌, ◌≤◌, ◌++◌, IsOk, OnErr, OnOk};
+ghost use Rattle.ksql_outside.specs.Outside.{followed_by, Rose, WrotePrefix};
+ghost use Rattle.ksql_cli.specs.Fault as spec;
+
+use crate::status::Status;
+use itoa::Buffer;
+use ksql_outside::{Failed, Sink, write_whole};
+use ksql_types::{Chars, Code};
+use topic_files::LineWhy;
+
+/// Tries to write the fault line of a status: all of it, or a front of it where a write failed. Takes no memory.
+pub(crate) fn write_fault<K: Sink>(out: &mut K, status: &Status) -> Result<(), Failed>
+    ensures whole { OnOk result (K.written out.new ≡ followed_by (K.written out.old) (spec.fault_line status.now)) }
+    ensures prefix { OnErr result (WrotePrefix (K.written out.old) (K.written out.new) (spec.fault_line status.now)) }
+    ensures count { K.faults out.old ≤ K.faults out.new }
+    ensures succeeds { ¬ Rose (K.faults out.old) (K.faults out.new) → IsOk result }
+{
+    match status {
+        Status::Done | Status::WriteFault => write_whole(out, b""),
+        Status::Usage => write_whole(out, b"ksql: bad command line\n"),
+        Status::Script { statement, code } => write_script_line(out, *statement, *code),
+        Status::TopicFile { topic, line, why } => write_topic_line(out, topic, *line, *why),
+        Status::ReadFault { name } => {
+            write_three(out, b"ksql: cannot read ", name.items().as_bytes(), b"\n")
+        }
+        Status::OutOfMemory => write_whole(out, b"ksql: out of memory\n"),
+    }
+}
+
+/// Tries to write the fault line of a script that was refused in this statement by this code.
+fn write_script_line<K: Sink>(out: &mut K, statement: u32, code: Code) -> Result<(), Failed>
+    ensures whole { OnOk result (K.written out.new ≡ followed_by (K.written out.old) (spec.script_line statement code)) }
+    ensures prefix { OnErr result (WrotePrefix (K.written out.old) (K.written out.new) (spec.script_line statement code)) }
+    ensures count { K.faults out.old ≤ K.faults out.new }
+    ensures succeeds { ¬ Rose (K.faults out.old) (K.faults out.new) → IsOk result }
+{
+    let mut number = Buffer::new();
+    let statement = number.format(statement).as_bytes();
+    write_five(
+        out,
+        b"ksql: script statement ",
+        statement,
+        b": ",
+        code_text(code).as_bytes(),
+        b"\n",
+    )
+}
+
+/// Tries to write the fault line of a topic file that was refused at this line.
+fn write_topic_line<K: Sink>(
+    out: &mut K,
+    topic: &Chars,
+    line: u32,
+    why: LineWhy,
+) -> Result<(), Failed>
+    ensures whole { OnOk result (K.written out.new ≡ followed_by (K.written out.old) (spec.topic_line topic.now line why)) }
+    ensures prefix { OnErr result (WrotePrefix (K.written out.old) (K.written out.new) (spec.topic_line topic.now line why)) }
+    ensures count { K.faults out.old ≤ K.faults out.new }
+    ensures succeeds { ¬ Rose (K.faults out.old) (K.faults out.new) → IsOk result }
+{
+    let mut number = Buffer::new();
+    let line = number.format(line).as_bytes();
+    write_three(out, b"ksql: topic ", topic.items().as_bytes(), b" line ")?;
+    write_four(out, line, b": ", why_text(why).as_bytes(), b"\n")
+}
+
+/// Writes all of two pieces, one behind the other, until a write fails.
+fn write_two<K: Sink>(out: &mut K, first: &[u8], second: &[u8]) -> Result<(), Failed>
+    ensures whole { OnOk result (K.written out.new ≡ followed_by (K.written out.old) (first.now ++ second.now)) }
+    ensures prefix { OnErr result (WrotePrefix (K.written out.old) (K.written out.new) (first.now ++ second.now)) }
+    ensures count { K.faults out.old ≤ K.faults out.new }
+    ensures succeeds { ¬ Rose (K.faults out.old) (K.faults out.new) → IsOk result }
+{
+    write_whole(out, first)?;
+    write_whole(out, second)
+}
+
+/// Writes all of three pieces.
+fn write_three<K: Sink>(
+    out: &mut K,
+    first: &[u8],
+    second: &[u8],
+    third: &[u8],
+) -> Result<(), Failed>
+    ensures whole { OnOk result (K.written out.new ≡ followed_by (K.written out.old) (first.now ++ (second.now ++ third.now))) }
+    ensures prefix { OnErr result (WrotePrefix (K.written out.old) (K.written out.new) (first.now ++ (second.now ++ third.now))) }
+    ensures count { K.faults out.old ≤ K.faults out.new }
+    ensures succeeds { ¬ Rose (K.faults out.old) (K.faults out.new) → IsOk result }
+{
+    write_whole(out, first)?;
+    write_two(out, second, third)
+}
+
+/// Writes all of four pieces.
+fn write_four<K: Sink>(
+    out: &mut K,
+    first: &[u8],
+    second: &[u8],
+    third: &[u8],
+    fourth: &[u8],
+) -> Result<(), Failed>
+    ensures whole { OnOk result (K.written out.new ≡ followed_by (K.written out.old) (first.now ++ (second.now ++ (third.now ++ fourth.now)))) }
+    ensures prefix { OnErr result (WrotePrefix (K.written out.old) (K.written out.new) (first.now ++ (second.now ++ (third.now ++ fourth.now)))) }
+    ensures count { K.faults out.old ≤ K.faults out.new }
+    ensures succeeds { ¬ Rose (K.faults out.old) (K.faults out.new) → IsOk result }
+{
+    write_whole(out, first)?;
+    write_three(out, second, third, fourth)
+}
+
+/// Writes all of five pieces.
+fn write_five<K: Sink>(
+    out: &mut K,
+    first: &[u8],
+    second: &[u8],
+    third: &[u8],
+    fourth: &[u8],
+    fifth: &[u8],
+) -> Result<(), Failed>
+    ensures whole { OnOk result (K.written out.new ≡ followed_by (K.written out.old) (first.now ++ (second.now ++ (third.now ++ (fourth.now ++ fifth.now))))) }
+    ensures prefix { OnErr result (WrotePrefix (K.written out.old) (K.written out.new) (first.now ++ (second.now ++ (third.now ++ (fourth.now ++ fifth.now))))) }
+    ensures count { K.faults out.old ≤ K.faults out.new }
+    ensures succeeds { ¬ Rose (K.faults out.old) (K.faults out.new) → IsOk result }
+{
+    write_whole(out, first)?;
+    write_four(out, second, third, fourth, fifth)
+}
+
+/// A code of refusal, and its name.
+fn code_text(code: Code) -> &'static str
+    ensures { result.now ≡ spec.code_text code }
+{
+    match code {
+        Code::Syntax => "S1 Syntax",
+        Code::TooLarge => "S2 TooLarge",
+        Code::UnknownRelation => "S3 UnknownRelation",
+        Code::NameTaken => "S4 NameTaken",
+        Code::UnknownColumn => "S5 UnknownColumn",
+        Code::AmbiguousColumn => "S6 AmbiguousColumn",
+        Code::DuplicateColumn => "S7 DuplicateColumn",
+        Code::TypeMismatch => "S8 TypeMismatch",
+        Code::WrongKind => "S9 WrongKind",
+        Code::KeyMissing => "S10 KeyMissing",
+        Code::JoinNotOnKey => "S11 JoinNotOnKey",
+        Code::PartitionMismatch => "S12 PartitionMismatch",
+        Code::AggregateMisuse => "S13 AggregateMisuse",
+        Code::BadWindow => "S14 BadWindow",
+        Code::Unsupported => "S15 Unsupported",
+        Code::BadProperty => "S16 BadProperty",
+    }
+}
+
+/// Why a line is refused, in a word.
+fn why_text(why: LineWhy) -> &'static str
+    ensures { result.now ≡ spec.why_text why }
+{
+    match why {
+        LineWhy::BadLine => "BadLine",
+        LineWhy::TooLarge => "TooLarge",
+    }
+}

@@ -1,0 +1,173 @@
+//! Reading the files whose turn it is.
+
+ghost use Rattle.std.specs.Prelude.{◌≡◌, ◌⊎◌, ◌≤◌, ◌-◌, ◌++◌, All, List, ℕ, Some, length, IfOk, IfErr, IfSome};
+ghost use Rattle.ksql_types.specs.Text.{longest_text};
+ghost use Rattle.ksql_outside.specs.Outside.{MayJoin, read_bytes};
+ghost use Rattle.topic_files.specs.declared.topic.TopicLines.{TopicLines as OneFile};
+ghost use Rattle.topic_files.specs.File.{topic_lines};
+ghost use Rattle.topic_feeds.specs.Feeding.{all_fed, fed_records};
+ghost use Rattle.ksql_cli.specs.Command.{AreFed, behind, declared_of, IsGood, topic_file};
+ghost use Rattle.ksql_cli.specs.Command as spec;
+ghost use Rattle.ksql_cli.specs.Steps.{AreTopicsDue, IsFeedable, IsFileFailure, IsJoined, IsReadFailure, IsTopicFailure, IsTopicRefusal};
+
+use crate::status::Status;
+use ksql_outside::{Folder, ReadFail};
+use ksql_place::SourceRecord;
+use ksql_program::Item;
+use ksql_types::{Chars, CopyOf, Relation};
+use std::alloc::Global;
+use topic_feeds::push_fed;
+use topic_files::{Feds, FileFault, LineWhy, Room, read_topic};
+
+/// How many records and bytes the topic files can have, all together.
+#[tactic(auto, unfolding(crate::specs::Command::whole_room))]
+pub(crate) fn whole_room() -> Room
+    ensures { result ≡ spec.whole_room }
+{
+    Room {
+        records: 200_000,
+        bytes: 67_108_864,
+    }
+}
+
+/// The records of the topic files of the declared relations among these items, which share a room, behind the records
+/// that were read before.
+pub(crate) fn read_topics<F: Folder>(
+    alloc: Global,
+    folder: &mut F,
+    items: &[Item],
+    reading: Reading,
+) -> Result<Vec<SourceRecord>, Status>
+    requires feedable { All IsFeedable (declared_of items.now) }
+    requires few { reading.room.records ≤ 200000 }
+    requires short { reading.room.bytes ≤ 67108864 }
+    ensures found { IfOk result (λ all_records. IfSome (F.files folder.old) (λ all. (files : List OneFile)
+        × AreFed all reading.room (declared_of items.now) files
+        × (all_records.items ≡ reading.records.items ++ all_fed (declared_of items.now) files))) }
+    ensures cause { IfErr result (λ status. IfSome (F.files folder.old)
+        (λ all. IsTopicFailure all reading.room (declared_of items.now) (F.failed folder.old) (F.failed folder.new) status)) }
+    ensures refusal { IfErr result IsTopicRefusal }
+    ensures joined { IfErr result (IsJoined (F.failed folder.old) (F.failed folder.new)) }
+    ensures reads { IfSome (F.files folder.old)
+        (λ all. AreTopicsDue all reading.room (declared_of items.now) (F.failed folder.old) (F.failed folder.new)) }
+    ensures same_files { F.files folder.new ≡ F.files folder.old }
+{
+    let [first, rest @ ..] = items else {
+        return Ok(reading.records);
+    };
+    let Item::Declared(relation) = first else {
+        return read_topics(alloc, folder, rest, reading);
+    };
+    match with_topic(alloc, folder, relation, reading) {
+        Ok(reading) => read_topics(alloc, folder, rest, reading),
+        Err(status) => Err(status),
+    }
+}
+
+/// The records that were read so far, and the room that is left.
+#[derive(Drop)]
+pub(crate) struct Reading {
+    pub records: Vec<SourceRecord>,
+    pub room: Room,
+}
+
+/// The records of a relation's topic file behind others, and what room it leaves.
+#[tactic(auto, unfolding(ksql_types::specs::Text::longest_text))]
+fn with_topic<F: Folder>(
+    alloc: Global,
+    folder: &mut F,
+    relation: &Relation,
+    reading: Reading,
+) -> Result<Reading, Status>
+    requires feedable { IsFeedable relation.now }
+    requires few { reading.room.records ≤ 200000 }
+    requires short { reading.room.bytes ≤ 67108864 }
+    ensures found { IfOk result (λ read. IfSome (F.files folder.old) (λ all. (file : List ℕ) × IsGood all reading.room relation.now file
+        × (read.room ≡ behind reading.room relation.now file)
+        × (read.records.items ≡ reading.records.items ++ fed_records 1 relation.now (topic_lines relation.now file).feds))) }
+    ensures few { IfOk result (λ read. read.room.records ≤ 200000) }
+    ensures short { IfOk result (λ read. read.room.bytes ≤ 67108864) }
+    ensures cause { IfErr result (λ status. IfSome (F.files folder.old)
+        (λ all. IsFileFailure all reading.room relation.now (F.failed folder.old) (F.failed folder.new) status)) }
+    ensures refusal { IfErr result IsTopicRefusal }
+    ensures joined { IfErr result (IsJoined (F.failed folder.old) (F.failed folder.new)) }
+    ensures grows { MayJoin (F.failed folder.old) (F.failed folder.new) (topic_file relation.now) }
+    ensures same_files { F.files folder.new ≡ F.files folder.old }
+{
+    let topic = relation.topic.items();
+    let name = match format!(in alloc; "./{topic}.jsonl") {
+        Ok(name) => name,
+        Err(_) => return Err(Status::OutOfMemory),
+    };
+    let file = match due_file(alloc, folder, name.as_str()) {
+        Ok(file) => file,
+        Err(status) => return Err(status),
+    };
+    match read_topic(alloc, relation, file.as_slice(), reading.room) {
+        Ok(lines) => with_lines(alloc, relation, reading, lines.feds, file.len()),
+        Err(FileFault::Refused { line, why }) => Err(bad_file(alloc, &relation.topic, line, why)),
+        Err(FileFault::OutOfMemory) => Err(Status::OutOfMemory),
+    }
+}
+
+/// The records of a file of so many bytes behind others, and what room it leaves.
+fn with_lines(
+    alloc: Global,
+    relation: &Relation,
+    reading: Reading,
+    feds: Feds,
+    bytes: usize,
+) -> Result<Reading, Status>
+    requires some { 1 ≤ relation.now.partitions }
+    requires few { relation.now.partitions ≤ 64 }
+    ensures records { IfOk result (λ read. read.records.items ≡ reading.records.items ++ fed_records 1 relation.now feds) }
+    ensures record_room { IfOk result (λ read. read.room.records ≡ reading.room.records - length feds) }
+    ensures byte_room { IfOk result (λ read. read.room.bytes ≡ reading.room.bytes - bytes) }
+    ensures memory { IfErr result (λ status. status ≡ Status.OutOfMemory) }
+{
+    let room = Room {
+        records: reading
+            .room
+            .records
+            .saturating_sub(feds.items().len() as u64),
+        bytes: reading.room.bytes.saturating_sub(bytes as u64),
+    };
+    let mut records = reading.records;
+    match push_fed(alloc, &mut records, 1, relation, feds) {
+        Ok(()) => Ok(Reading { records, room }),
+        Err(_) => Err(Status::OutOfMemory),
+    }
+}
+
+/// That the topic file of this topic is refused at this line.
+fn bad_file(alloc: Global, topic: &Chars, line: u32, why: LineWhy) -> Status
+    ensures { (result ≡ Status.TopicFile topic.now line why) ⊎ (result ≡ Status.OutOfMemory) }
+{
+    match topic.copy(alloc) {
+        Ok(topic) => Status::TopicFile { topic, line, why },
+        Err(_) => Status::OutOfMemory,
+    }
+}
+
+/// The bytes of a file whose turn it is.
+pub(crate) fn due_file<F: Folder>(
+    alloc: Global,
+    folder: &mut F,
+    name: &str,
+) -> Result<Vec<u8>, Status>
+    requires { length name.now ≤ longest_text }
+    ensures told { IfOk result (λ bytes. IfSome (F.files folder.old) (λ all. read_bytes name.now all ≡ Some bytes.items)) }
+    ensures cause { IfErr result (IsReadFailure (F.failed folder.old) (F.failed folder.new) name.now) }
+    ensures same_files { F.files folder.new ≡ F.files folder.old }
+    ensures grows { MayJoin (F.failed folder.old) (F.failed folder.new) name.now }
+{
+    let kept = match String::from_str(alloc, name) {
+        Ok(kept) => Chars::of(kept),
+        Err(_) => return Err(Status::OutOfMemory),
+    };
+    match folder.read(alloc, name) {
+        Ok(bytes) => Ok(bytes),
+        Err(ReadFail::Failed) => Err(Status::ReadFault { name: kept }),
+        Err(ReadFail::OutOfMemory) => Err(Status::OutOfMemory),
+    }
+}

@@ -1,0 +1,10 @@
+use Rattle.std.proofs.Common.{◌≡◌, ℕ, List, map, length, bytes_eq}
+use Rattle.ksql_program.specs.Names.{are_distinct}
+use Rattle.ksql_program.proofs.names.are_distinct.Given as goal
+
+-- what is left decides
+abbrev pub invariant-loop-names : goal.invariant-loop-names
+invariant-loop-names l = are_distinct (map (λ name. name.now) l.names) ≡ are_distinct (map (λ name. name.now) l.fn.names)
+
+abbrev pub decreases-loop-names : goal.decreases-loop-names
+decreases-loop-names l = length l.names

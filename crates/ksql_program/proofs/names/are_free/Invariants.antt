@@ -1,0 +1,12 @@
+use Rattle.std.proofs.Common.{◌≡◌, ℕ, List, map, length, bytes_eq}
+use Rattle.std.specs.List.{list_all}
+use Rattle.std.specs.Prelude.{not}
+use Rattle.ksql_program.specs.Names.{is_among, reserved_columns}
+use Rattle.ksql_program.proofs.names.are_free.Given as goal
+
+-- what is left decides
+abbrev pub invariant-loop-names : goal.invariant-loop-names
+invariant-loop-names l = list_all (λ name. not (is_among reserved_columns name)) (map (λ name. name.now) l.names) ≡ list_all (λ name. not (is_among reserved_columns name)) (map (λ name. name.now) l.fn.names)
+
+abbrev pub decreases-loop-names : goal.decreases-loop-names
+decreases-loop-names l = length l.names

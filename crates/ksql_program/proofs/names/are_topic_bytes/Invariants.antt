@@ -1,0 +1,11 @@
+use Rattle.std.proofs.Common.{◌≡◌, ℕ, List, map, length, bytes_eq}
+use Rattle.std.specs.List.{list_all}
+use Rattle.ksql_program.specs.Names.{is_topic_byte}
+use Rattle.ksql_program.proofs.names.are_topic_bytes.Given as goal
+
+-- what is left decides
+abbrev pub invariant-loop-bytes : goal.invariant-loop-bytes
+invariant-loop-bytes l = list_all is_topic_byte l.bytes ≡ list_all is_topic_byte l.fn.bytes
+
+abbrev pub decreases-loop-bytes : goal.decreases-loop-bytes
+decreases-loop-bytes l = length l.bytes

@@ -1,0 +1,10 @@
+use Rattle.std.proofs.Common.{◌≡◌, ℕ, List, map, length, bytes_eq}
+use Rattle.ksql_program.specs.Names.{is_among}
+use Rattle.ksql_program.proofs.names.is_among.Given as goal
+
+-- what is left decides
+abbrev pub invariant-loop-words : goal.invariant-loop-words
+invariant-loop-words l = is_among (map (λ word. word.now) l.words) l.name ≡ is_among (map (λ word. word.now) l.fn.words) l.name
+
+abbrev pub decreases-loop-words : goal.decreases-loop-words
+decreases-loop-words l = length l.words

@@ -1,0 +1,3 @@
+pub mod Program
+pub mod Names
+pub mod Sound

@@ -1,0 +1,6 @@
+pub mod Codes
+pub mod Deciding
+pub mod Mapped
+pub mod Naming
+pub mod Smallness
+pub mod Within

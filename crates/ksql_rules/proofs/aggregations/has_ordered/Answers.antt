@@ -1,0 +1,11 @@
+use Rattle.std.proofs.Common.{ap, ◌∙◌}
+use Rattle.std.specs.List.{list_any}
+use Rattle.ksql_grouping.specs.Grouping.{has_ordered_aggregate}
+use Rattle.ksql_clauses.specs.Sources.{late_exprs}
+use Rattle.ksql_rules.proofs.Mapped.{lent}
+use Rattle.ksql_rules.proofs.aggregations.has_ordered.Goals as goal
+
+pub returns : goal.returns
+returns c =
+    c.one_has_ordered.ensures ∙ ap (λ xs. list_any (λ a. has_ordered_aggregate a.now) xs) c.deref.ensures.value
+    ∙ lent has_ordered_aggregate c.args.findings.now.late.items (late_exprs c.args.findings.now.select.now) c.requires.late_are

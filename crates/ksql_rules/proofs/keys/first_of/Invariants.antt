@@ -1,0 +1,7 @@
+use Rattle.std.proofs.Common.{◌≡◌, drop}
+use Rattle.ksql_rules.specs.Keys.{first_of}
+use Rattle.ksql_rules.proofs.keys.first_of.Given as goal
+
+-- what is left decides
+abbrev pub invariant-loop-number : goal.invariant-loop-number
+invariant-loop-number l = first_of l.exprs l.number (drop l.number l.columns) ≡ first_of l.exprs 0 l.columns

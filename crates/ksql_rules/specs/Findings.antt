@@ -1,0 +1,34 @@
+-- What is found out of a query once.
+use Rattle.std.specs.Prelude.{◌≡◌, ℕ, ◌-◌, ◌^◌, ◌≤◌, List, length, map, is_some}
+use Rattle.std.specs.List.{list_any, list_all}
+use Rattle.ksql_grammar.specs.declared.tree.Expr.{Expr}
+use Rattle.ksql_typing.specs.declared.scope.Scope.{Scope}
+use Rattle.ksql_typing.specs.Judged.{judged}
+use Rattle.ksql_typing.specs.Possible.{is_some_in}
+use Rattle.ksql_typing.specs.Uses.{has_unknown_name, has_ambiguous_name}
+use Rattle.ksql_clauses.specs.Items.{result_columns}
+use Rattle.ksql_clauses.specs.Sources.{from_scope, item_scope, early_exprs, late_exprs}
+use Rattle.ksql_rules.specs.declared.findings.Findings.{Findings}
+use Rattle.ksql_rules.specs.declared.findings.Found.{Found}
+use Rattle.ksql_rules.specs.Keys.{join_key, key_places}
+use Rattle.ksql_rules.specs.Limits.{IsQueryWithin}
+
+-- what is found out of some expressions in a scope
+pub record IsFound (f : Found) (s : Scope) (es : List Expr) : Type 0 where
+  pub unknown_is : f.unknown ≡ list_any (has_unknown_name s) es
+  pub ambiguous_is : f.ambiguous ≡ list_any (has_ambiguous_name s) es
+  pub typed_is : f.typed ≡ list_all (λ a. is_some_in (judged a s).types) es
+
+-- what is found out of a query over its sources, where it keeps its limits
+pub record AreFindings (f : Findings) : Type 0 where
+  pub within : IsQueryWithin f.select.now
+  pub columns_few : length f.scope.columns ≤ 2 ^ 32 - 2
+  pub scope_is : f.scope ≡ from_scope f.select.now f.known.items
+  pub item_scope_is : f.item_scope ≡ item_scope f.select.now f.known.items
+  pub early_are : map (λ a. a.now) f.early.items ≡ early_exprs f.select.now
+  pub late_are : map (λ a. a.now) f.late.items ≡ late_exprs f.select.now
+  pub columns_are : f.columns.items ≡ result_columns f.select.now f.known.items
+  pub places_are : f.places.items ≡ key_places f.select.now f.known.items
+  pub on_key_is : f.on_key ≡ is_some (join_key f.select.now f.known.items)
+  pub early_found : IsFound f.in_early (from_scope f.select.now f.known.items) (early_exprs f.select.now)
+  pub late_found : IsFound f.in_late (item_scope f.select.now f.known.items) (late_exprs f.select.now)

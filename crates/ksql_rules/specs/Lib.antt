@@ -1,0 +1,8 @@
+pub mod Bodies
+pub mod Breaks
+pub mod Decided
+pub mod Findings
+pub mod Keys
+pub mod Limits
+pub mod Lowest
+pub mod Sought

@@ -1,0 +1,160 @@
+//! How a query uses aggregates.
+
+ghost use Rattle.std.specs.Prelude.{◌≡◌, ◌||◌, IfOk, map, option_map};
+ghost use Rattle.std.specs.List.{list_any};
+ghost use Rattle.ksql_typing.specs.Uses as uses;
+ghost use Rattle.ksql_grouping.specs.Grouping as grouping;
+ghost use Rattle.ksql_clauses.specs.Resolved as names;
+ghost use Rattle.ksql_clauses.specs.Sources as sources;
+ghost use Rattle.ksql_rules.specs.Breaks as spec;
+ghost use Rattle.ksql_rules.specs.Findings.{AreFindings};
+
+use crate::findings::Findings;
+use crate::queries::{is_grouped, is_stream_join, joins_itself, reads_windowed};
+use crate::truth::either;
+use ksql_clauses::{Named, joined_streams, reads_stream, resolved};
+use ksql_grammar::Expr;
+use ksql_grouping::{
+    has_aggregate, has_bare_column, has_nested_aggregate, has_ordered_aggregate,
+    has_unknown_function,
+};
+use ksql_typing::Scope;
+use std::alloc::{AllocError, Global};
+
+fn one_has_aggregate(exprs: &[&Expr]) -> bool
+    ensures { result ≡ list_any (λ a. grouping.has_aggregate a.now) exprs.now }
+{
+    exprs.iter().any(|expr| has_aggregate(expr))
+}
+
+fn one_has_nested(exprs: &[&Expr]) -> bool
+    ensures { result ≡ list_any (λ a. grouping.has_nested_aggregate a.now) exprs.now }
+{
+    exprs.iter().any(|expr| has_nested_aggregate(expr))
+}
+
+fn one_has_ordered(exprs: &[&Expr]) -> bool
+    ensures { result ≡ list_any (λ a. grouping.has_ordered_aggregate a.now) exprs.now }
+{
+    exprs.iter().any(|expr| has_ordered_aggregate(expr))
+}
+
+fn one_has_unknown(exprs: &[&Expr]) -> bool
+    ensures { result ≡ list_any (λ a. uses.has_unknown_function a.now) exprs.now }
+{
+    exprs.iter().any(|expr| has_unknown_function(expr))
+}
+
+/// Some expressions with resolved names. The only error is want of memory.
+pub fn each_resolved(alloc: Global, scope: &Scope, exprs: &[Expr]) -> Result<Vec<Expr>, AllocError>
+    ensures { IfOk result (λ each. each.items ≡ map (names.resolved scope.now) exprs.now) }
+{
+    let mut each = Vec::new(alloc);
+    for expr in exprs {
+        each.push(resolved(alloc, scope, expr)?)?;
+    }
+    Ok(each)
+}
+
+fn one_is_bare(groups: &[Expr], columns: &[Named]) -> bool
+    ensures { result ≡ list_any (λ c. grouping.has_bare_column groups.now c.expr) columns.now }
+{
+    columns
+        .iter()
+        .any(|column| has_bare_column(groups, &column.expr))
+}
+
+fn is_having_bare(
+    alloc: Global,
+    scope: &Scope,
+    groups: &[Expr],
+    having: &Option<Expr>,
+) -> Result<bool, AllocError>
+    ensures { IfOk result (λ bare. bare
+        ≡ list_any (grouping.has_bare_column groups.now) (sources.there (option_map (names.resolved scope.now) having.now))) }
+{
+    match having {
+        None => Ok(false),
+        Some(having) => {
+            let having = resolved(alloc, scope, having)?;
+            Ok(has_bare_column(groups, &having))
+        }
+    }
+}
+
+/// Whether a column of the result, or HAVING, has a column that is neither in an aggregate nor in a group expression. The
+/// only error is want of memory.
+fn has_bare(alloc: Global, findings: &Findings) -> Result<bool, AllocError>
+    requires { AreFindings findings.now }
+    ensures { let q = findings.now.select.now in let ks = findings.now.known.items in
+        IfOk result (λ bare. bare ≡ list_any (grouping.has_bare_column (spec.group_exprs q ks)) (spec.shown_exprs q ks)) }
+{
+    let select = findings.select;
+    let groups = each_resolved(alloc, &findings.scope, select.group.items())?;
+    let having = is_having_bare(alloc, &findings.item_scope, &groups, &select.having)?;
+    Ok(either(one_is_bare(&groups, &findings.columns), having))
+}
+
+/// Whether an aggregate stands in the items or HAVING.
+fn is_aggregated(findings: &Findings) -> bool
+    requires { AreFindings findings.now }
+    ensures { result ≡ list_any grouping.has_aggregate (sources.late_exprs findings.now.select.now) }
+{
+    one_has_aggregate(&findings.late)
+}
+
+/// Whether an aggregate stands outside the items and HAVING, or in another.
+fn has_misplaced(findings: &Findings) -> bool
+    requires { AreFindings findings.now }
+    ensures { let q = findings.now.select.now in
+        result ≡ (list_any grouping.has_aggregate (sources.early_exprs q) || list_any grouping.has_nested_aggregate (sources.late_exprs q)) }
+{
+    either(
+        one_has_aggregate(&findings.early),
+        one_has_nested(&findings.late),
+    )
+}
+
+/// Whether an aggregate that a table has no place for stands in the items or HAVING.
+fn has_ordered(findings: &Findings) -> bool
+    requires { AreFindings findings.now }
+    ensures { result ≡ list_any grouping.has_ordered_aggregate (sources.late_exprs findings.now.select.now) }
+{
+    one_has_ordered(&findings.late)
+}
+
+/// Whether a query uses aggregates where it can't, or groups without them. The only error is want of memory.
+pub fn misuses_aggregates(alloc: Global, findings: &Findings) -> Result<bool, AllocError>
+    requires { AreFindings findings.now }
+    ensures { IfOk result (λ misused. misused ≡ spec.misuses_aggregates findings.now.select.now findings.now.known.items) }
+{
+    let select = findings.select;
+    let bare = has_bare(alloc, findings)?;
+    let aggregated = is_aggregated(findings);
+    let ungrouped = !is_grouped(select) && (aggregated || select.having.is_some());
+    let grouped = is_grouped(select) && (!aggregated || select.partition.is_some() || bare);
+    let ordered = !reads_stream(&findings.known) && has_ordered(findings);
+    Ok(has_misplaced(findings) || ungrouped || grouped || ordered)
+}
+
+fn has_unknown(findings: &Findings) -> bool
+    requires { AreFindings findings.now }
+    ensures { let q = findings.now.select.now in
+        result ≡ (list_any uses.has_unknown_function (sources.early_exprs q) || list_any uses.has_unknown_function (sources.late_exprs q)) }
+{
+    either(
+        one_has_unknown(&findings.early),
+        one_has_unknown(&findings.late),
+    )
+}
+
+/// Whether a query has an unknown function, reads a windowed table, joins a relation with itself or joins two streams.
+pub fn is_query_unsupported(findings: &Findings) -> bool
+    requires { AreFindings findings.now }
+    ensures { result ≡ spec.is_query_unsupported findings.now.select.now findings.now.known.items }
+{
+    has_unknown(findings)
+        || reads_windowed(&findings.known)
+        || joins_itself(&findings.known)
+        || is_stream_join(joined_streams(&findings.known))
+}

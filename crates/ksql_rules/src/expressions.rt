@@ -1,0 +1,69 @@
+//! The expressions of a query.
+
+ghost use Rattle.std.specs.Prelude.{◌≡◌, ◌++◌, IfOk, map};
+ghost use Rattle.std.specs.List.{flat_map};
+ghost use Rattle.ksql_clauses.specs.Sources as sources;
+
+use ksql_grammar::{Expr, Select, SelectItem};
+use std::alloc::{AllocError, Global};
+
+fn with_part<'a>(
+    mut found: Vec<&'a Expr>,
+    part: &'a Option<Expr>,
+) -> Result<Vec<&'a Expr>, AllocError>
+    ensures { IfOk result (λ all. map (λ a. a.now) all.items ≡ map (λ a. a.now) found.entry.items ++ sources.there part.now) }
+{
+    if let Some(expr) = part {
+        found.push(expr)?;
+    }
+    Ok(found)
+}
+
+fn with_each<'a>(mut found: Vec<&'a Expr>, exprs: &'a [Expr]) -> Result<Vec<&'a Expr>, AllocError>
+    ensures { IfOk result (λ all. map (λ a. a.now) all.items ≡ map (λ a. a.now) found.entry.items ++ exprs.now) }
+{
+    for expr in exprs {
+        found.push(expr)?;
+    }
+    Ok(found)
+}
+
+fn on_exprs<'a>(alloc: Global, select: &'a Select) -> Result<Vec<&'a Expr>, AllocError>
+    ensures { IfOk result (λ all. map (λ a. a.now) all.items ≡ sources.on_exprs select.now) }
+{
+    let mut found = Vec::new(alloc);
+    if let Some(join) = &select.join {
+        found.push(&join.on)?;
+    }
+    Ok(found)
+}
+
+/// The expressions of a query but those of its items and of HAVING. The only error is want of memory.
+pub fn early_exprs<'a>(alloc: Global, select: &'a Select) -> Result<Vec<&'a Expr>, AllocError>
+    ensures { IfOk result (λ all. map (λ a. a.now) all.items ≡ sources.early_exprs select.now) }
+{
+    let found = on_exprs(alloc, select)?;
+    let found = with_part(found, &select.filter)?;
+    let found = with_each(found, select.group.items())?;
+    with_part(found, &select.partition)
+}
+
+fn item_exprs<'a>(alloc: Global, items: &'a [SelectItem]) -> Result<Vec<&'a Expr>, AllocError>
+    ensures { IfOk result (λ all. map (λ a. a.now) all.items ≡ flat_map sources.item_exprs items.now) }
+{
+    let mut found = Vec::new(alloc);
+    for item in items {
+        if let SelectItem::One { expr, .. } = item {
+            found.push(expr)?;
+        }
+    }
+    Ok(found)
+}
+
+/// The expressions of a query's items and of HAVING. The only error is want of memory.
+pub fn late_exprs<'a>(alloc: Global, select: &'a Select) -> Result<Vec<&'a Expr>, AllocError>
+    ensures { IfOk result (λ all. map (λ a. a.now) all.items ≡ sources.late_exprs select.now) }
+{
+    let found = item_exprs(alloc, select.items.items())?;
+    with_part(found, &select.having)
+}

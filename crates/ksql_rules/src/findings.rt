@@ -1,0 +1,124 @@
+//! What is found out of a query once, before its rules are looked at.
+
+ghost use Rattle.std.specs.Prelude.{◌≡◌, ◌-◌, ◌^◌, ◌≤◌, All, IfOk, length, map};
+ghost use Rattle.ksql_typing.specs.Judged as typing;
+ghost use Rattle.ksql_typing.specs.Uses.{IsSmall};
+ghost use Rattle.ksql_clauses.specs.Sources as sources;
+ghost use Rattle.ksql_rules.specs.Decided as decided;
+ghost use Rattle.ksql_rules.specs.Findings.{AreFindings, IsFound};
+ghost use Rattle.ksql_rules.specs.Limits.{IsQueryWithin, IsRelationWithin};
+
+use crate::expressions::{early_exprs, late_exprs};
+use crate::keys::{join_key, key_places};
+use ksql_clauses::{Known, Named, all_known, from_scope, item_scope, result_columns};
+use ksql_grammar::{Expr, Select};
+use ksql_types::Catalog;
+use ksql_typing::judgement::{Judged, judge};
+use ksql_typing::{Scope, Types, has_some_type};
+use std::alloc::{AllocError, Global};
+
+/// What is found out of some expressions together: whether a name in one stands for nothing, whether one stands for
+/// several things, and whether each expression has a type.
+#[derive(Clone, Copy, Debug, PartialEq, Eq)]
+pub struct Found {
+    pub unknown: bool,
+    pub ambiguous: bool,
+    pub typed: bool,
+}
+
+/// A query and what is found out of it: its sources that are in the catalog; what names can stand for in the items and
+/// HAVING, and elsewhere; its expressions, those of the items and HAVING last; the columns of its result, and the places
+/// of the key's; whether ON is of the stated form.
+#[derive(Drop)]
+pub struct Findings<'a> {
+    pub select: &'a Select,
+    pub known: Vec<Known>,
+    pub scope: Scope,
+    pub item_scope: Scope,
+    pub early: Vec<&'a Expr>,
+    pub late: Vec<&'a Expr>,
+    pub columns: Vec<Named>,
+    pub places: Vec<Option<usize>>,
+    pub on_key: bool,
+    pub in_early: Found,
+    pub in_late: Found,
+}
+
+/// What is found out of an expression in a scope. The only error is want of memory.
+fn judged(alloc: Global, scope: &Scope, expr: &Expr) -> Result<Judged, AllocError>
+    requires small { IsSmall expr.now }
+    requires columns { length scope.now.columns ≤ 2 ^ 32 - 2 }
+    ensures { IfOk result (λ found. found ≡ typing.judged expr.now scope.now) }
+{
+    judge(alloc, scope, scope.windowed, expr)
+}
+
+/// The types that an expression can have in a scope. The only error is want of memory.
+pub fn types_of(alloc: Global, scope: &Scope, expr: &Expr) -> Result<Types, AllocError>
+    requires small { IsSmall expr.now }
+    requires columns { length scope.now.columns ≤ 2 ^ 32 - 2 }
+    ensures { IfOk result (λ types. types ≡ decided.types_of scope.now expr.now) }
+{
+    let found = judged(alloc, scope, expr)?;
+    Ok(found.types)
+}
+
+/// What is found out of some expressions in a scope. The only error is want of memory.
+#[tactic(auto, unfolding(ksql_typing::specs::Judged::judged))]
+fn found_in(alloc: Global, scope: &Scope, exprs: &[&Expr]) -> Result<Found, AllocError>
+    requires small { All IsSmall (map (λ a. a.now) exprs.now) }
+    requires columns { length scope.now.columns ≤ 2 ^ 32 - 2 }
+    ensures { IfOk result (λ found. IsFound found scope.now (map (λ a. a.now) exprs.now)) }
+{
+    let mut found = Found {
+        unknown: false,
+        ambiguous: false,
+        typed: true,
+    };
+    for expr in exprs {
+        let one = judged(alloc, scope, expr)?;
+        found = Found {
+            unknown: found.unknown || one.unknown,
+            ambiguous: found.ambiguous || one.ambiguous,
+            typed: found.typed && has_some_type(one.types),
+        };
+    }
+    Ok(found)
+}
+
+/// What is found out of a query over the relations of a catalog. The only error is want of memory.
+pub fn find_out<'a>(
+    alloc: Global,
+    catalog: &Catalog,
+    select: &'a Select,
+) -> Result<Findings<'a>, AllocError>
+    requires query { IsQueryWithin select.now }
+    requires relations { All IsRelationWithin catalog.now }
+    ensures of_select { IfOk result (λ findings. findings.select.now ≡ select.now) }
+    ensures of_catalog { IfOk result (λ findings. findings.known.items ≡ sources.all_known catalog.now select.now) }
+    ensures found { IfOk result AreFindings }
+{
+    let known = all_known(alloc, catalog, select)?;
+    let scope = from_scope(alloc, select, &known)?;
+    let item_scope = item_scope(alloc, select, &known)?;
+    let early = early_exprs(alloc, select)?;
+    let late = late_exprs(alloc, select)?;
+    let columns = result_columns(alloc, select, &known, &item_scope)?;
+    let places = key_places(alloc, &scope, select, &known, &columns)?;
+    let on_key = join_key(alloc, &scope, select, &known)?.is_some();
+    let in_early = found_in(alloc, &scope, &early)?;
+    let in_late = found_in(alloc, &item_scope, &late)?;
+    Ok(Findings {
+        select,
+        known,
+        scope,
+        item_scope,
+        early,
+        late,
+        columns,
+        places,
+        on_key,
+        in_early,
+        in_late,
+    })
+}

@@ -1,0 +1,393 @@
+//! The key of a query's result.
+
+ghost use Rattle.std.specs.Prelude.{◌≡◌, ◌++◌, ◌∷◌, [], IfOk, None, Some, codes, map, option_and_then, option_copied, option_map, slice_get};
+ghost use Rattle.std.specs.List.{list_any};
+ghost use Rattle.ksql_clauses.specs.Items as items;
+ghost use Rattle.ksql_clauses.specs.Resolved as names;
+ghost use Rattle.ksql_clauses.specs.Sources as sources;
+ghost use Rattle.ksql_rules.specs.Breaks as breaks;
+ghost use Rattle.ksql_rules.specs.Keys as spec;
+
+use crate::left_names::{Sought, has_name};
+use ksql_clauses::{Known, Named, is_stream, resolved};
+use ksql_grammar::{Expr, JoinWord, Select};
+use ksql_grouping::same_expr;
+use ksql_types::{BinaryOp, Chars, Column, CopyOf};
+use ksql_typing::Scope;
+use std::alloc::{AllocError, Global};
+
+/// The two sides of `a = b`.
+pub fn on_sides(on: &Expr) -> Option<(&Expr, &Expr)>
+    ensures { option_map (λ sides. (sides.0.now, sides.1.now)) result ≡ spec.on_sides on.now }
+{
+    match on {
+        Expr::Binary {
+            op: BinaryOp::Eq,
+            left,
+            right,
+        } => Some((left.get(), right.get())),
+        _ => None,
+    }
+}
+
+/// A column of the relation that is known by an alias, as an expression. The only error is want of memory.
+fn column_expr(alloc: Global, alias: &Chars, column: &Column) -> Result<Expr, AllocError>
+    ensures { IfOk result (λ key. key ≡ Expr.Name (Some alias.now) column.now.name) }
+{
+    let alias = alias.copy(alloc)?;
+    let name = column.name.copy(alloc)?;
+    Ok(Expr::Name {
+        qualifier: Some(alias),
+        name,
+    })
+}
+
+/// Whether an expression is a relation's only key column. The only error is want of memory.
+fn is_only_key(alloc: Global, scope: &Scope, known: &Known, expr: &Expr) -> Result<bool, AllocError>
+    ensures { IfOk result (λ only. only ≡ spec.is_only_key scope.now known.now expr.now) }
+{
+    match known.relation.schema.keys.items() {
+        [key] => {
+            let key = column_expr(alloc, &known.alias, key)?;
+            let expr = resolved(alloc, scope, expr)?;
+            Ok(same_expr(&expr, &key))
+        }
+        _ => Ok(false),
+    }
+}
+
+/// Whether an expression has a column, and none but the left relation's.
+fn is_of_left(scope: &Scope, left: &Known, expr: &Expr) -> bool
+    ensures { result ≡ spec.is_of_left scope.now left.now expr.now }
+{
+    has_name(Sought::Any, expr) && !has_name(Sought::Other(scope, left), expr)
+}
+
+fn is_left_side(alloc: Global, scope: &Scope, left: &Known, expr: &Expr) -> Result<bool, AllocError>
+    ensures { IfOk result (λ side. side ≡ spec.is_left_side scope.now left.now expr.now) }
+{
+    if is_stream(&left.relation) {
+        return Ok(is_of_left(scope, left, expr));
+    }
+    is_only_key(alloc, scope, left, expr)
+}
+
+/// Whether these two are the left side's key and the right relation's. The only error is want of memory.
+fn are_sides(
+    alloc: Global,
+    scope: &Scope,
+    left: &Known,
+    right: &Known,
+    a: &Expr,
+    b: &Expr,
+) -> Result<bool, AllocError>
+    ensures { IfOk result (λ sides. sides ≡ spec.are_sides scope.now left.now right.now a.now b.now) }
+{
+    let left_is = is_left_side(alloc, scope, left, a)?;
+    let right_is = is_only_key(alloc, scope, right, b)?;
+    Ok(left_is && right_is)
+}
+
+fn left_key<'a>(
+    alloc: Global,
+    scope: &Scope,
+    left: &Known,
+    right: &Known,
+    a: &'a Expr,
+    b: &'a Expr,
+) -> Result<Option<&'a Expr>, AllocError>
+    ensures { IfOk result (λ key. option_copied key ≡ spec.left_key scope.now left.now right.now (Some (a.now, b.now))) }
+{
+    if are_sides(alloc, scope, left, right, a, b)? {
+        return Ok(Some(a));
+    }
+    if are_sides(alloc, scope, left, right, b, a)? {
+        return Ok(Some(b));
+    }
+    Ok(None)
+}
+
+/// The left side's join key where ON is of the form `a = b`, in one of the two orders. The scope is that of FROM. The
+/// only error is want of memory.
+pub fn join_key<'a>(
+    alloc: Global,
+    scope: &Scope,
+    select: &'a Select,
+    known: &[Known],
+) -> Result<Option<&'a Expr>, AllocError>
+    requires { scope.now ≡ sources.from_scope select.now known.now }
+    ensures { IfOk result (λ key. option_copied key ≡ spec.join_key select.now known.now) }
+{
+    let [left, right, ..] = known else {
+        return Ok(None);
+    };
+    let Some(join) = &select.join else {
+        return Ok(None);
+    };
+    match on_sides(&join.on) {
+        None => Ok(None),
+        Some((a, b)) => left_key(alloc, scope, left, right, a, b),
+    }
+}
+
+/// For each of some expressions, itself alone. The only error is want of memory.
+fn alone(alloc: Global, expr: Expr) -> Result<Vec<Expr>, AllocError>
+    ensures { IfOk result (λ one. one.items ≡ expr ∷ []) }
+{
+    let mut one = Vec::new(alloc);
+    one.push(expr)?;
+    Ok(one)
+}
+
+/// Each of some expressions alone, with resolved names. The only error is want of memory.
+fn resolved_alone(
+    alloc: Global,
+    scope: &Scope,
+    exprs: &[Expr],
+) -> Result<Vec<Vec<Expr>>, AllocError>
+    ensures { IfOk result (λ each. map (λ es. es.items) each.items ≡ spec.alone (map (names.resolved scope.now) exprs.now)) }
+{
+    let mut each = Vec::new(alloc);
+    for expr in exprs {
+        each.push(alone(alloc, resolved(alloc, scope, expr)?)?)?;
+    }
+    Ok(each)
+}
+
+/// Each key column of a relation alone. The only error is want of memory.
+fn each_key(alloc: Global, known: &Known) -> Result<Vec<Vec<Expr>>, AllocError>
+    ensures { IfOk result (λ each. map (λ es. es.items) each.items ≡ spec.alone (spec.key_exprs known.now)) }
+{
+    let mut each = Vec::new(alloc);
+    for key in known.relation.schema.keys.items() {
+        each.push(alone(alloc, column_expr(alloc, &known.alias, key)?)?)?;
+    }
+    Ok(each)
+}
+
+/// The key columns of the left relation one by one, each beside that of the right one, where there is one. The only
+/// error is want of memory.
+fn beside(alloc: Global, left: &Known, right: &Known) -> Result<Vec<Vec<Expr>>, AllocError>
+    ensures { IfOk result (λ each. map (λ es. es.items) each.items ≡ spec.beside (spec.key_exprs left.now) (spec.key_exprs right.now)) }
+{
+    let mut each = Vec::new(alloc);
+    let mut others = right.relation.schema.keys.items();
+    for key in left.relation.schema.keys.items() {
+        let one = alone(alloc, column_expr(alloc, &left.alias, key)?)?;
+        let Some((other, more)) = others.split_first() else {
+            each.push(one)?;
+            continue;
+        };
+        each.push(with(one, column_expr(alloc, &right.alias, other)?)?)?;
+        others = more;
+    }
+    Ok(each)
+}
+
+fn with(mut exprs: Vec<Expr>, expr: Expr) -> Result<Vec<Expr>, AllocError>
+    ensures { IfOk result (λ all. all.items ≡ exprs.items ++ expr ∷ []) }
+{
+    exprs.push(expr)?;
+    Ok(exprs)
+}
+
+#[tactic(auto, unfolding(ksql_types::specs::Text::longest_text))]
+fn rowkey(alloc: Global) -> Result<Expr, AllocError>
+    ensures { IfOk result (λ key. key ≡ Expr.Name None (codes "ROWKEY")) }
+{
+    let name = Chars::of(String::from_str(alloc, "ROWKEY")?);
+    Ok(Expr::Name {
+        qualifier: None,
+        name,
+    })
+}
+
+/// What the key of a join of two tables needs. The only error is want of memory.
+fn tables_need(
+    alloc: Global,
+    word: JoinWord,
+    left: &Known,
+    right: &Known,
+) -> Result<Vec<Vec<Expr>>, AllocError>
+    ensures { IfOk result (λ needs. map (λ es. es.items) needs.items ≡ spec.tables_need word left.now right.now) }
+{
+    match word {
+        JoinWord::Inner => beside(alloc, left, right),
+        JoinWord::Left => each_key(alloc, left),
+        JoinWord::Full => {
+            let mut needs = Vec::new(alloc);
+            needs.push(alone(alloc, rowkey(alloc)?)?)?;
+            Ok(needs)
+        }
+    }
+}
+
+/// What the key of a join of a stream and a table needs, where the stream's side of ON is this. The only error is want
+/// of memory.
+fn stream_needs(
+    alloc: Global,
+    word: JoinWord,
+    right: &Known,
+    side: Expr,
+) -> Result<Vec<Vec<Expr>>, AllocError>
+    ensures { IfOk result (λ needs. map (λ es. es.items) needs.items ≡ spec.stream_needs word right.now side) }
+{
+    let mut one = alone(alloc, side)?;
+    if matches!(word, JoinWord::Inner) {
+        for key in right.relation.schema.keys.items() {
+            one.push(column_expr(alloc, &right.alias, key)?)?;
+        }
+    }
+    let mut needs = Vec::new(alloc);
+    needs.push(one)?;
+    Ok(needs)
+}
+
+/// What the key of a query without GROUP BY and PARTITION BY needs. The scope is that of FROM. The only error is want
+/// of memory.
+fn join_needs(
+    alloc: Global,
+    scope: &Scope,
+    select: &Select,
+    known: &[Known],
+) -> Result<Vec<Vec<Expr>>, AllocError>
+    requires { scope.now ≡ sources.from_scope select.now known.now }
+    ensures { IfOk result (λ needs. map (λ es. es.items) needs.items ≡ spec.join_needs select.now known.now) }
+{
+    match known {
+        [] => Ok(Vec::new(alloc)),
+        [source] => each_key(alloc, source),
+        [left, right, ..] => {
+            let Some(join) = &select.join else {
+                return Ok(Vec::new(alloc));
+            };
+            if !is_stream(&left.relation) {
+                return tables_need(alloc, join.kind, left, right);
+            }
+            match join_key(alloc, scope, select, known)? {
+                None => Ok(Vec::new(alloc)),
+                Some(side) => {
+                    let side = resolved(alloc, scope, side)?;
+                    stream_needs(alloc, join.kind, right, side)
+                }
+            }
+        }
+    }
+}
+
+/// For each column of the key that a query's result needs, the expressions of which one has to stand among the items.
+/// The scope is that of FROM. The only error is want of memory.
+fn needs(
+    alloc: Global,
+    scope: &Scope,
+    select: &Select,
+    known: &[Known],
+) -> Result<Vec<Vec<Expr>>, AllocError>
+    requires { scope.now ≡ sources.from_scope select.now known.now }
+    ensures { IfOk result (λ needs. map (λ es. es.items) needs.items ≡ spec.needs select.now known.now) }
+{
+    if !select.group.items().is_empty() {
+        return resolved_alone(alloc, scope, select.group.items());
+    }
+    match &select.partition {
+        None => join_needs(alloc, scope, select, known),
+        Some(partition) => {
+            let mut needs = Vec::new(alloc);
+            needs.push(alone(alloc, resolved(alloc, scope, partition)?)?)?;
+            Ok(needs)
+        }
+    }
+}
+
+/// Whether a column is one of some expressions.
+fn is_one_of(exprs: &[Expr], column: &Named) -> bool
+    ensures { result ≡ spec.is_one_of exprs.now column.now }
+{
+    exprs.iter().any(|expr| same_expr(&column.expr, expr))
+}
+
+/// The number of the first column that is one of some expressions.
+#[tactic(auto, unfolding(crate::specs::Keys::first_of))]
+fn first_of(exprs: &[Expr], columns: &[Named]) -> Option<usize>
+    ensures { result ≡ spec.first_of exprs.now 0 columns.now }
+{
+    for (number, column) in columns.iter().enumerate() {
+        if is_one_of(exprs, column) {
+            return Some(number);
+        }
+    }
+    None
+}
+
+/// The numbers of the key's columns among those of a query's result; nothing for one that is missing. The scope is that
+/// of FROM. The only error is want of memory.
+pub fn key_places(
+    alloc: Global,
+    scope: &Scope,
+    select: &Select,
+    known: &[Known],
+    columns: &[Named],
+) -> Result<Vec<Option<usize>>, AllocError>
+    requires of_from { scope.now ≡ sources.from_scope select.now known.now }
+    requires of_result { columns.now ≡ items.result_columns select.now known.now }
+    ensures { IfOk result (λ places. places.items ≡ spec.key_places select.now known.now) }
+{
+    let needs = needs(alloc, scope, select, known)?;
+    let mut places = Vec::new(alloc);
+    for exprs in &needs {
+        places.push(first_of(exprs, columns))?;
+    }
+    Ok(places)
+}
+
+fn column_at(columns: &[Named], place: Option<usize>) -> Option<&Named>
+    ensures { option_copied result ≡ option_and_then (slice_get columns.now) place }
+{
+    match place {
+        None => None,
+        Some(number) => columns.get(number),
+    }
+}
+
+/// The columns of a result at some places: those of its key, where these are the key's. The only error is want of memory.
+pub fn key_columns<'a>(
+    alloc: Global,
+    columns: &'a [Named],
+    places: &[Option<usize>],
+) -> Result<Vec<&'a Named>, AllocError>
+    ensures { IfOk result (λ found. map (λ c. c.now) found.items ≡ breaks.at_places columns.now places.now) }
+{
+    let mut found = Vec::new(alloc);
+    for place in places {
+        if let Some(column) = column_at(columns, *place) {
+            found.push(column)?;
+        }
+    }
+    Ok(found)
+}
+
+/// Whether a number is one of some places.
+fn is_place(number: usize, places: &[Option<usize>]) -> bool
+    ensures { result ≡ list_any (breaks.is_place number) places.now }
+{
+    places.iter().any(|place| *place == Some(number))
+}
+
+/// The columns of a result at no such place: those of its value, where these are the key's. The only error is want of
+/// memory.
+#[tactic(auto, unfolding(crate::specs::Breaks::besides))]
+pub fn value_columns<'a>(
+    alloc: Global,
+    columns: &'a [Named],
+    places: &[Option<usize>],
+) -> Result<Vec<&'a Named>, AllocError>
+    ensures { IfOk result (λ found. map (λ c. c.now) found.items ≡ breaks.besides places.now 0 columns.now) }
+{
+    let mut found = Vec::new(alloc);
+    for (number, column) in columns.iter().enumerate() {
+        if !is_place(number, places) {
+            found.push(column)?;
+        }
+    }
+    Ok(found)
+}

@@ -1,0 +1,10 @@
+//! Scripts: from bytes to the program that they are, or to their first refusal.
+#![tactic(auto)]
+
+mod fault;
+mod laws;
+mod reading;
+
+pub use fault::ScriptFault;
+pub use laws::one_script;
+pub use reading::program_of_script;

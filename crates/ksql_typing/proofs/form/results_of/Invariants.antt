@@ -1,0 +1,5 @@
+use Rattle.std.proofs.Common.{◌≡◌, map, take}
+use Rattle.ksql_typing.proofs.form.results_of.Given as goal
+
+abbrev pub invariant-loop-when : goal.invariant-loop-when
+invariant-loop-when l = l.found.items ≡ map (λ w. w.result.ty) (take l.when-index l.whens)

@@ -1,0 +1,142 @@
+//! The forms of parts that were found out, unless memory ran out.
+
+ghost use Rattle.std.specs.Prelude.{◌≡◌, ◌++◌, ◌∷◌, [], List, IfOk};
+ghost use Rattle.ksql_typing.specs.declared.judged.Judged.{Judged as OneJudged};
+ghost use Rattle.ksql_typing.specs.declared.judged.Perhaps.{Perhaps as OnePerhaps};
+ghost use Rattle.ksql_typing.specs.Judged as spec;
+ghost use Rattle.ksql_typing.specs.Judged.{AreOf, AreOfWhens, JudgedWhen};
+
+use crate::judged::{self, Judged, Parts, Perhaps, WhenParts};
+use ksql_types::{BinaryOp, Chars, SqlType};
+use std::alloc::{AllocError, Global};
+
+/// What was found out, unless memory ran out. The functions of such parts keep the frames that stand on the stack once
+/// for each level of a tree small.
+pub type Found<T> = Result<T, AllocError>;
+
+pub fn sign(alloc: Global, minus: bool, arg: Found<Judged>) -> Found<Judged>
+    ensures { (x : OneJudged) → IfOk arg (λ a. a ≡ x) → IfOk result (λ j. j ≡ spec.sign minus x) }
+{
+    let arg = arg?;
+    judged::sign(alloc, minus, arg)
+}
+
+pub fn binary(
+    alloc: Global,
+    op: BinaryOp,
+    left: Found<Judged>,
+    right: Found<Judged>,
+) -> Found<Judged>
+    ensures { (x y : OneJudged) → IfOk left (λ a. a ≡ x) → IfOk right (λ a. a ≡ y)
+        → IfOk result (λ j. j ≡ spec.binary op x y) }
+{
+    let left = left?;
+    let right = right?;
+    judged::binary(alloc, op, left, right)
+}
+
+pub fn negation(alloc: Global, arg: Found<Judged>) -> Found<Judged>
+    ensures { (x : OneJudged) → IfOk arg (λ a. a ≡ x) → IfOk result (λ j. j ≡ spec.negation x) }
+{
+    let arg = arg?;
+    judged::negation(alloc, arg)
+}
+
+pub fn is_null(alloc: Global, negated: bool, arg: Found<Judged>) -> Found<Judged>
+    ensures { (x : OneJudged) → IfOk arg (λ a. a ≡ x) → IfOk result (λ j. j ≡ spec.is_null negated x) }
+{
+    let arg = arg?;
+    judged::is_null(alloc, negated, arg)
+}
+
+pub fn between(
+    alloc: Global,
+    negated: bool,
+    arg: Found<Judged>,
+    low: Found<Judged>,
+    high: Found<Judged>,
+) -> Found<Judged>
+    ensures { (x y z : OneJudged) → IfOk arg (λ a. a ≡ x) → IfOk low (λ a. a ≡ y) → IfOk high (λ a. a ≡ z)
+        → IfOk result (λ j. j ≡ spec.between negated x y z) }
+{
+    let arg = arg?;
+    let low = low?;
+    let high = high?;
+    judged::between(alloc, negated, arg, low, high)
+}
+
+pub fn one_of(
+    alloc: Global,
+    negated: bool,
+    arg: Found<Judged>,
+    choices: Found<Parts>,
+) -> Found<Judged>
+    ensures { (x : OneJudged) (ys : List OneJudged) → IfOk arg (λ a. a ≡ x) → IfOk choices (λ p. AreOf p ys)
+        → IfOk result (λ j. j ≡ spec.one_of negated x ys) }
+{
+    let arg = arg?;
+    let choices = choices?;
+    judged::one_of(alloc, negated, arg, choices)
+}
+
+pub fn like(alloc: Global, negated: bool, arg: Found<Judged>, pattern: &Chars) -> Found<Judged>
+    ensures { (x : OneJudged) → IfOk arg (λ a. a ≡ x) → IfOk result (λ j. j ≡ spec.like negated pattern.now x) }
+{
+    let arg = arg?;
+    judged::like(alloc, negated, arg, pattern)
+}
+
+pub fn cast(alloc: Global, arg: Found<Judged>, to: SqlType) -> Found<Judged>
+    ensures { (x : OneJudged) → IfOk arg (λ a. a ≡ x) → IfOk result (λ j. j ≡ spec.cast to x) }
+{
+    let arg = arg?;
+    judged::cast(alloc, arg, to)
+}
+
+pub fn case(
+    alloc: Global,
+    arg: Found<Perhaps>,
+    whens: Found<WhenParts>,
+    otherwise: Found<Perhaps>,
+) -> Found<Judged>
+    ensures { (x z : OnePerhaps) (ws : List JudgedWhen) → IfOk arg (λ a. a ≡ x) → IfOk whens (λ p. AreOfWhens p ws)
+        → IfOk otherwise (λ a. a ≡ z) → IfOk result (λ j. j ≡ spec.case x ws z) }
+{
+    let arg = arg?;
+    let whens = whens?;
+    let otherwise = otherwise?;
+    judged::case(alloc, arg, whens, otherwise)
+}
+
+pub fn call(alloc: Global, name: &str, star: bool, args: Found<Parts>) -> Found<Judged>
+    ensures { (xs : List OneJudged) → IfOk args (λ p. AreOf p xs) → IfOk result (λ j. j ≡ spec.call name.now star xs) }
+{
+    let args = args?;
+    judged::call(alloc, name, star, args)
+}
+
+pub fn there(part: Found<Judged>) -> Found<Perhaps>
+    ensures { (x : OneJudged) → IfOk part (λ a. a ≡ x) → IfOk result (λ p. p ≡ spec.there x) }
+{
+    let part = part?;
+    Ok(Perhaps::there(part))
+}
+
+/// With one more expression behind them.
+pub fn with_part(parts: Parts, part: Found<Judged>) -> Found<Parts>
+    ensures { (x : OneJudged) (xs : List OneJudged) → IfOk part (λ a. a ≡ x) → AreOf parts xs
+        → IfOk result (λ all. AreOf all (xs ++ x ∷ [])) }
+{
+    let part = part?;
+    parts.with(part)
+}
+
+/// With one more WHEN behind them.
+pub fn with_when(parts: WhenParts, cond: Found<Judged>, then: Found<Judged>) -> Found<WhenParts>
+    ensures { (x y : OneJudged) (ws : List JudgedWhen) → IfOk cond (λ a. a ≡ x) → IfOk then (λ a. a ≡ y)
+        → AreOfWhens parts ws → IfOk result (λ all. AreOfWhens all (ws ++ spec.when x y ∷ [])) }
+{
+    let cond = cond?;
+    let then = then?;
+    parts.with(cond, then)
+}

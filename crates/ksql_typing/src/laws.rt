@@ -1,0 +1,38 @@
+//! Laws of types and typed trees. None of these functions does anything.
+
+ghost use Rattle.std.specs.Prelude.{◌≡◌, ◌↔◌, false, IsTrue, Option, Some};
+ghost use Rattle.ksql_types.specs.declared.value.SqlType.{SqlType as OneType};
+ghost use Rattle.ksql_grammar.specs.declared.tree.Expr.{Expr as OneExpr};
+ghost use Rattle.ksql_expr.specs.declared.typed.Typed.{Typed as OneTyped};
+ghost use Rattle.ksql_typing.specs.declared.scope.Scope.{Scope as OneScope};
+ghost use Rattle.ksql_typing.specs.Decisions as decided;
+ghost use Rattle.ksql_typing.specs.Decisions.{HasValue, CanBeTrue, CanAgree};
+ghost use Rattle.ksql_typing.specs.Judged.{judged};
+ghost use Rattle.ksql_typing.specs.Possible.{has, is_some_in};
+ghost use Rattle.ksql_typing.specs.Standing.{IsTypedTree};
+ghost use Rattle.ksql_typing.specs.Typed.{AreNamesClear};
+ghost use Rattle.ksql_typing.specs.Typing.{HasType, HasSomeType};
+ghost use Rattle.ksql_typing.specs.Uses.{has_unknown_function};
+
+/// What is found out of an expression is exact: its types are those that it can have, and its tree is the one typed tree
+/// of the expression. There is a tree of each type of an expression whose functions are all known. The tree's type is
+/// one of the expression's types, its functions are known, and the names of an expression with a type are clear.
+pub fn types_are_decided()
+    ensures types { (s : OneScope) (a : OneExpr) (t : Option OneType) → IsTrue (has (judged a s).types t) ↔ HasType s a t }
+    ensures tree { (s : OneScope) (a : OneExpr) (x : OneTyped) → ((judged a s).tree ≡ Some x) ↔ IsTypedTree s a x }
+    ensures one_tree { (s : OneScope) (a : OneExpr) (x y : OneTyped) → IsTypedTree s a x → IsTypedTree s a y → x ≡ y }
+    ensures accepted { (s : OneScope) (a : OneExpr) (t : Option OneType) → has_unknown_function a ≡ false → HasType s a t
+        → (x : OneTyped) × IsTypedTree s a x × (x.ty ≡ t) }
+    ensures tree_type { (s : OneScope) (a : OneExpr) (x : OneTyped) → IsTypedTree s a x → HasType s a x.ty }
+    ensures known { (s : OneScope) (a : OneExpr) (x : OneTyped) → IsTypedTree s a x → has_unknown_function a ≡ false }
+    ensures clear { (s : OneScope) (a : OneExpr) (t : Option OneType) → HasType s a t → AreNamesClear s a }
+{}
+
+/// What is decided by sets of types holds of the expressions.
+pub fn types_decide()
+    ensures some_type { (s : OneScope) (a : OneExpr) → IsTrue (is_some_in (judged a s).types) ↔ HasSomeType s a }
+    ensures value { (s : OneScope) (a : OneExpr) → IsTrue (decided.has_value (judged a s).types) ↔ HasValue s a }
+    ensures truth { (s : OneScope) (a : OneExpr) → IsTrue (decided.can_be_true (judged a s).types) ↔ CanBeTrue s a }
+    ensures agreement { (s : OneScope) (a b : OneExpr)
+        → IsTrue (decided.can_agree (judged a s).types (judged b s).types) ↔ CanAgree s (a, b) }
+{}

@@ -1,0 +1,7 @@
+//! The text of a report: the records that were fed, and the changes of each relation.
+#![tactic(auto)]
+
+mod printed;
+mod program_report;
+
+pub use program_report::report;

@@ -1,0 +1,126 @@
+//! The lines of a report on records and changes.
+
+ghost use Rattle.std.specs.Prelude.{◌≡◌, ◌++◌, List, OnOk, map, option_map, string_bytes};
+ghost use Rattle.ksql_types.specs.declared.relation.Column.{Column as OneColumn};
+ghost use Rattle.topic_files.specs.Printed.{labels_of};
+ghost use Rattle.run_text.specs.Printed.{body_text, cells_text, change_line, key_text, order_line, row_text, span_text};
+ghost use Rattle.run_text.specs.Report.{HasPartitions};
+
+use ksql_place::{Body, Change, SourceRecord};
+use ksql_types::{Relation, Row, Span, Value};
+use query_meaning::partition_of;
+use std::alloc::{AllocError, Global};
+use topic_files::{push_object, push_printed};
+
+/// Appends the values with commas between.
+#[tactic(auto, unfolding(crate::specs::Printed::cells_text))]
+fn push_cells(out: &mut String, alloc: Global, cells: &[Value]) -> Result<(), AllocError>
+    ensures { OnOk result (string_bytes out.new ≡ string_bytes out.old ++ cells_text cells.now) }
+{
+    let mut separator = "";
+    for cell in cells {
+        out.push_str(separator)?;
+        push_printed(out, alloc, cell)?;
+        separator = ",";
+    }
+    Ok(())
+}
+
+/// Appends the key as JSON.
+#[tactic(auto, using(crate::proofs::ReportLemmas::appends), unfolding(crate::specs::Printed::key_text))]
+fn push_key(out: &mut String, alloc: Global, key: &[Value]) -> Result<(), AllocError>
+    ensures { OnOk result (string_bytes out.new ≡ string_bytes out.old ++ key_text key.now) }
+{
+    match key {
+        [] => out.push_str("null"),
+        [cell] => push_printed(out, alloc, cell),
+        _ => {
+            out.push_str("[")?;
+            push_cells(out, alloc, key)?;
+            out.push_str("]")
+        }
+    }
+}
+
+/// Appends the window of a change, where it has one.
+#[tactic(auto, unfolding(crate::specs::Printed::span_text))]
+fn push_span(out: &mut String, span: Option<Span>) -> Result<(), AllocError>
+    ensures { OnOk result (string_bytes out.new ≡ string_bytes out.old ++ span_text span) }
+{
+    match span {
+        None => Ok(()),
+        Some(Span { start, end }) => write!(out, ",\"w\":[{start},{end}]"),
+    }
+}
+
+/// Appends a row of the columns that have these labels, or null where there is none.
+#[tactic(auto, unfolding(crate::specs::Printed::row_text))]
+fn push_row(
+    out: &mut String,
+    alloc: Global,
+    labels: &[String],
+    row: Option<&Row>,
+) -> Result<(), AllocError>
+    ensures { (columns : List OneColumn) → map string_bytes labels.now ≡ labels_of columns
+        → OnOk result (string_bytes out.new
+        ≡ string_bytes out.old ++ row_text columns (option_map (λ r. r.now) row.entry)) }
+{
+    match row {
+        Some(row) => push_object(out, alloc, labels, row.items()),
+        None => out.push_str("null"),
+    }
+}
+
+/// Appends what a change says, where the value columns have these labels.
+#[tactic(auto, unfolding(crate::specs::Printed::body_text))]
+fn push_body(
+    out: &mut String,
+    alloc: Global,
+    labels: &[String],
+    body: &Body,
+) -> Result<(), AllocError>
+    ensures { (columns : List OneColumn) → map string_bytes labels.now ≡ labels_of columns
+        → OnOk result (string_bytes out.new ≡ string_bytes out.old ++ body_text columns body.now) }
+{
+    match body {
+        Body::Said(row) => push_row(out, alloc, labels, Some(row)),
+        Body::Turned { new, .. } => push_row(out, alloc, labels, new.as_ref()),
+    }
+}
+
+/// Appends the line of a change of a relation whose value columns have these labels.
+#[tactic(auto, using(crate::proofs::ReportLemmas::appends), unfolding(crate::specs::Printed::change_line))]
+pub fn push_change(
+    out: &mut String,
+    alloc: Global,
+    relation: &Relation,
+    labels: &[String],
+    change: &Change,
+) -> Result<(), AllocError>
+    requires parts { HasPartitions relation.now }
+    requires labelled { map string_bytes labels.now ≡ labels_of relation.now.schema.values }
+    ensures { OnOk result (string_bytes out.new
+        ≡ string_bytes out.old ++ change_line relation.now change.now) }
+{
+    let part = partition_of(relation, change);
+    let time = change.time;
+    write!(out, "{{\"p\":{part},\"t\":{time},\"k\":")?;
+    push_key(out, alloc, change.key.items())?;
+    push_span(out, change.span)?;
+    out.push_str(",\"v\":")?;
+    push_body(out, alloc, labels, &change.body)?;
+    out.push_str("}\n")
+}
+
+/// Appends the line of a record that was fed from this topic.
+#[tactic(auto, unfolding(crate::specs::Printed::order_line))]
+pub fn push_order_line(out: &mut String, topic: &str, fed: &SourceRecord) -> Result<(), AllocError>
+    ensures { OnOk result (string_bytes out.new ≡ string_bytes out.old ++ order_line topic.now fed.now) }
+{
+    let stamp = fed.stamp;
+    writeln!(
+        out,
+        "{} {topic} {} {} {}",
+        stamp.feed, stamp.part, stamp.offset, fed.time
+    )
+}

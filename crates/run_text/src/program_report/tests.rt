@@ -1,0 +1,197 @@
+ghost use Rattle.std.specs.Prelude.{◌≡◌, IfOk};
+
+use super::*;
+use ksql_place::{Body, Place, Stamp};
+use ksql_program::{From, Query, Shape};
+use ksql_types::{Chars, Column, Format, Items, Key, Schema, Span, SqlType, Value};
+use std::test::Fail;
+
+#[tactic(auto, unfolding(ksql_types::specs::Text::longest_text))]
+fn chars(alloc: Global, text: &str) -> Result<Chars, AllocError> {
+    if text.len() > 1000 {
+        return Err(AllocError);
+    }
+    Ok(Chars::of(String::from_str(alloc, text)?))
+}
+
+fn column(alloc: Global, name: &str, ty: SqlType) -> Result<Column, AllocError> {
+    Ok(Column {
+        name: chars(alloc, name)?,
+        ty,
+    })
+}
+
+/// A stream in four partitions with the key column ID and the value columns NAME, BIG and on.
+fn stream(
+    alloc: Global,
+    number: u32,
+    name: &str,
+    topic: &str,
+    declared: bool,
+) -> Result<Relation, AllocError>
+    ensures { IfOk result (λ stream. stream.partitions ≡ 4) }
+{
+    let keys = Items::of(vec![in alloc; column(alloc, "ID", SqlType::Text)?]?);
+    let values = Items::of(vec![in alloc;
+        column(alloc, "NAME", SqlType::Text)?,
+        column(alloc, "BIG", SqlType::Big)?,
+        column(alloc, "on", SqlType::Bool)?,
+    ]?);
+    Ok(Relation {
+        number,
+        name: chars(alloc, name)?,
+        kind: Kind::Stream,
+        schema: Schema { keys, values },
+        topic: chars(alloc, topic)?,
+        partitions: 4,
+        format: Format::Json,
+        declared,
+    })
+}
+
+/// The report on the stream S over the topic s and on a query BIG over it.
+fn reported(
+    alloc: Global,
+    order: &[SourceRecord],
+    lists: &[Changes],
+) -> Result<String, AllocError> {
+    let declared = stream(alloc, 0, "S", "s", true)?;
+    let out = stream(alloc, 1, "BIG", "BIG", false)?;
+    let big = Query {
+        from: From::One { relation: 0 },
+        filter: None,
+        shape: Shape::Plain {
+            keys: Items::of(Vec::new(alloc)),
+            values: Items::of(Vec::new(alloc)),
+        },
+        out,
+    };
+    let items = vec![in alloc; Item::Declared(declared), Item::Started(big)]?;
+    let items = Items::of(items);
+    report(alloc, &Program { items }, 1, order, lists)
+}
+
+/// The stamp of a record without a key in partition 2.
+fn stamp(offset: u64, time: u64) -> Stamp {
+    Stamp {
+        feed: 1,
+        high: time,
+        topic: 0,
+        part: 2,
+        offset,
+    }
+}
+
+fn fed(alloc: Global, offset: u64, time: u64, value: Decoded) -> SourceRecord {
+    SourceRecord {
+        stamp: stamp(offset, time),
+        time,
+        key: Key::of(Vec::new(alloc)),
+        value,
+    }
+}
+
+fn change(alloc: Global, time: u64, key: Key, span: Option<Span>, body: Body) -> Change {
+    Change {
+        place: Place {
+            stamp: stamp(0, time),
+            path: Items::of(Vec::new(alloc)),
+        },
+        time,
+        key,
+        span,
+        body,
+    }
+}
+
+/// The change of a record without a key and with nulls.
+fn nulls(alloc: Global, time: u64) -> Result<Change, AllocError> {
+    let row = vec![in alloc; Value::Null, Value::Null, Value::Bool(false)]?;
+    let body = Body::Said(Items::of(row));
+    Ok(change(alloc, time, Key::of(Vec::new(alloc)), None, body))
+}
+
+/// The line of a change of the stream S.
+fn line_of(alloc: Global, change: &Change) -> Result<String, AllocError> {
+    let stream = stream(alloc, 0, "S", "s", true)?;
+    let labels = labels(alloc, stream.schema.values.items())?;
+    let mut line = String::new(alloc);
+    push_change(&mut line, alloc, &stream, &labels, change)?;
+    Ok(line)
+}
+
+#[test]
+fn shows_a_stream_and_a_query_over_it(rt: HostRuntime) -> Result<(), Fail> {
+    let alloc = rt.alloc();
+    let order = vec![in alloc;
+        fed(alloc, 0, 5, Decoded::Skipped),
+        fed(alloc, 1, 7, Decoded::Good(Items::of(Vec::new(alloc)))),
+        fed(alloc, 2, 4, Decoded::Tombstone),
+    ]?;
+    let said = vec![in alloc; nulls(alloc, 5)?, nulls(alloc, 7)?]?;
+    let kept = vec![in alloc; nulls(alloc, 7)?]?;
+    let lists = vec![in alloc; Items::of(said), Items::of(kept)]?;
+    assert_eq!(rt;
+        reported(alloc, &order, &lists)?.as_str(),
+        concat!(
+            "order 3\n1 s 2 0 5\n1 s 2 1 7\n1 s 2 2 4\n",
+            "stream S declared c=1 skipped=1 changes=2\n",
+            "{\"p\":2,\"t\":5,\"k\":null,\"v\":{\"NAME\":null,\"BIG\":null,\"on\":false}}\n",
+            "{\"p\":2,\"t\":7,\"k\":null,\"v\":{\"NAME\":null,\"BIG\":null,\"on\":false}}\n",
+            "stream BIG query c=1 changes=1\n",
+            "{\"p\":2,\"t\":7,\"k\":null,\"v\":{\"NAME\":null,\"BIG\":null,\"on\":false}}\n",
+            "end\n",
+        )
+    );
+    Ok(())
+}
+
+#[test]
+fn shows_no_records(rt: HostRuntime) -> Result<(), Fail> {
+    assert_eq!(rt;
+        reported(rt.alloc(), &[], &[])?.as_str(),
+        "order 0\nstream S declared c=1 skipped=0 changes=0\nstream BIG query c=1 changes=0\nend\n"
+    );
+    Ok(())
+}
+
+#[test]
+fn prints_a_window_and_a_key_of_two_columns(rt: HostRuntime) -> Result<(), Fail> {
+    let alloc = rt.alloc();
+    let key = vec![in alloc; Value::Txt(chars(alloc, "a")?), Value::Int(7)]?;
+    let row = vec![in alloc;
+        Value::Txt(chars(alloc, "q\" b\\ c\u{1} l\n é")?),
+        Value::Big(-9_223_372_036_854_775_808),
+        Value::Bool(true),
+    ]?;
+    let span = Some(Span {
+        start: 1000,
+        end: 2000,
+    });
+    let body = Body::Said(Items::of(row));
+    let windowed = change(alloc, 1234, Key::of(key), span, body);
+    assert_eq!(rt;
+        line_of(alloc, &windowed)?.as_str(),
+        concat!(
+            "{\"p\":3,\"t\":1234,\"k\":[\"a\",7],\"w\":[1000,2000],",
+            "\"v\":{\"NAME\":\"q\\\" b\\\\ c\\u0001 l\\n é\",\"BIG\":-9223372036854775808,\"on\":true}}\n",
+        )
+    );
+    Ok(())
+}
+
+#[test]
+fn prints_null_for_a_tombstone(rt: HostRuntime) -> Result<(), Fail> {
+    let alloc = rt.alloc();
+    let key = vec![in alloc; Value::Txt(chars(alloc, "a")?)]?;
+    let body = Body::Turned {
+        old: Some(Items::of(Vec::new(alloc))),
+        new: None,
+    };
+    let gone = change(alloc, 9, Key::of(key), None, body);
+    assert_eq!(rt;
+        line_of(alloc, &gone)?.as_str(),
+        "{\"p\":1,\"t\":9,\"k\":\"a\",\"v\":null}\n"
+    );
+    Ok(())
+}

@@ -1,0 +1,11 @@
+//! The records of topic files as they are fed: partitions, offsets and stamps.
+#![tactic(auto)]
+
+mod feeding;
+mod laws;
+
+pub use feeding::push_fed;
+pub use laws::feeds_are_merged;
+
+#[cfg(test)]
+mod tests;

@@ -1,0 +1,4 @@
+pub mod FileLemmas
+pub mod LineLemmas
+pub mod Members
+pub mod Texts

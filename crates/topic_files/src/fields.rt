@@ -1,0 +1,134 @@
+//! The values that the fields of a line stand for, by the types of their columns.
+
+ghost use Rattle.std.specs.Prelude.{◌≡◌, IfOk, IfSome, option_and_then, option_map, false};
+ghost use Rattle.ksql_types.specs.Key.{is_null};
+ghost use Rattle.serde_json.specs.View.{members_view, view};
+ghost use Rattle.topic_files.specs.Cells.{cell, cells, column_field, int_of, least_like, named_field, text_form, text_value, typed, value_of_type};
+
+use ksql_types::{Chars, Column, SqlType, Value};
+use serde_json::{Map, Value as Json};
+use std::alloc::{AllocError, Global};
+
+/// The most bytes of a text that is a value.
+const LONGEST_VALUE: usize = 65_536;
+
+/// The values of these columns in an object, in their order, None where a field isn't of its column's type.
+pub(crate) fn cells(
+    alloc: Global,
+    columns: &[Column],
+    object: &Json,
+) -> Result<Option<Vec<Value>>, AllocError>
+    ensures { IfOk result (λ row. option_map (λ values. values.items) row ≡ cells columns.now (view object.now)) }
+{
+    let mut values = Vec::new(alloc);
+    for column in columns {
+        match cell(alloc, column, object)? {
+            Some(value) => values.push(value)?,
+            None => return Ok(None),
+        }
+    }
+    Ok(Some(values))
+}
+
+/// The value of a column in an object, None where its field isn't of its type.
+fn cell(alloc: Global, column: &Column, object: &Json) -> Result<Option<Value>, AllocError>
+    ensures { IfOk result (λ value. value ≡ cell column.now (view object.now)) }
+{
+    match column_field(object, column.name.items()) {
+        Some(field) => value_of_type(alloc, column.ty, field),
+        None => Ok(Some(Value::Null)),
+    }
+}
+
+/// The field of a column of this name, None where it is missing or null.
+fn column_field<'a>(object: &'a Json, name: &str) -> Option<&'a Json>
+    ensures { option_map (λ field. view field.now) result ≡ column_field name.now (view object.now) }
+{
+    named_field(object, name).filter(|field| !field.is_null())
+}
+
+/// The field of exactly this name, else the least of those whose names differ from it in case alone.
+fn named_field<'a>(object: &'a Json, name: &str) -> Option<&'a Json>
+    ensures { option_map (λ field. view field.now) result ≡ named_field name.now (view object.now) }
+{
+    match object.get(name) {
+        Some(field) => Some(field),
+        None => least_like(object.as_object()?, name),
+    }
+}
+
+/// Of the members whose names differ from this one in case alone, the one of the least name.
+fn least_like<'a>(members: &'a Map<String, Json>, name: &str) -> Option<&'a Json>
+    ensures { option_map (λ field. view field.now) result
+        ≡ option_map (λ found. found.1) (least_like name.now (members_view members.now.entries)) }
+{
+    for (key, field) in members.iter() {
+        if key.as_str().eq_ignore_ascii_case(name) {
+            return Some(field);
+        }
+    }
+    None
+}
+
+/// The value of this type that a field stands for in a row, None where it stands for none.
+fn value_of_type(alloc: Global, ty: SqlType, field: &Json) -> Result<Option<Value>, AllocError>
+    ensures { IfOk result (λ value. value ≡ value_of_type ty (view field.now)) }
+{
+    match ty {
+        SqlType::Text => text_form(alloc, field),
+        _ => typed(alloc, ty, field),
+    }
+}
+
+/// The value of this type that a field is, None where it isn't of the type.
+pub(crate) fn typed(alloc: Global, ty: SqlType, field: &Json) -> Result<Option<Value>, AllocError>
+    ensures value { IfOk result (λ value. value ≡ typed ty (view field.now)) }
+    ensures present { IfOk result (λ value. IfSome value (λ v. is_null v ≡ false)) }
+{
+    match ty {
+        SqlType::Int => Ok(int_of(field).map(Value::Int)),
+        SqlType::Big => Ok(field.as_i64().map(Value::Big)),
+        SqlType::Bool => Ok(field.as_bool().map(Value::Bool)),
+        SqlType::Text => match field.as_str() {
+            Some(text) => text_value(alloc, text),
+            None => Ok(None),
+        },
+    }
+}
+
+/// A whole number of 32 bits.
+fn int_of(field: &Json) -> Option<i32>
+    ensures { result ≡ int_of (view field.now) }
+{
+    i32::try_from(field.as_i64()?).ok()
+}
+
+/// The text of a field that is a text, a whole number or a truth value, as a value.
+fn text_form(alloc: Global, field: &Json) -> Result<Option<Value>, AllocError>
+    ensures { IfOk result (λ value. value ≡ option_and_then text_value (text_form (view field.now))) }
+{
+    if let Some(text) = field.as_str() {
+        return text_value(alloc, text);
+    }
+    if let Some(number) = field.as_i64() {
+        let text = format!(in alloc; "{number}")?;
+        return text_value(alloc, text.as_str());
+    }
+    match field.as_bool() {
+        Some(truth) => text_value(alloc, if truth { "true" } else { "false" }),
+        None => Ok(None),
+    }
+}
+
+/// A text as a value, None where it has more than 65,536 bytes.
+#[tactic(auto, unfolding(ksql_types::specs::Text::longest_text))]
+fn text_value(alloc: Global, text: &str) -> Result<Option<Value>, AllocError>
+    ensures value { IfOk result (λ value. value ≡ text_value text.now) }
+    ensures present { IfOk result (λ value. IfSome value (λ v. is_null v ≡ false)) }
+{
+    if text.len() > LONGEST_VALUE {
+        return Ok(None);
+    }
+    let text = Chars::of(String::from_str(alloc, text)?);
+    Ok(Some(Value::Txt(text)))
+}

@@ -1,0 +1,17 @@
+//! Topic files: their lines, the records that these say by the schema of a relation, and the printed text of a value.
+#![tactic(auto)]
+
+mod fields;
+mod file;
+mod line;
+mod lines;
+mod printed;
+mod record;
+mod topic;
+
+pub use file::read_topic;
+pub use printed::{labels, push_object, push_printed, value_text};
+pub use topic::{Fed, Feds, FileFault, LineWhy, Room, TopicLines};
+
+#[cfg(test)]
+mod tests;
