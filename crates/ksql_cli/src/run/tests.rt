@@ -373,15 +373,15 @@ fn scripts_are_refused_in_their_statements(rt: HostRuntime) -> Result<(), Fail> 
 }
 
 #[test]
-fn the_largest_statements_are_run(rt: HostRuntime) -> Result<(), Fail> {
+fn deep_statements_are_run(rt: HostRuntime) -> Result<(), Fail> {
     let alloc = rt.alloc();
     let open = "(".repeat(alloc, 64)?;
     let close = ")".repeat(alloc, 64)?;
     let nested = format!(in alloc; "{open}1{close}")?;
     for (repeated, times, last) in [
-        ("NOT ", 1988, "TRUE"),
-        ("- ", 1988, "1"),
-        ("1 + ", 994, "1"),
+        ("NOT ", 200, "TRUE"),
+        ("- ", 200, "1"),
+        ("1 + ", 100, "1"),
         ("", 1, nested.as_str()),
     ] {
         let front = repeated.repeat(alloc, times)?;
