@@ -12,22 +12,21 @@ use Rattle.ksql_expr.specs.declared.typed.Typed.{Typed}
 use Rattle.ksql_expr.specs.declared.typed.TypedNode.TheVariants as n
 use Rattle.ksql_expr.specs.Typing as w
 use Rattle.ksql_expr.specs.Typing.{HasTypes, of}
-use Rattle.ksql_typing.specs.declared.scope.Scope.{Scope}
-use Rattle.ksql_typing.specs.Functions.{is_aggregate}
-use Rattle.ksql_typing.specs.Scope.{column_types}
+use Rattle.ksql_scope.specs.declared.scope.Scope.{Scope}
+use Rattle.ksql_scope.specs.Functions.{is_aggregate}
+use Rattle.ksql_scope.specs.Scope.{column_types}
+use Rattle.ksql_scope.specs.Uses.{IsSmall, is_small, are_small, are_whens_small, is_small_perhaps, all_of, perhaps}
+use Rattle.ksql_scope.proofs.Disjoint.{no-aggregate}
+use Rattle.ksql_scope.proofs.Sets.{both-true}
+use Rattle.ksql_scope.proofs.Small as small
 use Rattle.ksql_typing.specs.Standing as st
 use Rattle.ksql_typing.specs.Standing.{Stands, Pair, IsTypedTree, digits_value}
-use Rattle.ksql_typing.specs.Uses.{IsSmall, is_small, are_small, are_whens_small, is_small_perhaps, all_of, perhaps}
-use Rattle.ksql_typing.proofs.Disjoint.{no-aggregate}
-use Rattle.ksql_typing.proofs.Inversion.{Checks, checks}
-use Rattle.ksql_typing.proofs.Sets.{both-true}
-use Rattle.ksql_typing.proofs.Small as small
+use Rattle.ksql_typing.proofs.Inversion.{Checks, checks, inner}
 use Rattle.ksql_typing.proofs.Trees.{HaveTypes}
 use Rattle.ksql_grouping.specs.Grouping.{gives, whole_aggregate, aggregates_of}
 use Rattle.ksql_grouping.proofs.Gives.{gives-decided, gives-Digits, gives-Text, gives-Truth, gives-Null, gives-Name, gives-Sign, gives-Binary, gives-Not, gives-IsNull, gives-Between, gives-OneOf, gives-Like, gives-Cast, gives-Case, gives-Call}
 use Rattle.ksql_analyse.specs.Typable.{IsAggregateNode}
 use Rattle.ksql_analyse.proofs.LateForms as f
-use Rattle.ksql_analyse.proofs.OneStanding.{inner}
 use Rattle.ksql_analyse.proofs.SoundColumns.{each-append}
 
 whole-Digits : (number : ℕ) → whole_aggregate (e.Digits number) ≡ None

@@ -8,12 +8,13 @@ use Rattle.ksql_types.specs.declared.value.SqlType.{SqlType}
 use Rattle.ksql_grammar.specs.declared.tree.Expr.{Expr}
 use Rattle.ksql_grammar.specs.declared.tree.Expr.TheVariants as e
 use Rattle.ksql_grammar.specs.declared.tree.WhenText.{WhenText}
-use Rattle.ksql_typing.specs.Functions.{is_aggregate}
-use Rattle.ksql_typing.specs.Uses.{all_of, perhaps}
-use Rattle.ksql_grouping.specs.Grouping.{aggregates_of, whole_aggregate, is_aggregate_call, has_aggregate, any_of, any_perhaps}
+use Rattle.ksql_scope.specs.Functions.{is_aggregate}
+use Rattle.ksql_scope.specs.Uses.{all_of, perhaps}
+use Rattle.ksql_scope.proofs.Induction.{IfThere, InWhen, induction}
+use Rattle.ksql_walks.specs.Parts.{any_of, any_perhaps}
+use Rattle.ksql_grouping.specs.Grouping.{aggregates_of, whole_aggregate, is_aggregate_call, has_aggregate}
 use Rattle.ksql_grouping.proofs.Calls as called
 use Rattle.ksql_grouping.proofs.Gives as given
-use Rattle.ksql_analyse.proofs.Induction.{OfPart, OfWhen, by_form}
 use Rattle.ksql_analyse.proofs.SoundColumns.{each-append}
 use Rattle.ksql_analyse.proofs.Bearing.{some, some-append}
 
@@ -135,7 +136,7 @@ pub record Inherits (R : Expr → Type 0) : Type 0 where
   pub one_of : (m : Bool) (a : Expr) (es : List Expr) → R (e.OneOf m a es) → R a × Each R es
   pub like : (m : Bool) (a : Expr) (t : List ℕ) → R (e.Like m a t) → R a
   pub cast : (a : Expr) (to : SqlType) → R (e.Cast a to) → R a
-  pub case : (x : Option Expr) (ws : List WhenText) (z : Option Expr) → R (e.Case x ws z) → OfPart R x × Each (OfWhen R) ws × OfPart R z
+  pub case : (x : Option Expr) (ws : List WhenText) (z : Option Expr) → R (e.Case x ws z) → IfThere R x × Each (InWhen R) ws × IfThere R z
   pub call : (f : List ℕ) (star : Bool) (es : List Expr) → R (e.Call f star es) → Each R es
 
 module _ (R : Expr → Type 0) (inherits : Inherits R) where
@@ -150,13 +151,13 @@ module _ (R : Expr → Type 0) (inherits : Inherits R) where
   to-all [] k h = tt
   to-all (a ∷ es) k h = each-append Kept (aggregates_of a) (all_of (map aggregates_of es)) (k.0 h.0) (to-all es k.1 h.1)
 
-  to-whens : (ws : List WhenText) → Each (OfWhen Hands) ws → Each (OfWhen R) ws → Each Kept (all_of (map when_aggregates ws))
+  to-whens : (ws : List WhenText) → Each (InWhen Hands) ws → Each (InWhen R) ws → Each Kept (all_of (map when_aggregates ws))
   to-whens [] k h = tt
   to-whens (w ∷ ws) k h =
       each-append Kept (when_aggregates w) (all_of (map when_aggregates ws))
       (each-append Kept (aggregates_of w.cond) (aggregates_of w.result) (k.0.0 h.0.0) (k.0.1 h.0.1)) (to-whens ws k.1 h.1)
 
-  to-part : (x : Option Expr) → OfPart Hands x → OfPart R x → Each Kept (perhaps (option_map aggregates_of x))
+  to-part : (x : Option Expr) → IfThere Hands x → IfThere R x → Each Kept (perhaps (option_map aggregates_of x))
   to-part None k h = tt
   to-part (Some a) k h = k h
 
@@ -171,7 +172,7 @@ module _ (R : Expr → Type 0) (inherits : Inherits R) where
       at false g = moved _ (all_of (map aggregates_of es)) (of-function f star es g) (to-all es k (inherits.call f star es h))
 
   pub aggregates-inherit : (a : Expr) → Hands a
-  aggregates-inherit = by_form Hands (record {
+  aggregates-inherit = induction Hands (record {
     digits = λ n h. moved _ [] (of-Digits n) tt;
     text = λ t h. moved _ [] (of-Text t) tt;
     truth = λ b h. moved _ [] (of-Truth b) tt;
@@ -198,13 +199,13 @@ all-seen : (es : List Expr) → Each IsSeen es → any_of (map has_aggregate es)
 all-seen [] k = refl
 all-seen (a ∷ es) k = ap₂ (λ x y. x || y) k.0 (all-seen es k.1) ∙ sym (some-append (aggregates_of a) (all_of (map aggregates_of es)))
 
-whens-seen : (ws : List WhenText) → Each (OfWhen IsSeen) ws → any_of (map (λ w. has_aggregate w.cond || has_aggregate w.result) ws) ≡ some (all_of (map when_aggregates ws))
+whens-seen : (ws : List WhenText) → Each (InWhen IsSeen) ws → any_of (map (λ w. has_aggregate w.cond || has_aggregate w.result) ws) ≡ some (all_of (map when_aggregates ws))
 whens-seen [] k = refl
 whens-seen (w ∷ ws) k =
     ap₂ (λ x y. x || y) (ap₂ (λ x y. x || y) k.0.0 k.0.1 ∙ sym (some-append (aggregates_of w.cond) (aggregates_of w.result))) (whens-seen ws k.1)
     ∙ sym (some-append (when_aggregates w) (all_of (map when_aggregates ws)))
 
-part-seen : (x : Option Expr) → OfPart IsSeen x → any_perhaps (option_map has_aggregate x) ≡ some (perhaps (option_map aggregates_of x))
+part-seen : (x : Option Expr) → IfThere IsSeen x → any_perhaps (option_map has_aggregate x) ≡ some (perhaps (option_map aggregates_of x))
 part-seen None k = refl
 part-seen (Some a) k = k
 
@@ -219,7 +220,7 @@ call-seen f star es k = at (is_aggregate f) refl
     at false g = calls ∙ ap (λ b. b || any_of (map has_aggregate es)) g ∙ all-seen es k ∙ sym (ap some (of-function f star es g))
 
 pub aggregates-seen : (a : Expr) → has_aggregate a ≡ some (aggregates_of a)
-aggregates-seen = by_form IsSeen (record {
+aggregates-seen = induction IsSeen (record {
   digits = λ n. called.calls-Digits is_aggregate (e.Digits n) n refl ∙ sym (ap some (of-Digits n));
   text = λ t. called.calls-Text is_aggregate (e.Text t) t refl ∙ sym (ap some (of-Text t));
   truth = λ b. called.calls-Truth is_aggregate (e.Truth b) b refl ∙ sym (ap some (of-Truth b));

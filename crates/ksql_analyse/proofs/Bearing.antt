@@ -16,20 +16,20 @@ use Rattle.ksql_expr.specs.declared.typed.TypedNode.TheVariants as n
 use Rattle.ksql_expr.specs.declared.typed.TypedNode.TheOpen.{TypedNode-F}
 use Rattle.ksql_expr.specs.Aggregates.{holds, is_aggregate as is_aggregate_node, is_long_text, is_column, holds_aggregate, holds_long_text, holds_column, HoldsNoAggregate, HoldsShortTexts, HoldsColumn}
 use Rattle.ksql_expr.specs.Typing.{of}
-use Rattle.ksql_typing.specs.declared.scope.Scope.{Scope}
-use Rattle.ksql_typing.specs.Functions.{is_aggregate}
-use Rattle.ksql_typing.specs.Scope.{meanings}
+use Rattle.ksql_scope.specs.declared.scope.Scope.{Scope}
+use Rattle.ksql_scope.specs.Functions.{is_aggregate}
+use Rattle.ksql_scope.specs.Scope.{meanings}
+use Rattle.ksql_scope.specs.Uses.{Use, names, calls, is_small, IsSmall, are_small, are_whens_small, is_small_perhaps, all_of, in_aggregate, small_step}
+use Rattle.ksql_scope.specs.Uses as uses
+use Rattle.ksql_scope.proofs.Disjoint.{no-aggregate}
+use Rattle.ksql_scope.proofs.Disjoint as disjoint
+use Rattle.ksql_scope.proofs.Equations as q
+use Rattle.ksql_scope.proofs.Folds as folds
+use Rattle.ksql_scope.proofs.Folds.{perhaps_folded}
+use Rattle.ksql_scope.proofs.Sets.{and-true, both-true}
+use Rattle.ksql_scope.proofs.Small as small
 use Rattle.ksql_typing.specs.Standing as st
 use Rattle.ksql_typing.specs.Standing.{Pair, Stands, digits_value, one, perhaps, each, whens}
-use Rattle.ksql_typing.specs.Uses.{Use, names, calls, is_small, IsSmall, are_small, are_whens_small, is_small_perhaps, all_of, in_aggregate, small_step}
-use Rattle.ksql_typing.specs.Uses as uses
-use Rattle.ksql_typing.proofs.Disjoint.{no-aggregate}
-use Rattle.ksql_typing.proofs.Disjoint as disjoint
-use Rattle.ksql_typing.proofs.Equations as q
-use Rattle.ksql_typing.proofs.Folds as folds
-use Rattle.ksql_typing.proofs.Folds.{perhaps_folded}
-use Rattle.ksql_typing.proofs.Sets.{and-true, both-true}
-use Rattle.ksql_typing.proofs.Small as small
 use Rattle.ksql_analyse.proofs.Holding as hold
 use Rattle.ksql_analyse.proofs.Holding.{each_holds, whens_hold, part_holds}
 use Rattle.ksql_analyse.proofs.Meant.{IsMeant, meant}
@@ -137,6 +137,20 @@ module _ (far : ℕ → Bool) (ok : Use → Bool) where
   text-small content h =
       le-ltb 65536 (length content) (leb-true (length content) 65536 (sym (folds.fold-Text Bool Bool small_step (λ w. w.cond && w.result) content) ∙ h))
 
+  pattern-small : (m : Bool) (a : Expr) (pattern : List ℕ) → IsSmall (e.Like m a pattern) → nat_le (length pattern) 65536 ≡ true
+  unfolding is_small
+  pattern-small m a pattern h =
+      (both-true (is_small a) (nat_le (length pattern) 65536) (sym (folds.fold-Like Bool Bool small_step (λ w. w.cond && w.result) m a pattern) ∙ h)).1
+
+  -- a LIKE without what stands in front of it
+  of-pattern : (m : Bool) (pattern : List ℕ) (x : Leaf → Bool) → Bears [] [] (nat_le (length pattern) 65536) (λ leaf. leaf (TypedNode-F.Like m (x leaf) pattern))
+  of-pattern m pattern x = record {
+    aggregates = λ k. refl;
+    texts = λ k. le-ltb 65536 (length pattern) (leb-true (length pattern) 65536 k);
+    columns = λ k. refl;
+    near = λ k l. refl;
+  }
+
   -- a form is no column that is too far
   abbrev pub IsNear : TypedNode → Type 0
   IsNear form = (i : ℕ) → form ≡ n.Column i → far i ≡ false
@@ -228,8 +242,12 @@ module _ (far : ℕ → Bool) (ok : Use → Bool) where
       (λ d. let r = small.small-OneOf (e.OneOf m a es) d m a es refl in and-true (is_small a) (are_small es) r.0 r.1) (λ leaf. hold.holds-OneOf leaf t m x xs)
       (both (calls a) (all_of (map calls es)) (names a) (all_of (map names es)) (is_small a) (are_small es) (λ leaf. holds leaf x) (λ leaf. each_holds leaf xs) (bears w k) (bears w l))
   bears w (st.like {negated = m} {a = a} {pattern = pattern} {x = x} {t = t} k) =
-      moved (calls a) _ (names a) _ (is_small a) _ (λ leaf. holds leaf x) _ (q.calls-Like m a pattern) (q.names-Like m a pattern)
-      (λ l. small.small-Like (e.Like m a pattern) l m a pattern refl) (λ leaf. hold.holds-Like leaf t m x pattern) (bears w k)
+      moved (calls a) _ (names a) _ (nat_le (length pattern) 65536 && is_small a) _ (λ leaf. leaf (TypedNode-F.Like m (holds leaf x) pattern) || holds leaf x) _
+      (q.calls-Like m a pattern) (q.names-Like m a pattern)
+      (λ l. and-true (nat_le (length pattern) 65536) (is_small a) (pattern-small m a pattern l) (small.small-Like (e.Like m a pattern) l m a pattern refl))
+      (λ leaf. hold.holds-Like leaf t m x pattern)
+      (both [] (calls a) [] (names a) (nat_le (length pattern) 65536) (is_small a) (λ leaf. leaf (TypedNode-F.Like m (holds leaf x) pattern)) (λ leaf. holds leaf x)
+      (of-pattern m pattern (λ leaf. holds leaf x)) (bears w k))
   bears w (st.cast {a = a} {to = to} {x = x} {t = t} k) =
       moved (calls a) _ (names a) _ (is_small a) _ (λ leaf. holds leaf x) _ (q.calls-Cast a to) (q.names-Cast a to)
       (λ l. small.small-Cast (e.Cast a to) l a to refl) (λ leaf. hold.holds-Cast leaf t x to) (bears w k)

@@ -14,9 +14,9 @@ use Rattle.ksql_expr.specs.Rules.{agg_type}
 use Rattle.ksql_expr.specs.Typing.{IsTyped}
 use Rattle.ksql_program.specs.declared.query.Agg.{Agg}
 use Rattle.ksql_program.specs.Sound.{argument_type}
-use Rattle.ksql_typing.specs.declared.scope.Scope.{Scope}
-use Rattle.ksql_typing.specs.declared.scope.ScopeColumn.{ScopeColumn}
-use Rattle.ksql_typing.specs.Scope.{column_types}
+use Rattle.ksql_scope.specs.declared.scope.Scope.{Scope}
+use Rattle.ksql_scope.specs.declared.scope.ScopeColumn.{ScopeColumn}
+use Rattle.ksql_scope.specs.Scope.{column_types}
 use Rattle.ksql_typing.specs.Standing.{IsTypedTree}
 use Rattle.ksql_analyse.specs.Judgement.{AreAggs, IsShape, aggregate_exprs, exprs, late, AreLateTypes, AreTypedTrees, IsTypedPart, IsLatePart, AreLateTrees, IsLateTree, late_columns, late_scope, late_types, name_in}
 use Rattle.ksql_clauses.specs.declared.items.Named.{Named}

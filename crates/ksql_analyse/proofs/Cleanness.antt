@@ -6,14 +6,15 @@ use Rattle.ksql_types.specs.declared.operator.BinaryOp.{BinaryOp}
 use Rattle.ksql_grammar.specs.declared.tree.Expr.{Expr}
 use Rattle.ksql_grammar.specs.declared.tree.Expr.TheVariants as e
 use Rattle.ksql_grammar.specs.declared.tree.WhenText.{WhenText}
-use Rattle.ksql_typing.specs.Functions.{is_aggregate, is_unknown}
-use Rattle.ksql_typing.specs.Uses.{all_of, perhaps}
-use Rattle.ksql_grouping.specs.Grouping.{aggregates_of, has_bare_column, is_bare, is_window_bound, place_among, any_of, any_perhaps}
-use Rattle.ksql_grouping.proofs.Passes as passed
+use Rattle.ksql_scope.specs.Functions.{is_aggregate, is_unknown}
+use Rattle.ksql_scope.specs.Uses.{all_of, perhaps}
+use Rattle.ksql_scope.proofs.Induction.{IfThere, InWhen}
+use Rattle.ksql_walks.specs.Parts.{any_of, any_perhaps}
+use Rattle.ksql_grouping.specs.Grouping.{aggregates_of, has_bare_column, is_bare, is_window_bound, place_among}
+use Rattle.ksql_walks.proofs.Passing as passed
 use Rattle.ksql_analyse.proofs.AggregatesIn as within
 use Rattle.ksql_analyse.proofs.AggregatesIn.{when_aggregates}
 use Rattle.ksql_analyse.proofs.Handing.{CallsNone, calls-inherit, none-any, none-when, none-part}
-use Rattle.ksql_analyse.proofs.Induction.{OfPart, OfWhen}
 use Rattle.ksql_analyse.proofs.Once.{IsAmong}
 use Rattle.ksql_analyse.proofs.Distinct.{or-false}
 use Rattle.ksql_analyse.proofs.Refusals.{or-three}
@@ -36,8 +37,8 @@ module _ (groups aggs : List Expr) where
     clean-each es k.1 b.1 (each-behind (IsAmong aggs) (aggregates_of a) (all_of (map aggregates_of es)) h),
   )
 
-  clean-whens : (ws : List WhenText) → Each (OfWhen (CallsNone is_unknown)) ws → Each (OfWhen (λ a. has_bare_column groups a ≡ false)) ws
-      → Each (IsAmong aggs) (all_of (map when_aggregates ws)) → Each (OfWhen IsClean) ws
+  clean-whens : (ws : List WhenText) → Each (InWhen (CallsNone is_unknown)) ws → Each (InWhen (λ a. has_bare_column groups a ≡ false)) ws
+      → Each (IsAmong aggs) (all_of (map when_aggregates ws)) → Each (InWhen IsClean) ws
   clean-whens [] k b h = tt
   clean-whens (w ∷ ws) k b h =
       let g = each-front (IsAmong aggs) (when_aggregates w) (all_of (map when_aggregates ws)) h in (
@@ -48,8 +49,8 @@ module _ (groups aggs : List Expr) where
         clean-whens ws k.1 b.1 (each-behind (IsAmong aggs) (when_aggregates w) (all_of (map when_aggregates ws)) h),
       )
 
-  clean-part : (x : Option Expr) → OfPart (CallsNone is_unknown) x → OfPart (λ a. has_bare_column groups a ≡ false) x → Each (IsAmong aggs) (perhaps (option_map aggregates_of x))
-      → OfPart IsClean x
+  clean-part : (x : Option Expr) → IfThere (CallsNone is_unknown) x → IfThere (λ a. has_bare_column groups a ≡ false) x → Each (IsAmong aggs) (perhaps (option_map aggregates_of x))
+      → IfThere IsClean x
   clean-part None k b h = tt
   clean-part (Some a) k b h = record { known = k; bound = b; among = h }
 
@@ -79,7 +80,7 @@ module _ (groups aggs : List Expr) where
   bare-Case : (x : Option Expr) (ws : List WhenText) (z : Option Expr) → IsNoGroup (e.Case x ws z) → is_bare groups (e.Case x ws z) ≡ None
   bare-Case x ws z h = rw (h, e.outs-Case x ws z)
 
-  pub clean-Case : (x : Option Expr) (ws : List WhenText) (z : Option Expr) → IsNoGroup (e.Case x ws z) → IsClean (e.Case x ws z) → OfPart IsClean x × Each (OfWhen IsClean) ws × OfPart IsClean z
+  pub clean-Case : (x : Option Expr) (ws : List WhenText) (z : Option Expr) → IsNoGroup (e.Case x ws z) → IsClean (e.Case x ws z) → IfThere IsClean x × Each (InWhen IsClean) ws × IfThere IsClean z
   clean-Case x ws z n h =
       let k = (calls-inherit is_unknown).case x ws z h.known in
       let bare = sym (passed.passes-Case (is_bare groups) (e.Case x ws z) x ws z refl (bare-Case x ws z n)) ∙ h.bound in

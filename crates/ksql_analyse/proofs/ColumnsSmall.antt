@@ -5,7 +5,7 @@ use Rattle.std.specs.List.{flat_map}
 use Rattle.std.proofs.lemmas.List.Elements.{All-cons, All-head, All-nil, All-tail}
 use denote.Bor.{Bor}
 use Rattle.ksql_grammar.specs.declared.tree.Select.{Select}
-use Rattle.ksql_typing.specs.Uses.{IsSmall}
+use Rattle.ksql_scope.specs.Uses.{IsSmall}
 use Rattle.ksql_clauses.specs.declared.items.Named.{Named}
 use Rattle.ksql_clauses.specs.declared.sources.Known.{Known}
 use Rattle.ksql_clauses.specs.Items.{result_columns}

@@ -16,8 +16,8 @@ use Rattle.ksql_expr.specs.Typing as w
 use Rattle.ksql_expr.specs.Typing.{HasTypes}
 use Rattle.ksql_program.specs.declared.query.Agg.{Agg}
 use Rattle.ksql_program.specs.Sound.{argument_type}
-use Rattle.ksql_typing.specs.declared.scope.Scope.{Scope}
-use Rattle.ksql_typing.specs.Scope.{column_types}
+use Rattle.ksql_scope.specs.declared.scope.Scope.{Scope}
+use Rattle.ksql_scope.specs.Scope.{column_types}
 use Rattle.ksql_typing.specs.Standing as st
 use Rattle.ksql_typing.specs.Standing.{Stands, IsTypedTree}
 use Rattle.ksql_typing.proofs.Inversion.{Checks, checks}

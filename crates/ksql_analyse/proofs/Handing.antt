@@ -7,19 +7,20 @@ use Rattle.ksql_types.specs.declared.value.SqlType.{SqlType}
 use Rattle.ksql_grammar.specs.declared.tree.Expr.{Expr}
 use Rattle.ksql_grammar.specs.declared.tree.Expr.TheVariants as e
 use Rattle.ksql_grammar.specs.declared.tree.WhenText.{WhenText}
-use Rattle.ksql_typing.specs.declared.scope.Scope.{Scope}
-use Rattle.ksql_typing.specs.Functions.{is_aggregate}
-use Rattle.ksql_typing.specs.Uses.{IsSmall, is_small, are_small, are_whens_small, is_small_perhaps}
-use Rattle.ksql_typing.proofs.Sets.{both-true}
-use Rattle.ksql_typing.proofs.Small as small
+use Rattle.ksql_scope.specs.declared.scope.Scope.{Scope}
+use Rattle.ksql_scope.specs.Functions.{is_aggregate}
+use Rattle.ksql_scope.specs.Uses.{IsSmall, is_small, are_small, are_whens_small, is_small_perhaps}
+use Rattle.ksql_scope.proofs.Sets.{both-true}
+use Rattle.ksql_scope.proofs.Small as small
+use Rattle.ksql_scope.proofs.Induction.{IfThere, InWhen, induction}
 use Rattle.ksql_clauses.specs.Resolved.{resolved, resolved_when}
 use Rattle.ksql_clauses.proofs.Resolving as r
-use Rattle.ksql_grouping.specs.Grouping.{has_aggregate, has_nested_aggregate, holds_inner, any_of, any_perhaps}
+use Rattle.ksql_walks.specs.Parts.{any_of, any_perhaps}
+use Rattle.ksql_grouping.specs.Grouping.{has_aggregate, has_nested_aggregate, holds_inner}
 use Rattle.ksql_grouping.proofs.Calls as called
 use Rattle.ksql_grouping.proofs.Calls.{calls_one}
-use Rattle.ksql_grouping.proofs.Passes as passed
+use Rattle.ksql_walks.proofs.Passing as passed
 use Rattle.ksql_analyse.proofs.AggregatesIn.{Inherits}
-use Rattle.ksql_analyse.proofs.Induction.{OfPart, OfWhen, by_form}
 use Rattle.ksql_analyse.proofs.Resolution.{resolved-name, calls-resolved}
 use Rattle.ksql_analyse.proofs.Distinct.{or-false}
 use Rattle.ksql_analyse.proofs.Refusals.{or-three}
@@ -30,14 +31,14 @@ pub none-any : (p : Expr → Bool) (es : List Expr) → any_of (map p es) ≡ fa
 none-any p [] h = tt
 none-any p (a ∷ es) h = let g = or-false (p a) (any_of (map p es)) h in (g.0, none-any p es g.1)
 
-pub none-when : (p : Expr → Bool) (ws : List WhenText) → any_of (map (λ w. p w.cond || p w.result) ws) ≡ false → Each (OfWhen (λ a. p a ≡ false)) ws
+pub none-when : (p : Expr → Bool) (ws : List WhenText) → any_of (map (λ w. p w.cond || p w.result) ws) ≡ false → Each (InWhen (λ a. p a ≡ false)) ws
 none-when p [] h = tt
 none-when p (w ∷ ws) h =
     let g = or-false (p w.cond || p w.result) (any_of (map (λ v. p v.cond || p v.result) ws)) h in
     let k = or-false (p w.cond) (p w.result) g.0 in
     ((k.0, k.1), none-when p ws g.1)
 
-pub none-part : (p : Expr → Bool) (x : Option Expr) → any_perhaps (option_map p x) ≡ false → OfPart (λ a. p a ≡ false) x
+pub none-part : (p : Expr → Bool) (x : Option Expr) → any_perhaps (option_map p x) ≡ false → IfThere (λ a. p a ≡ false) x
 none-part p None h = tt
 none-part p (Some a) h = h
 
@@ -130,18 +131,18 @@ module _ (s : Scope) where
   any-same [] k = refl
   any-same (a ∷ es) k = ap₂ (λ x y. x || y) k.0 (any-same es k.1)
 
-  when-same : (w : WhenText) → OfWhen IsSame w
+  when-same : (w : WhenText) → InWhen IsSame w
       → (has_nested_aggregate (resolved_when s w).cond || has_nested_aggregate (resolved_when s w).result) ≡ (has_nested_aggregate w.cond || has_nested_aggregate w.result)
   when-same w k =
       ap (λ v. has_nested_aggregate v.cond || has_nested_aggregate v.result) (r.resolved-when s w) ∙ ap₂ (λ x y. x || y) k.0 k.1
 
-  whens-same : (ws : List WhenText) → Each (OfWhen IsSame) ws
+  whens-same : (ws : List WhenText) → Each (InWhen IsSame) ws
       → any_of (map (λ w. has_nested_aggregate w.cond || has_nested_aggregate w.result) (map (resolved_when s) ws))
       ≡ any_of (map (λ w. has_nested_aggregate w.cond || has_nested_aggregate w.result) ws)
   whens-same [] k = refl
   whens-same (w ∷ ws) k = ap₂ (λ x y. x || y) (when-same w k.0) (whens-same ws k.1)
 
-  part-same : (x : Option Expr) → OfPart IsSame x → any_perhaps (option_map has_nested_aggregate (option_map (resolved s) x)) ≡ any_perhaps (option_map has_nested_aggregate x)
+  part-same : (x : Option Expr) → IfThere IsSame x → any_perhaps (option_map has_nested_aggregate (option_map (resolved s) x)) ≡ any_perhaps (option_map has_nested_aggregate x)
   part-same None k = refl
   part-same (Some a) k = k
 
@@ -155,7 +156,7 @@ module _ (s : Scope) where
       ap has_nested_aggregate k.is ∙ nested-Name k.qualifier k.name ∙ sym (nested-Name q t)
 
   pub nested-resolved : (a : Expr) → IsSame a
-  nested-resolved = by_form IsSame (record {
+  nested-resolved = induction IsSame (record {
     digits = λ n. ap has_nested_aggregate (r.resolved-Digits s n);
     text = λ t. ap has_nested_aggregate (r.resolved-Text s t);
     truth = λ b. ap has_nested_aggregate (r.resolved-Truth s b);
@@ -217,14 +218,14 @@ small-each : (es : List Expr) → are_small es ≡ true → Each IsSmall es
 small-each [] h = tt
 small-each (a ∷ es) h = let g = both-true (is_small a) (are_small es) h in (g.0, small-each es g.1)
 
-small-whens : (ws : List WhenText) → are_whens_small ws ≡ true → Each (OfWhen IsSmall) ws
+small-whens : (ws : List WhenText) → are_whens_small ws ≡ true → Each (InWhen IsSmall) ws
 small-whens [] h = tt
 small-whens (w ∷ ws) h =
     let g = both-true (is_small w.cond && is_small w.result) (are_whens_small ws) h in
     let k = both-true (is_small w.cond) (is_small w.result) g.0 in
     ((k.0, k.1), small-whens ws g.1)
 
-small-part : (x : Option Expr) → is_small_perhaps x ≡ true → OfPart IsSmall x
+small-part : (x : Option Expr) → is_small_perhaps x ≡ true → IfThere IsSmall x
 small-part None h = tt
 small-part (Some a) h = h
 

@@ -83,7 +83,8 @@ module _ (leaf : TypedNode-F Bool Bool Bool → Bool) where
       at_node t (n.OneOf m a xs) ∙ ap of_node (sym (n.rolls-OneOf m a xs))
       ∙ fold-roll-TypedNode Bool Bool Bool (node_holds leaf) (λ e. e.node) (λ w. w.cond || w.result) (TypedNode-F.OneOf m a xs)
 
-  pub holds-Like : (t : Option SqlType) (m : Bool) (a : Typed) (pattern : List ℕ) → holds leaf (of t (n.Like m a pattern)) ≡ (holds leaf a)
+  pub holds-Like : (t : Option SqlType) (m : Bool) (a : Typed) (pattern : List ℕ)
+      → holds leaf (of t (n.Like m a pattern)) ≡ (leaf (TypedNode-F.Like m (holds leaf a) pattern) || holds leaf a)
   holds-Like t m a pattern =
       at_node t (n.Like m a pattern) ∙ ap of_node (sym (n.rolls-Like m a pattern))
       ∙ fold-roll-TypedNode Bool Bool Bool (node_holds leaf) (λ e. e.node) (λ w. w.cond || w.result) (TypedNode-F.Like m a pattern)

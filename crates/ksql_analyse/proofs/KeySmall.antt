@@ -6,8 +6,8 @@ use Rattle.std.proofs.lemmas.List.Elements.{All-head}
 use Rattle.ksql_grammar.specs.declared.tree.Expr.{Expr}
 use Rattle.ksql_grammar.specs.declared.tree.JoinText.{JoinText}
 use Rattle.ksql_grammar.specs.declared.tree.Select.{Select}
-use Rattle.ksql_typing.specs.declared.scope.Scope.{Scope}
-use Rattle.ksql_typing.specs.Uses.{IsSmall}
+use Rattle.ksql_scope.specs.declared.scope.Scope.{Scope}
+use Rattle.ksql_scope.specs.Uses.{IsSmall}
 use Rattle.ksql_clauses.specs.declared.sources.Known.{Known}
 use Rattle.ksql_clauses.specs.Sources.{early_exprs, from_scope, there}
 use Rattle.ksql_rules.specs.Keys.{are_sides, join_key, left_key, on_sides}

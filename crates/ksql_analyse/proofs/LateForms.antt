@@ -8,11 +8,12 @@ use Rattle.ksql_types.specs.declared.value.SqlType.{SqlType}
 use Rattle.ksql_grammar.specs.declared.tree.Expr.{Expr}
 use Rattle.ksql_grammar.specs.declared.tree.Expr.TheVariants as e
 use Rattle.ksql_grammar.specs.declared.tree.WhenText.{WhenText}
-use Rattle.ksql_typing.specs.Functions.{is_aggregate}
-use Rattle.ksql_typing.specs.Uses.{all_of, perhaps}
-use Rattle.ksql_grouping.specs.Grouping.{passes, gives, any_of, any_perhaps, whole_aggregate, aggregates_of, late_part, late_column, place_among, is_bare, is_window_bound, has_bare_column}
+use Rattle.ksql_scope.specs.Functions.{is_aggregate}
+use Rattle.ksql_scope.specs.Uses.{all_of, perhaps}
+use Rattle.ksql_walks.specs.Parts.{passes, any_of, any_perhaps}
+use Rattle.ksql_grouping.specs.Grouping.{gives, whole_aggregate, aggregates_of, late_part, late_column, place_among, is_bare, is_window_bound, has_bare_column}
 use Rattle.ksql_grouping.proofs.Gives.{gives-decided, gives-Sign, gives-Binary, gives-Not, gives-IsNull, gives-Between, gives-OneOf, gives-Like, gives-Cast, gives-Case, gives-Call}
-use Rattle.ksql_grouping.proofs.Passes.{passes-decided, passes-Sign, passes-Binary, passes-Not, passes-IsNull, passes-Between, passes-OneOf, passes-Like, passes-Cast, passes-Case, passes-Call}
+use Rattle.ksql_walks.proofs.Passing.{passes-decided, passes-Sign, passes-Binary, passes-Not, passes-IsNull, passes-Between, passes-OneOf, passes-Like, passes-Cast, passes-Case, passes-Call}
 use Rattle.ksql_analyse.proofs.Distinct.{or-false}
 
 both-true : (a b : Bool) → (a && b) ≡ true → (a ≡ true) × (b ≡ true)

@@ -12,9 +12,9 @@ use Rattle.ksql_grammar.specs.declared.tree.Expr.TheVariants as e
 use Rattle.ksql_grammar.specs.declared.tree.Select.{Select}
 use Rattle.ksql_expr.specs.declared.typed.TypedNode.{TypedNode}
 use Rattle.ksql_expr.specs.declared.typed.TypedNode.TheVariants as n
-use Rattle.ksql_typing.specs.declared.scope.Scope.{Scope}
-use Rattle.ksql_typing.specs.declared.scope.ScopeColumn.{ScopeColumn}
-use Rattle.ksql_typing.specs.Scope.{Meaning, is_known_as, columns_known_as, row_time, window_bounds, meanings}
+use Rattle.ksql_scope.specs.declared.scope.Scope.{Scope}
+use Rattle.ksql_scope.specs.declared.scope.ScopeColumn.{ScopeColumn}
+use Rattle.ksql_scope.specs.Scope.{Meaning, is_known_as, columns_known_as, row_time, window_bounds, meanings}
 use Rattle.ksql_grouping.specs.Grouping.{late_column}
 use Rattle.ksql_analyse.specs.Judgement.{name_in, late_columns, late_scope, late_types}
 

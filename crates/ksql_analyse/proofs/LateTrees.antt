@@ -22,23 +22,23 @@ use Rattle.ksql_expr.specs.Rules.{type_of, fits, binary_type, sign_type, can_cas
 use Rattle.ksql_expr.specs.Typing as w
 use Rattle.ksql_expr.specs.Typing.{HasTypes, of, types, results}
 use Rattle.ksql_program.specs.Names.{is_among}
-use Rattle.ksql_typing.specs.declared.scope.Scope.{Scope}
-use Rattle.ksql_typing.specs.declared.scope.ScopeColumn.{ScopeColumn}
-use Rattle.ksql_typing.specs.Functions.{function_of, aggregate_of, is_aggregate}
+use Rattle.ksql_scope.specs.declared.scope.Scope.{Scope}
+use Rattle.ksql_scope.specs.declared.scope.ScopeColumn.{ScopeColumn}
+use Rattle.ksql_scope.specs.Functions.{function_of, aggregate_of, is_aggregate}
+use Rattle.ksql_scope.specs.Scope.{Meaning, meanings, is_known_as, column_types, row_time, window_bounds}
+use Rattle.ksql_scope.specs.Typing.{with_otherwise}
+use Rattle.ksql_scope.proofs.Disjoint.{no-aggregate}
 use Rattle.ksql_typing.specs.Made.{typed_when}
-use Rattle.ksql_typing.specs.Scope.{Meaning, meanings, is_known_as, column_types, row_time, window_bounds}
 use Rattle.ksql_typing.specs.Standing as st
 use Rattle.ksql_typing.specs.Standing.{Stands, Pair, digits_value}
-use Rattle.ksql_typing.specs.Typing.{with_otherwise}
-use Rattle.ksql_typing.proofs.Disjoint.{no-aggregate}
-use Rattle.ksql_typing.proofs.Inversion.{Checks, checks}
+use Rattle.ksql_typing.proofs.Inversion.{Checks, checks, inner, one-type}
 use Rattle.ksql_typing.proofs.Meanings.{typed-meanings}
 use Rattle.ksql_typing.proofs.Trees.{HaveTypes, results-typed}
-use Rattle.ksql_grouping.specs.Grouping.{becomes, when_becomes, late_part, late_column, place_among, regrouped, is_window_bound}
-use Rattle.ksql_grouping.proofs.Becomes.{becomes-decided, becomes-Digits, becomes-Text, becomes-Truth, becomes-Null, becomes-Name, becomes-Sign, becomes-Binary, becomes-Not, becomes-IsNull, becomes-Between, becomes-OneOf, becomes-Like, becomes-Cast, becomes-Call, becomes-Case}
+use Rattle.ksql_walks.specs.Parts.{becomes, when_becomes}
+use Rattle.ksql_grouping.specs.Grouping.{late_part, late_column, place_among, regrouped, is_window_bound}
+use Rattle.ksql_walks.proofs.Becoming.{becomes-decided, becomes-Digits, becomes-Text, becomes-Truth, becomes-Null, becomes-Name, becomes-Sign, becomes-Binary, becomes-Not, becomes-IsNull, becomes-Between, becomes-OneOf, becomes-Like, becomes-Cast, becomes-Call, becomes-Case}
 use Rattle.ksql_analyse.specs.Judgement.{late_scope, late_types}
 use Rattle.ksql_analyse.proofs.Meant.{IsMeant, IsColumn, IsTime, IsBound, meant}
-use Rattle.ksql_analyse.proofs.OneStanding.{inner, one-type}
 use Rattle.ksql_analyse.proofs.LateForms as f
 use Rattle.ksql_analyse.proofs.LateNames.{late-means, late-bound, IsLateBound}
 

@@ -23,24 +23,25 @@ use Rattle.ksql_expr.specs.declared.typed.TypedWhen.{TypedWhen}
 use Rattle.ksql_expr.specs.Rules.{type_of, binary_type, sign_type, fun_type, case_type, typed}
 use Rattle.ksql_expr.specs.Typing as w
 use Rattle.ksql_expr.specs.Typing.{HasTypes, of, types, results}
-use Rattle.ksql_typing.specs.declared.scope.Scope.{Scope}
-use Rattle.ksql_typing.specs.Functions.{function_of, aggregate_of, is_aggregate, is_unknown}
+use Rattle.ksql_scope.specs.declared.scope.Scope.{Scope}
+use Rattle.ksql_scope.specs.Functions.{function_of, aggregate_of, is_aggregate, is_unknown}
+use Rattle.ksql_scope.specs.Typing as h
+use Rattle.ksql_scope.specs.Typing.{Has, Typing, digits_type, with_otherwise}
+use Rattle.ksql_scope.proofs.Disjoint.{no-aggregate}
+use Rattle.ksql_scope.proofs.Disjoint as disjoint
+use Rattle.ksql_scope.proofs.Induction.{IfThere, InWhen}
 use Rattle.ksql_typing.specs.Standing as st
 use Rattle.ksql_typing.specs.Standing.{Stands, digits_value}
-use Rattle.ksql_typing.specs.Typing as h
-use Rattle.ksql_typing.specs.Typing.{Has, Typing, digits_type, with_otherwise}
-use Rattle.ksql_typing.proofs.Disjoint.{no-aggregate}
-use Rattle.ksql_typing.proofs.Disjoint as disjoint
 use Rattle.ksql_typing.proofs.Inversion.{Checks, checks}
 use Rattle.ksql_typing.proofs.Trees.{digits-typed}
-use Rattle.ksql_grouping.specs.Grouping.{late_part, when_becomes, is_window_bound}
-use Rattle.ksql_grouping.proofs.Becomes as made
+use Rattle.ksql_walks.specs.Parts.{when_becomes}
+use Rattle.ksql_grouping.specs.Grouping.{late_part, is_window_bound}
+use Rattle.ksql_walks.proofs.Becoming as made
 use Rattle.ksql_grouping.proofs.Calls as called
 use Rattle.ksql_analyse.proofs.AggregatesIn as within
 use Rattle.ksql_analyse.proofs.Cleanness as clean
 use Rattle.ksql_analyse.proofs.Cleanness.{IsClean}
 use Rattle.ksql_analyse.proofs.Handing.{CallsNone}
-use Rattle.ksql_analyse.proofs.Induction.{OfPart, OfWhen}
 use Rattle.ksql_analyse.proofs.Once.{place-found}
 use Rattle.ksql_analyse.proofs.Regrouping.{IsGroup, IsAggregate, IsNeither, what-becomes, late}
 use Rattle.ksql_analyse.proofs.Stood.{Stood, IsOf, stood}
@@ -127,10 +128,10 @@ module _ (s L : Scope) (lt : List (Option SqlType)) (groups aggs : List Expr)
 
   abbrev Same : Typing → Type 0
   Same (h.one a t) = Has_type a t
-  Same (h.perhaps a t) = OfPart Clean a → (x : Option Typed) → Stands L (st.perhaps (option_map behind a) x) → HasTypes lt (w.perhaps x) → option_map (λ e. e.ty) x ≡ t
+  Same (h.perhaps a t) = IfThere Clean a → (x : Option Typed) → Stands L (st.perhaps (option_map behind a) x) → HasTypes lt (w.perhaps x) → option_map (λ e. e.ty) x ≡ t
   Same (h.each es ts) = Each Clean es → (xs : List Typed) → Stands L (st.each (map behind es) xs) → HasTypes lt (w.each xs) → types xs ≡ ts
   Same (h.whens ws cs rs) =
-      Each (OfWhen Clean) ws → (ys : List TypedWhen) → Stands L (st.whens (map late_when ws) ys) → HasTypes lt (w.whens ys)
+      Each (InWhen Clean) ws → (ys : List TypedWhen) → Stands L (st.whens (map late_when ws) ys) → HasTypes lt (w.whens ys)
       → (map (λ y. y.cond.ty) ys ≡ cs) × (map (λ y. y.result.ty) ys ≡ rs)
 
   -- what is decided as a whole has its type; there is left what isn't

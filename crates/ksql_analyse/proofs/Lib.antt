@@ -9,7 +9,6 @@ pub mod Distinct
 pub mod GroupedQueries
 pub mod Handing
 pub mod Holding
-pub mod Induction
 pub mod ItemNeeds
 pub mod Kept
 pub mod KeySides

@@ -9,11 +9,11 @@ use Rattle.ksql_grammar.specs.declared.tree.Expr.TheVariants as e
 use Rattle.ksql_grammar.specs.declared.tree.WhenText.{WhenText}
 use Rattle.ksql_expr.specs.declared.typed.TypedNode.TheVariants as n
 use Rattle.ksql_program.specs.Names.{is_among}
-use Rattle.ksql_typing.specs.declared.scope.Scope.{Scope}
-use Rattle.ksql_typing.specs.declared.scope.ScopeColumn.{ScopeColumn}
-use Rattle.ksql_typing.specs.Scope.{Meaning, is_qualified, is_known_as, columns_known_as, first_alias, row_time, window_bounds, meanings, seen, inside}
-use Rattle.ksql_typing.specs.Typing as h
-use Rattle.ksql_typing.specs.Typing.{Has, Typing, one, perhaps, each, whens, HasType}
+use Rattle.ksql_scope.specs.declared.scope.Scope.{Scope}
+use Rattle.ksql_scope.specs.declared.scope.ScopeColumn.{ScopeColumn}
+use Rattle.ksql_scope.specs.Scope.{Meaning, is_qualified, is_known_as, columns_known_as, first_alias, row_time, window_bounds, meanings, seen, inside}
+use Rattle.ksql_scope.specs.Typing as h
+use Rattle.ksql_scope.specs.Typing.{Has, Typing, one, perhaps, each, whens, HasType}
 use Rattle.ksql_clauses.specs.Resolved.{resolved, resolved_when, full_name, written_for, is_row_time}
 use Rattle.ksql_clauses.proofs.Resolving as form
 use Rattle.ksql_analyse.proofs.LateTrees.{time_names, HasPlainColumns}

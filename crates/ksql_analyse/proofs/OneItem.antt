@@ -32,7 +32,7 @@ use Rattle.ksql_clauses.specs.declared.sources.Known.{Known}
 use Rattle.ksql_clauses.specs.Sources.{all_known, from_scope}
 use Rattle.ksql_rules.specs.Breaks.{is_grouped}
 use Rattle.ksql_rules.specs.Keys.{join_key}
-use Rattle.ksql_typing.specs.declared.scope.Scope.{Scope}
+use Rattle.ksql_scope.specs.declared.scope.Scope.{Scope}
 use Rattle.ksql_typing.specs.Standing.{IsTypedTree}
 use Rattle.ksql_typing.proofs.OneTyping.{one-tree}
 use Rattle.ksql_analyse.specs.Judgement.{IsFrom, IsTypedPart, AreTypedTrees, IsAgg, AreAggs, IsLateTree, IsLatePart, AreLateTrees, AreLateTypes, late_scope, late_types, IsShape, IsResult, AreColumnsOf, IsQuery, IsItemOf, join_kind}

@@ -7,7 +7,7 @@ use Rattle.ksql_grammar.specs.declared.tree.Expr.TheVariants as e
 use Rattle.ksql_grammar.specs.declared.tree.Expr.TheOpen.{Expr-F}
 use Rattle.ksql_grammar.specs.declared.tree.WhenText.{WhenText}
 use Rattle.ksql_expr.specs.declared.typed.AggFun.{AggFun}
-use Rattle.ksql_expr.specs.declared.typed.AggFun.TheVariants.{CountAll, Count}
+use Rattle.ksql_expr.specs.declared.typed.AggFun.TheVariants.{CountAll}
 use Rattle.ksql_expr.specs.declared.typed.Fun.{Fun}
 use Rattle.ksql_expr.specs.declared.typed.Typed.{Typed}
 use Rattle.ksql_expr.specs.declared.typed.TypedNode.{TypedNode, out-TypedNode}
@@ -15,67 +15,16 @@ use Rattle.ksql_expr.specs.declared.typed.TypedNode.TheOpen.{TypedNode-F}
 use Rattle.ksql_expr.specs.declared.typed.TypedNode.TheVariants as n
 use Rattle.ksql_expr.specs.declared.typed.TypedWhen.{TypedWhen}
 use Rattle.ksql_expr.specs.Typing as w
-use Rattle.ksql_expr.specs.Typing.{HasTypes, Part, of}
-use Rattle.ksql_typing.specs.declared.scope.Scope.{Scope}
-use Rattle.ksql_typing.specs.Functions.{function_of, aggregate_of}
-use Rattle.ksql_typing.specs.Scope.{Meaning, meanings, inside}
+use Rattle.ksql_expr.specs.Typing.{HasTypes, of}
+use Rattle.ksql_scope.specs.declared.scope.Scope.{Scope}
+use Rattle.ksql_scope.specs.Functions.{function_of, aggregate_of}
+use Rattle.ksql_scope.specs.Scope.{Meaning, meanings, inside}
+use Rattle.ksql_scope.proofs.Disjoint.{no-aggregate}
 use Rattle.ksql_typing.specs.Standing as st
 use Rattle.ksql_typing.specs.Standing.{Stands, Pair, digits_value}
-use Rattle.ksql_typing.proofs.Disjoint.{no-aggregate}
-use Rattle.ksql_typing.proofs.Inversion.{Checks, checks}
-use Rattle.ksql_typing.proofs.Trees.{same-some}
 use Rattle.ksql_typing.specs.Made.{typed_when}
+use Rattle.ksql_typing.proofs.Inversion.{Checks, checks, inner, one-type, same-some}
 use Rattle.ksql_analyse.proofs.StoodBy.{Stood, stood, stood-parts}
-
--- ---- what has its types
-
-abbrev Inner : List (Option SqlType) → Part → Type 0
-Inner cs (w.one x) = Unit {0}
-Inner cs (w.perhaps None) = Unit {0}
-Inner cs (w.perhaps (Some x)) = HasTypes cs (w.one x)
-Inner cs (w.each []) = Unit {0}
-Inner cs (w.each (x ∷ xs)) = HasTypes cs (w.one x) × HasTypes cs (w.each xs)
-Inner cs (w.whens []) = Unit {0}
-Inner cs (w.whens (y ∷ ys)) = HasTypes cs (w.one y.cond) × HasTypes cs (w.one y.result) × HasTypes cs (w.whens ys)
-
-pub inner : {cs : List (Option SqlType)} {p : Part} → HasTypes cs p → Inner cs p
-inner w.literal = tt
-inner (w.column a) = tt
-inner w.row_time = tt
-inner (w.sign a b) = tt
-inner (w.binary a b c) = tt
-inner (w.not a b) = tt
-inner (w.is_null a) = tt
-inner (w.between a b c d) = tt
-inner (w.one_of a b c) = tt
-inner (w.like a b) = tt
-inner (w.cast a b) = tt
-inner (w.case a b c d) = tt
-inner (w.call a b) = tt
-inner (w.aggregate a b) = tt
-inner w.left_out = tt
-inner (w.there a) = a
-inner w.none = tt
-inner (w.more a b) = (a, b)
-inner w.no_when = tt
-inner (w.more_whens a b c) = (a, b, c)
-
--- a form has one type
-pub one-type : (cs : List (Option SqlType)) (v : TypedNode-F TypedNode Typed TypedWhen) (t u : Option SqlType) → Checks cs t v → Checks cs u v → t ≡ u
-one-type cs (TypedNode-F.Literal x) t u k l = k ∙ sym l
-one-type cs (TypedNode-F.Column i) t u k l = same-some k l
-one-type cs TypedNode-F.RowTime t u k l = k ∙ sym l
-one-type cs (TypedNode-F.Sign minus a) t u k l = same-some k.1 l.1
-one-type cs (TypedNode-F.Binary o a b) t u k l = same-some k.2 l.2
-one-type cs (TypedNode-F.Not a) t u k l = k.2 ∙ sym l.2
-one-type cs (TypedNode-F.IsNull negated a) t u k l = k.1 ∙ sym l.1
-one-type cs (TypedNode-F.Between negated a low high) t u k l = k.4 ∙ sym l.4
-one-type cs (TypedNode-F.OneOf negated a es) t u k l = k.3 ∙ sym l.3
-one-type cs (TypedNode-F.Like negated a pattern) t u k l = k.2 ∙ sym l.2
-one-type cs (TypedNode-F.Cast a to) t u k l = k.2 ∙ sym l.2
-one-type cs (TypedNode-F.Case x ws z) t u k l = same-some k.3 l.3
-one-type cs (TypedNode-F.Call f es) t u k l = same-some k.1 l.1
-one-type cs (TypedNode-F.Aggregate f a) t u k l = same-some k.1 l.1
 
 -- two trees of one form are one
 whole : (cs : List (Option SqlType)) (x y : Typed) → HasTypes cs (w.one x) → HasTypes cs (w.one y) → x.node ≡ y.node → x ≡ y

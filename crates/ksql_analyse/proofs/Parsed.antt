@@ -1,5 +1,5 @@
 -- Trees of tokens that keep their limits keep theirs.
-use Rattle.std.proofs.Common.{◌≡◌, ℕ, ◌≤◌, Bool, true, false, ◌&&◌, ◌||◌, List, [], ◌∷◌, ◌++◌, map, length, Option, Some, None, IsTrue, nat_le, refl, ap, ap₂, sym, ◌∙◌, subst}
+use Rattle.std.proofs.Common.{◌≡◌, ℕ, ◌≤◌, Bool, true, false, ◌&&◌, ◌||◌, List, [], ◌∷◌, ◌++◌, map, length, Option, Some, None, IsTrue, nat_le, refl, ap, sym, ◌∙◌, subst}
 use Rattle.std.specs.Prelude.{All, ⊤}
 use Rattle.std.specs.List.{list_any, flat_map, AllZip, AllByRecursion as Each}
 use Rattle.std.specs.Str.Parse.{digits_value}
@@ -33,10 +33,10 @@ use Rattle.ksql_grammar.specs.Grammar as g
 use Rattle.ksql_grammar.specs.Grammar.{Spells, Phrase}
 use Rattle.ksql_parser.specs.Limits.{is_too_large, HasTooLarge}
 use Rattle.ksql_parser.specs.Script.{IsTreeOf}
-use Rattle.ksql_typing.specs.Uses.{is_small, IsSmall, small_step, all_hold, holds_perhaps, are_small, are_whens_small, is_small_perhaps}
-use Rattle.ksql_typing.proofs.Folds as f
-use Rattle.ksql_typing.proofs.Folds.{perhaps_folded}
-use Rattle.ksql_typing.proofs.Sets.{and-true, both-true}
+use Rattle.ksql_scope.specs.Uses.{is_small, IsSmall, small_step, are_small, are_whens_small, is_small_perhaps}
+use Rattle.ksql_scope.proofs.Folds as f
+use Rattle.ksql_scope.proofs.Sets.{and-true, both-true}
+use Rattle.ksql_scope.proofs.Small.{is_small-OneOf, is_small-Case, is_small-Call}
 use Rattle.ksql_clauses.specs.Items.{IsShortName, IsShortItem}
 use Rattle.ksql_clauses.specs.Sources.{alias_of, sources, there, item_exprs, on_exprs}
 use Rattle.ksql_rules.specs.Limits.{HasShortAlias, IsQueryWithin, IsWithinLimits}
@@ -88,22 +88,6 @@ symbols_kept (t ∷ ts) h =
 
 -- ---- literals
 
-small_when : WhenText → Bool
-small_when = f.folded_when Bool Bool small_step (λ w. w.cond && w.result)
-
-each : (es : List Expr) → all_hold (map is_small es) ≡ are_small es
-each [] = refl
-each (a ∷ es) = ap (λ b. is_small a && b) (each es)
-
-each_when : (ws : List WhenText) → all_hold (map small_when ws) ≡ are_whens_small ws
-unfolding small_when is_small
-each_when [] = refl
-each_when (w ∷ ws) = ap₂ (λ a b. a && b) (f.fold-when Bool Bool small_step (λ w. w.cond && w.result) w) (each_when ws)
-
-maybe : (x : Option Expr) → holds_perhaps (perhaps_folded is_small x) ≡ is_small_perhaps x
-maybe None = refl
-maybe (Some a) = refl
-
 all_three : (a b c : Bool) → a ≡ true → b ≡ true → c ≡ true → (a && b && c) ≡ true
 all_three a b c h k l = and-true (a && b) c (and-true a b h k) l
 
@@ -149,9 +133,7 @@ between_small n a b c h k l =
     f.fold-Between Bool Bool small_step (λ w. w.cond && w.result) n a b c ∙ all_three (is_small a) (is_small b) (is_small c) h k l
 
 pub one_of_small : (n : Bool) (a : Expr) (es : List Expr) → IsSmall a → IsTrue (are_small es) → IsSmall (e.OneOf n a es)
-unfolding is_small
-one_of_small n a es h k =
-    f.fold-OneOf Bool Bool small_step (λ w. w.cond && w.result) n a es ∙ and-true (is_small a) (all_hold (map is_small es)) h (each es ∙ k)
+one_of_small n a es h k = is_small-OneOf n a es ∙ and-true (is_small a) (are_small es) h k
 
 pub like_small : (n : Bool) (a : Expr) (pattern : List ℕ) → IsSmall a → length pattern ≤ 65536 → IsSmall (e.Like n a pattern)
 unfolding is_small
@@ -171,15 +153,10 @@ cast_small a to h = f.fold-Cast Bool Bool small_step (λ w. w.cond && w.result) 
 
 pub case_small : (x : Option Expr) (ws : List WhenText) (z : Option Expr) → IsTrue (is_small_perhaps x) → IsTrue (are_whens_small ws)
     → IsTrue (is_small_perhaps z) → IsSmall (e.Case x ws z)
-unfolding is_small small_when
-case_small x ws z h k l =
-    f.fold-Case Bool Bool small_step (λ w. w.cond && w.result) x ws z
-    ∙ all_three (holds_perhaps (perhaps_folded is_small x)) (all_hold (map small_when ws)) (holds_perhaps (perhaps_folded is_small z))
-    (maybe x ∙ h) (each_when ws ∙ k) (maybe z ∙ l)
+case_small x ws z h k l = is_small-Case x ws z ∙ all_three (is_small_perhaps x) (are_whens_small ws) (is_small_perhaps z) h k l
 
 pub call_small : (name : List ℕ) (star : Bool) (es : List Expr) → IsTrue (are_small es) → IsSmall (e.Call name star es)
-unfolding is_small
-call_small name star es h = f.fold-Call Bool Bool small_step (λ w. w.cond && w.result) name star es ∙ each es ∙ h
+call_small name star es h = is_small-Call name star es ∙ h
 
 -- ---- names
 

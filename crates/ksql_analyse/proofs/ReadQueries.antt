@@ -8,12 +8,12 @@ use Rattle.ksql_grammar.specs.declared.tree.Expr.TheVariants as e
 use Rattle.ksql_grammar.specs.declared.tree.JoinText.{JoinText}
 use Rattle.ksql_grammar.specs.declared.tree.Property.{Property}
 use Rattle.ksql_grammar.specs.declared.tree.Select.{Select}
-use Rattle.ksql_typing.specs.declared.scope.Scope.{Scope}
-use Rattle.ksql_typing.specs.Decisions.{CanAgree}
-use Rattle.ksql_typing.specs.Functions.{is_unknown}
-use Rattle.ksql_typing.specs.Uses.{calls, has_unknown_function}
-use Rattle.ksql_typing.proofs.Equations as equation
-use Rattle.ksql_typing.proofs.NameFlags.{none-of}
+use Rattle.ksql_scope.specs.declared.scope.Scope.{Scope}
+use Rattle.ksql_scope.specs.Functions.{is_unknown}
+use Rattle.ksql_scope.specs.Uses.{calls, has_unknown_function}
+use Rattle.ksql_scope.specs.Typing.{CanAgree}
+use Rattle.ksql_scope.proofs.Equations as equation
+use Rattle.ksql_scope.proofs.NameFlags.{none-of}
 use Rattle.ksql_clauses.specs.declared.sources.Known.{Known}
 use Rattle.ksql_clauses.specs.Items.{is_join}
 use Rattle.ksql_clauses.specs.Sources.{all_known, from_scope, item_scope, on_exprs, joined_streams}

@@ -5,16 +5,17 @@ use Rattle.std.specs.List.{AllByRecursion as Each}
 use Rattle.ksql_grammar.specs.declared.tree.Expr.{Expr}
 use Rattle.ksql_grammar.specs.declared.tree.Expr.TheVariants as e
 use Rattle.ksql_grammar.specs.declared.tree.WhenText.{WhenText}
-use Rattle.ksql_typing.specs.Functions.{is_aggregate}
-use Rattle.ksql_typing.specs.Uses.{IsSmall, is_small, are_small, are_whens_small, is_small_perhaps, all_of, perhaps}
-use Rattle.ksql_typing.proofs.Sets.{and-true}
-use Rattle.ksql_grouping.specs.Grouping.{aggregates_of, has_aggregate, late_part, late_column, place_among, regrouped, when_becomes, any_of, any_perhaps}
-use Rattle.ksql_grouping.proofs.Becomes as made
+use Rattle.ksql_scope.specs.Functions.{is_aggregate}
+use Rattle.ksql_scope.specs.Uses.{IsSmall, is_small, are_small, are_whens_small, is_small_perhaps, all_of, perhaps}
+use Rattle.ksql_scope.proofs.Sets.{and-true}
+use Rattle.ksql_scope.proofs.Induction.{IfThere, InWhen, induction}
+use Rattle.ksql_walks.specs.Parts.{when_becomes, any_of, any_perhaps}
+use Rattle.ksql_grouping.specs.Grouping.{aggregates_of, has_aggregate, late_part, late_column, place_among, regrouped}
+use Rattle.ksql_walks.proofs.Becoming as made
 use Rattle.ksql_grouping.proofs.Calls as called
 use Rattle.ksql_analyse.proofs.AggregatesIn as within
 use Rattle.ksql_analyse.proofs.AggregatesIn.{when_aggregates}
 use Rattle.ksql_analyse.proofs.Handing.{small-inherits}
-use Rattle.ksql_analyse.proofs.Induction.{OfPart, OfWhen, by_form}
 use Rattle.ksql_analyse.proofs.Once.{IsAmong, place-found}
 use Rattle.ksql_analyse.proofs.Parsed as parsed
 use Rattle.ksql_analyse.proofs.Distinct.{false-or}
@@ -83,7 +84,7 @@ module _ (groups aggs : List Expr) where
   abbrev late_when : WhenText → WhenText
   late_when w = when_becomes (late_part groups aggs) w
 
-  whens-lose : (ws : List WhenText) → Each (OfWhen Loses) ws → Each (IsAmong aggs) (all_of (map when_aggregates ws))
+  whens-lose : (ws : List WhenText) → Each (InWhen Loses) ws → Each (IsAmong aggs) (all_of (map when_aggregates ws))
       → any_of (map (λ w. has_aggregate w.cond || has_aggregate w.result) (map late_when ws)) ≡ false
   whens-lose [] k h = refl
   whens-lose (w ∷ ws) k h =
@@ -92,7 +93,7 @@ module _ (groups aggs : List Expr) where
       false-or (has_aggregate (late w.cond) || has_aggregate (late w.result)) (any_of (map (λ v. has_aggregate v.cond || has_aggregate v.result) (map late_when ws)))
       (false-or (has_aggregate (late w.cond)) (has_aggregate (late w.result)) (k.0.0 i.0) (k.0.1 i.1)) (whens-lose ws k.1 g.1)
 
-  part-loses : (x : Option Expr) → OfPart Loses x → Each (IsAmong aggs) (perhaps (option_map aggregates_of x)) → any_perhaps (option_map has_aggregate (option_map late x)) ≡ false
+  part-loses : (x : Option Expr) → IfThere Loses x → Each (IsAmong aggs) (perhaps (option_map aggregates_of x)) → any_perhaps (option_map has_aggregate (option_map late x)) ≡ false
   part-loses None k h = refl
   part-loses (Some a) k h = k h
 
@@ -109,7 +110,7 @@ module _ (groups aggs : List Expr) where
           ∙ false-or (is_aggregate f) (any_of (map has_aggregate (map late es))) g (all-lose es k (subst (Each (IsAmong aggs)) (within.of-function f star es g) h))
 
   pub late-none : (a : Expr) → Loses a
-  late-none = by_form Loses (record {
+  late-none = induction Loses (record {
     digits = λ n h. decided HasNone column-none (e.Digits n) (λ u. ap has_aggregate (made.becomes-Digits (late_part groups aggs) (e.Digits n) n refl u.is) ∙ called.calls-Digits is_aggregate (e.Digits n) n refl);
     text = λ t h. decided HasNone column-none (e.Text t) (λ u. ap has_aggregate (made.becomes-Text (late_part groups aggs) (e.Text t) t refl u.is) ∙ called.calls-Text is_aggregate (e.Text t) t refl);
     truth = λ b h. decided HasNone column-none (e.Truth b) (λ u. ap has_aggregate (made.becomes-Truth (late_part groups aggs) (e.Truth b) b refl u.is) ∙ called.calls-Truth is_aggregate (e.Truth b) b refl);
@@ -139,18 +140,18 @@ module _ (groups aggs : List Expr) where
   all-stay [] k h = refl
   all-stay (a ∷ es) k h = and-true (is_small (late a)) (are_small (map late es)) (k.0 h.0) (all-stay es k.1 h.1)
 
-  whens-stay : (ws : List WhenText) → Each (OfWhen Stays) ws → Each (OfWhen IsSmall) ws → are_whens_small (map late_when ws) ≡ true
+  whens-stay : (ws : List WhenText) → Each (InWhen Stays) ws → Each (InWhen IsSmall) ws → are_whens_small (map late_when ws) ≡ true
   whens-stay [] k h = refl
   whens-stay (w ∷ ws) k h =
       and-true (is_small (late w.cond) && is_small (late w.result)) (are_whens_small (map late_when ws))
       (and-true (is_small (late w.cond)) (is_small (late w.result)) (k.0.0 h.0.0) (k.0.1 h.0.1)) (whens-stay ws k.1 h.1)
 
-  part-stays : (x : Option Expr) → OfPart Stays x → OfPart IsSmall x → is_small_perhaps (option_map late x) ≡ true
+  part-stays : (x : Option Expr) → IfThere Stays x → IfThere IsSmall x → is_small_perhaps (option_map late x) ≡ true
   part-stays None k h = refl
   part-stays (Some a) k h = k h
 
   pub late-small : (a : Expr) → Stays a
-  late-small = by_form Stays (record {
+  late-small = induction Stays (record {
     digits = λ n h. decided IsSmall column-small (e.Digits n) (λ u. ap is_small (made.becomes-Digits (late_part groups aggs) (e.Digits n) n refl u.is) ∙ h);
     text = λ t h. decided IsSmall column-small (e.Text t) (λ u. ap is_small (made.becomes-Text (late_part groups aggs) (e.Text t) t refl u.is) ∙ h);
     truth = λ b h. decided IsSmall column-small (e.Truth b) (λ u. ap is_small (made.becomes-Truth (late_part groups aggs) (e.Truth b) b refl u.is) ∙ h);

@@ -6,15 +6,15 @@ use Rattle.ksql_grammar.specs.declared.tree.Expr.{Expr}
 use Rattle.ksql_grammar.specs.declared.tree.Expr.TheVariants as e
 use Rattle.ksql_grammar.specs.declared.tree.Expr.TheOpen.{Expr-F, WhenText-F}
 use Rattle.ksql_grammar.specs.declared.tree.WhenText.{WhenText}
-use Rattle.ksql_typing.specs.declared.scope.Scope.{Scope}
-use Rattle.ksql_typing.specs.declared.scope.ScopeColumn.{ScopeColumn}
-use Rattle.ksql_typing.specs.Scope.{is_known_as}
-use Rattle.ksql_typing.specs.Uses.{calls, calls_step, of_when, is_small, small_step}
+use Rattle.ksql_scope.specs.declared.scope.Scope.{Scope}
+use Rattle.ksql_scope.specs.declared.scope.ScopeColumn.{ScopeColumn}
+use Rattle.ksql_scope.specs.Scope.{is_known_as}
+use Rattle.ksql_scope.specs.Uses.{calls, calls_step, of_when, is_small, small_step}
 use Rattle.ksql_clauses.specs.Resolved.{resolved, resolved_when, written_for, is_row_time}
 use Rattle.ksql_clauses.proofs.Resolving as r
-use Rattle.ksql_typing.proofs.Folds as f
-use Rattle.ksql_typing.proofs.Folds.{perhaps_folded}
-use Rattle.ksql_analyse.proofs.Induction.{OfPart, OfWhen, by_form}
+use Rattle.ksql_scope.proofs.Folds as f
+use Rattle.ksql_scope.proofs.Folds.{perhaps_folded}
+use Rattle.ksql_scope.proofs.Induction.{IfThere, InWhen, induction}
 
 -- ---- a name stays a name
 
@@ -53,16 +53,16 @@ module _ (A B : Type 0) (step : Expr-F A B → A) (when : WhenText-F A B → B)
   each-kept [] k = refl
   each-kept (a ∷ es) k = ap₂ (λ x xs. x ∷ xs) k.0 (each-kept es k.1)
 
-  when-kept : (w : WhenText) → OfWhen IsKept w → folded_when (resolved_when s w) ≡ folded_when w
+  when-kept : (w : WhenText) → InWhen IsKept w → folded_when (resolved_when s w) ≡ folded_when w
   when-kept w k =
       ap folded_when (r.resolved-when s w) ∙ f.fold-when A B step when (record { cond = resolved s w.cond; result = resolved s w.result })
       ∙ ap₂ (λ x y. when (record { cond = x; result = y })) k.0 k.1 ∙ sym (f.fold-when A B step when w)
 
-  whens-kept : (ws : List WhenText) → Each (OfWhen IsKept) ws → map folded_when (map (resolved_when s) ws) ≡ map folded_when ws
+  whens-kept : (ws : List WhenText) → Each (InWhen IsKept) ws → map folded_when (map (resolved_when s) ws) ≡ map folded_when ws
   whens-kept [] k = refl
   whens-kept (w ∷ ws) k = ap₂ (λ x xs. x ∷ xs) (when-kept w k.0) (whens-kept ws k.1)
 
-  part-kept : (x : Option Expr) → OfPart IsKept x → perhaps_folded folded (option_map (resolved s) x) ≡ perhaps_folded folded x
+  part-kept : (x : Option Expr) → IfThere IsKept x → perhaps_folded folded (option_map (resolved s) x) ≡ perhaps_folded folded x
   part-kept None k = refl
   part-kept (Some a) k = ap Some k
 
@@ -71,14 +71,14 @@ module _ (A B : Type 0) (step : Expr-F A B → A) (when : WhenText-F A B → B)
       let k = resolved-name s q name in
       ap folded k.is ∙ f.fold-Name A B step when k.qualifier k.name ∙ blind k.qualifier k.name q name ∙ sym (f.fold-Name A B step when q name)
 
-  case-kept : (x : Option Expr) (ws : List WhenText) (z : Option Expr) → OfPart IsKept x → Each (OfWhen IsKept) ws → OfPart IsKept z → IsKept (e.Case x ws z)
+  case-kept : (x : Option Expr) (ws : List WhenText) (z : Option Expr) → IfThere IsKept x → Each (InWhen IsKept) ws → IfThere IsKept z → IsKept (e.Case x ws z)
   case-kept x ws z kx kws kz =
       ap folded (r.resolved-Case s x ws z) ∙ f.fold-Case A B step when (option_map (resolved s) x) (map (resolved_when s) ws) (option_map (resolved s) z)
       ∙ ap₂ (λ y os. step (Expr-F.Case y os (perhaps_folded folded (option_map (resolved s) z)))) (part-kept x kx) (whens-kept ws kws)
       ∙ ap (λ y. step (Expr-F.Case (perhaps_folded folded x) (map folded_when ws) y)) (part-kept z kz) ∙ sym (f.fold-Case A B step when x ws z)
 
   pub fold-resolved : (a : Expr) → IsKept a
-  fold-resolved = by_form IsKept (record {
+  fold-resolved = induction IsKept (record {
     digits = λ n. ap folded (r.resolved-Digits s n);
     text = λ c. ap folded (r.resolved-Text s c);
     truth = λ b. ap folded (r.resolved-Truth s b);

@@ -9,12 +9,12 @@ use Rattle.ksql_types.specs.declared.value.SqlType.TheVariants as sql
 use Rattle.ksql_expr.specs.declared.typed.TypedNode.TheVariants as n
 use Rattle.ksql_grammar.specs.declared.tree.Expr.{Expr}
 use Rattle.ksql_grammar.specs.declared.tree.Expr.TheVariants as e
-use Rattle.ksql_typing.specs.declared.scope.Scope.{Scope}
-use Rattle.ksql_typing.specs.declared.scope.ScopeColumn.{ScopeColumn}
-use Rattle.ksql_typing.specs.Scope.{Meaning, meanings, inside, seen, columns_known_as, is_known_as, is_qualified, first_alias, row_time, window_bounds}
-use Rattle.ksql_typing.proofs.Sets.{both-true}
-use Rattle.ksql_typing.specs.Typing as h
-use Rattle.ksql_typing.specs.Typing.{Has, HasType, Typing, one, perhaps, each, whens}
+use Rattle.ksql_scope.specs.declared.scope.Scope.{Scope}
+use Rattle.ksql_scope.specs.declared.scope.ScopeColumn.{ScopeColumn}
+use Rattle.ksql_scope.specs.Scope.{Meaning, meanings, inside, seen, columns_known_as, is_known_as, is_qualified, first_alias, row_time, window_bounds}
+use Rattle.ksql_scope.proofs.Sets.{both-true}
+use Rattle.ksql_scope.specs.Typing as h
+use Rattle.ksql_scope.specs.Typing.{Has, HasType, Typing, one, perhaps, each, whens}
 use Rattle.ksql_clauses.specs.Resolved.{resolved, resolved_when, full_name, written_for, is_row_time}
 use Rattle.ksql_clauses.proofs.Resolving as r
 use Rattle.ksql_analyse.proofs.KeySides.{first-passes}

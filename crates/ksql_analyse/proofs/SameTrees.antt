@@ -16,9 +16,9 @@ use Rattle.ksql_grammar.specs.declared.tree.WhenText.{WhenText, roll-WhenText}
 use Rattle.ksql_expr.specs.Rules.{same_type}
 use Rattle.ksql_grouping.specs.Same.{Test, same_expr, same_form, same_when, same_when_text, same_parts, same_part, same_truth, same_name, op_number}
 use Rattle.ksql_grouping.proofs.Sameness as one
-use Rattle.ksql_typing.proofs.Folds as f
-use Rattle.ksql_typing.proofs.Sets.{both-true, and-true, is-same}
-use Rattle.ksql_analyse.proofs.Induction.{OfPart, OfWhen, by_form}
+use Rattle.ksql_scope.proofs.Folds as f
+use Rattle.ksql_scope.proofs.Sets.{both-true, and-true, is-same}
+use Rattle.ksql_scope.proofs.Induction.{IfThere, InWhen, induction}
 
 -- ---- what is tested of other things than expressions
 
@@ -80,12 +80,12 @@ exprs_same (a ∷ es) k (b ∷ others) h =
     let r = both-true (same_expr a b) (same_parts (map same_expr es) others) h in
     ap₂ (λ x xs. x ∷ xs) (k.0 b r.0) (exprs_same es k.1 others r.1)
 
-when_same : (v : WhenText) → OfWhen IsOnly v → (w : WhenText) → same_when_text v w ≡ true → v ≡ w
+when_same : (v : WhenText) → InWhen IsOnly v → (w : WhenText) → same_when_text v w ≡ true → v ≡ w
 when_same v k w h =
     let r = both-true (same_expr v.cond w.cond) (same_expr v.result w.result) (sym (one.same-when v w) ∙ h) in
     ap₂ (λ c d. roll-WhenText (record { cond = c; result = d })) (k.0 w.cond r.0) (k.1 w.result r.1)
 
-whens_same : (vs : List WhenText) → Each (OfWhen IsOnly) vs → (ws : List WhenText) → same_parts (map same_when_text vs) ws ≡ true → vs ≡ ws
+whens_same : (vs : List WhenText) → Each (InWhen IsOnly) vs → (ws : List WhenText) → same_parts (map same_when_text vs) ws ≡ true → vs ≡ ws
 whens_same [] k [] h = refl
 whens_same [] k (w ∷ ws) h = absurd (cc (h))
 whens_same (v ∷ vs) k [] h = absurd (cc (h))
@@ -93,7 +93,7 @@ whens_same (v ∷ vs) k (w ∷ ws) h =
     let r = both-true (same_when_text v w) (same_parts (map same_when_text vs) ws) h in
     ap₂ (λ x xs. x ∷ xs) (when_same v k.0 w r.0) (whens_same vs k.1 ws r.1)
 
-part_same : (x : Option Expr) → OfPart IsOnly x → (y : Option Expr) → same_part (f.perhaps_folded same_expr x) y ≡ true → x ≡ y
+part_same : (x : Option Expr) → IfThere IsOnly x → (y : Option Expr) → same_part (f.perhaps_folded same_expr x) y ≡ true → x ≡ y
 part_same None k None h = refl
 part_same None k (Some b) h = absurd (cc (h))
 part_same (Some a) k None h = absurd (cc (h))
@@ -265,7 +265,7 @@ unfolding same_expr
 only-Cast a to ka other h =
     form-Cast a to ka (out-Expr other) (sym (ap (λ t. t other) (f.fold-Cast (Test Expr) (Test WhenText) step same_when a to)) ∙ h) ∙ roll-out-Expr other
 
-form-Case : (x : Option Expr) (ws : List WhenText) (z : Option Expr) → OfPart IsOnly x → Each (OfWhen IsOnly) ws → OfPart IsOnly z → (form : Expr-F Expr WhenText) → same_form (Expr-F.Case (f.perhaps_folded same_expr x) (map same_when_text ws) (f.perhaps_folded same_expr z)) form ≡ true → e.Case x ws z ≡ roll-Expr form
+form-Case : (x : Option Expr) (ws : List WhenText) (z : Option Expr) → IfThere IsOnly x → Each (InWhen IsOnly) ws → IfThere IsOnly z → (form : Expr-F Expr WhenText) → same_form (Expr-F.Case (f.perhaps_folded same_expr x) (map same_when_text ws) (f.perhaps_folded same_expr z)) form ≡ true → e.Case x ws z ≡ roll-Expr form
 form-Case x ws z kx kws kz (Expr-F.Case x' ws' z') h =
     let r2 = both-true (same_part (f.perhaps_folded same_expr x) x' && same_parts (map same_when_text ws) ws') (same_part (f.perhaps_folded same_expr z) z') h in
     let r1 = both-true (same_part (f.perhaps_folded same_expr x) x') (same_parts (map same_when_text ws) ws') r2.0 in
@@ -275,7 +275,7 @@ form-Case x ws z kx kws kz (Expr-F.Case x' ws' z') h =
     ∙ sym (e.rolls-Case x' ws' z')
 form-Case x ws z kx kws kz form h = absurd (cc (h))
 
-only-Case : (x : Option Expr) (ws : List WhenText) (z : Option Expr) → OfPart IsOnly x → Each (OfWhen IsOnly) ws → OfPart IsOnly z → IsOnly (e.Case x ws z)
+only-Case : (x : Option Expr) (ws : List WhenText) (z : Option Expr) → IfThere IsOnly x → Each (InWhen IsOnly) ws → IfThere IsOnly z → IsOnly (e.Case x ws z)
 unfolding same_expr same_when_text
 only-Case x ws z kx kws kz other h =
     form-Case x ws z kx kws kz (out-Expr other) (sym (ap (λ t. t other) (f.fold-Case (Test Expr) (Test WhenText) step same_when x ws z)) ∙ h) ∙ roll-out-Expr other
@@ -296,7 +296,7 @@ only-Call g m es kes other h =
     form-Call g m es kes (out-Expr other) (sym (ap (λ t. t other) (f.fold-Call (Test Expr) (Test WhenText) step same_when g m es)) ∙ h) ∙ roll-out-Expr other
 
 pub same-is : (a b : Expr) → same_expr a b ≡ true → a ≡ b
-same-is = by_form IsOnly (record {
+same-is = induction IsOnly (record {
   digits = only-Digits;
   text = only-Text;
   truth = only-Truth;
@@ -343,18 +343,18 @@ exprs_itself : (es : List Expr) → Each IsItself es → same_parts (map same_ex
 exprs_itself [] k = refl
 exprs_itself (a ∷ es) k = and-true (same_expr a a) (same_parts (map same_expr es) es) k.0 (exprs_itself es k.1)
 
-whens_itself : (ws : List WhenText) → Each (OfWhen IsItself) ws → same_parts (map same_when_text ws) ws ≡ true
+whens_itself : (ws : List WhenText) → Each (InWhen IsItself) ws → same_parts (map same_when_text ws) ws ≡ true
 whens_itself [] k = refl
 whens_itself (w ∷ ws) k =
     and-true (same_when_text w w) (same_parts (map same_when_text ws) ws)
     (one.same-when w w ∙ and-true (same_expr w.cond w.cond) (same_expr w.result w.result) k.0.0 k.0.1) (whens_itself ws k.1)
 
-part_itself : (x : Option Expr) → OfPart IsItself x → same_part (f.perhaps_folded same_expr x) x ≡ true
+part_itself : (x : Option Expr) → IfThere IsItself x → same_part (f.perhaps_folded same_expr x) x ≡ true
 part_itself None k = refl
 part_itself (Some a) k = k
 
 pub same-itself : (a : Expr) → same_expr a a ≡ true
-same-itself = by_form IsItself (record {
+same-itself = induction IsItself (record {
   digits = λ n. one.is-Digits (e.Digits n) (e.Digits n) n n refl refl ∙ (nat_itself n);
   text = λ t. one.is-Text (e.Text t) (e.Text t) t t refl refl ∙ (bytes_itself t);
   truth = λ b. one.is-Truth (e.Truth b) (e.Truth b) b b refl refl ∙ (truth_itself b);

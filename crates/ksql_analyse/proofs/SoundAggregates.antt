@@ -28,17 +28,18 @@ use Rattle.ksql_expr.specs.Typing.{HasTypes, of}
 use Rattle.ksql_program.specs.declared.query.Agg.{Agg}
 use Rattle.ksql_program.specs.Names.{is_among}
 use Rattle.ksql_program.specs.Sound.{IsAggOver, IsOverTable, IsArgument, IsSoundOver, argument_type}
-use Rattle.ksql_typing.specs.declared.scope.Scope.{Scope}
-use Rattle.ksql_typing.specs.declared.scope.ScopeColumn.{ScopeColumn}
-use Rattle.ksql_typing.specs.Functions.{aggregates, aggregate_of, is_aggregate}
-use Rattle.ksql_typing.specs.Scope.{column_types, inside}
+use Rattle.ksql_scope.specs.declared.scope.Scope.{Scope}
+use Rattle.ksql_scope.specs.declared.scope.ScopeColumn.{ScopeColumn}
+use Rattle.ksql_scope.specs.Functions.{aggregates, aggregate_of, is_aggregate}
+use Rattle.ksql_scope.specs.Scope.{column_types, inside}
+use Rattle.ksql_scope.specs.Uses.{IsSmall, is_small, are_small, names, Use}
+use Rattle.ksql_scope.proofs.Small as small
+use Rattle.ksql_scope.proofs.Sets.{both-true}
 use Rattle.ksql_typing.specs.Standing as st
 use Rattle.ksql_typing.specs.Standing.{Stands, IsTypedTree}
-use Rattle.ksql_typing.specs.Uses.{IsSmall, is_small, are_small, names, Use}
 use Rattle.ksql_typing.proofs.Inversion.{Checks, checks}
-use Rattle.ksql_typing.proofs.Small as small
-use Rattle.ksql_typing.proofs.Sets.{both-true}
-use Rattle.ksql_grouping.specs.Grouping.{has_aggregate, has_nested_aggregate, is_aggregate_call, ordered_aggregates, any_of}
+use Rattle.ksql_walks.specs.Parts.{any_of}
+use Rattle.ksql_grouping.specs.Grouping.{has_aggregate, has_nested_aggregate, is_aggregate_call, ordered_aggregates}
 use Rattle.ksql_grouping.proofs.Calls as called
 use Rattle.ksql_grouping.proofs.Calls.{calls_one}
 use Rattle.ksql_analyse.specs.Judgement.{IsAgg}

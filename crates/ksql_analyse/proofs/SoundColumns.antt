@@ -15,7 +15,7 @@ use Rattle.ksql_grammar.specs.declared.tree.SelectItem.TheVariants.{Star, StarOf
 use Rattle.ksql_grammar.specs.declared.tree.WhenText.{WhenText}
 use Rattle.ksql_program.specs.Names.{is_among, are_distinct}
 use Rattle.ksql_program.specs.Sound.{columns}
-use Rattle.ksql_typing.specs.declared.scope.Scope.{Scope}
+use Rattle.ksql_scope.specs.declared.scope.Scope.{Scope}
 use Rattle.ksql_clauses.specs.declared.items.Named.{Named}
 use Rattle.ksql_clauses.specs.declared.sources.Known.{Known}
 use Rattle.ksql_clauses.specs.Items.{named_from, all_stars, stars_of, star_of, star_column, plain_name, column_name, numbered_name, is_join}
@@ -23,7 +23,7 @@ use Rattle.ksql_clauses.specs.Resolved.{resolved}
 use Rattle.ksql_clauses.proofs.Naming as naming
 use Rattle.ksql_rules.specs.Breaks.{at_places, besides, is_place}
 use Rattle.ksql_rules.specs.Keys.{first_of, is_one_of}
-use Rattle.ksql_typing.proofs.Sets.{both-true}
+use Rattle.ksql_scope.proofs.Sets.{both-true}
 use Rattle.ksql_analyse.proofs.Distinct.{or-false, true-not}
 use Rattle.ksql_analyse.proofs.Resolution.{IsName}
 

@@ -17,7 +17,7 @@ use Rattle.ksql_program.specs.Names.{are_column_names, are_distinct, is_among, i
 use Rattle.ksql_program.specs.Sound.{IsSoundRelation, IsSoundDeclaration, HasDeclaredKey}
 use Rattle.ksql_clauses.specs.Properties.{are_bad, topic_in, partitions_in, format_in, is_zero, name_of, has_kind, is_bad_format, is_bad_key_format, value_of}
 use Rattle.ksql_rules.specs.Breaks.{is_primary, is_key, has_only_keys, has_bad_topic, is_delimited}
-use Rattle.ksql_typing.proofs.Sets.{both-true, and-true}
+use Rattle.ksql_scope.proofs.Sets.{both-true, and-true}
 use Rattle.ksql_analyse.specs.Judgement.{declared_relation, column_of, kind_of}
 use Rattle.ksql_analyse.proofs.Distinct.{parted, all-parted, distinct-parted, or-false, not-zero}
 use Rattle.ksql_analyse.proofs.Refusals.{KeepsDeclaration, stated, not-not}

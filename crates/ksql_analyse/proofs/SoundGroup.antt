@@ -23,9 +23,9 @@ use Rattle.ksql_program.specs.declared.query.Window.{Window}
 use Rattle.ksql_program.specs.Names.{is_among}
 use Rattle.ksql_program.specs.Sound as sound
 use Rattle.ksql_program.specs.Sound.{IsSoundWindow, IsWindowed, Aggregates, AreColumns, IsSoundOver, argument_type, window_types, grouped_kind}
-use Rattle.ksql_typing.specs.declared.scope.Scope.{Scope}
-use Rattle.ksql_typing.specs.Functions.{is_aggregate}
-use Rattle.ksql_typing.specs.Uses.{IsSmall}
+use Rattle.ksql_scope.specs.declared.scope.Scope.{Scope}
+use Rattle.ksql_scope.specs.Functions.{is_aggregate}
+use Rattle.ksql_scope.specs.Uses.{IsSmall}
 use Rattle.ksql_grouping.specs.Grouping.{has_aggregate, aggregates_of, ordered_aggregates, regrouped}
 use Rattle.ksql_grouping.proofs.Calls as called
 use Rattle.ksql_clauses.specs.declared.items.Named.{Named}

@@ -24,20 +24,20 @@ use Rattle.ksql_expr.specs.Typing.{HasTypes}
 use Rattle.ksql_program.specs.declared.query.Agg.{Agg}
 use Rattle.ksql_program.specs.Names.{is_among, are_distinct, reserved_columns}
 use Rattle.ksql_program.specs.Sound.{IsSoundRelation, argument_type, columns}
-use Rattle.ksql_typing.specs.declared.scope.Scope.{Scope}
-use Rattle.ksql_typing.specs.declared.scope.ScopeColumn.{ScopeColumn}
-use Rattle.ksql_typing.specs.Functions.{is_unknown}
-use Rattle.ksql_typing.specs.Scope.{is_known_as, is_qualified}
+use Rattle.ksql_scope.specs.declared.scope.Scope.{Scope}
+use Rattle.ksql_scope.specs.declared.scope.ScopeColumn.{ScopeColumn}
+use Rattle.ksql_scope.specs.Functions.{is_unknown}
+use Rattle.ksql_scope.specs.Scope.{is_known_as, is_qualified}
+use Rattle.ksql_scope.specs.Typing as h
+use Rattle.ksql_scope.specs.Typing.{Has, HasType}
+use Rattle.ksql_scope.proofs.Having.{clear}
+use Rattle.ksql_scope.proofs.Sets.{both-true}
 use Rattle.ksql_typing.specs.Standing as st
 use Rattle.ksql_typing.specs.Standing.{Stands, IsTypedTree}
-use Rattle.ksql_typing.specs.Typing as h
-use Rattle.ksql_typing.specs.Typing.{Has, HasType}
-use Rattle.ksql_typing.proofs.Having.{clear}
 use Rattle.ksql_typing.proofs.Inversion.{Checks, checks}
 use Rattle.ksql_typing.proofs.OneTyping.{tree-made}
-use Rattle.ksql_typing.proofs.Sets.{both-true}
 use Rattle.ksql_grouping.specs.Grouping.{late_column, late_part, is_window_bound}
-use Rattle.ksql_grouping.proofs.Becomes as made
+use Rattle.ksql_walks.proofs.Becoming as made
 use Rattle.ksql_clauses.specs.declared.sources.Known.{Known}
 use Rattle.ksql_clauses.specs.Sources.{from_scope, item_scope, from_columns, scope_column, scope_columns, rowkey, rowkey_of, is_full}
 use Rattle.ksql_rules.specs.Breaks.{group_exprs}

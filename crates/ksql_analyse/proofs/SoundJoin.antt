@@ -13,8 +13,8 @@ use Rattle.ksql_grammar.specs.declared.tree.Select.{Select}
 use Rattle.ksql_program.specs.declared.query.JoinKind.{JoinKind}
 use Rattle.ksql_program.specs.Sound as sound
 use Rattle.ksql_program.specs.Sound.{Reads, IsJoined, JoinsStream, JoinsTable, IsSoundOver, columns, row_key, rowkey_types}
-use Rattle.ksql_typing.specs.declared.scope.ScopeColumn.{ScopeColumn}
-use Rattle.ksql_typing.specs.Scope.{column_types}
+use Rattle.ksql_scope.specs.declared.scope.ScopeColumn.{ScopeColumn}
+use Rattle.ksql_scope.specs.Scope.{column_types}
 use Rattle.ksql_clauses.specs.declared.sources.Known.{Known}
 use Rattle.ksql_clauses.specs.Sources.{is_full, is_full_word, scope_column, scope_columns, rowkey_of, rowkey, from_scope, from_columns}
 use Rattle.ksql_analyse.specs.Judgement.{join_kind}

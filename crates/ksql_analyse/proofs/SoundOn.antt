@@ -21,16 +21,16 @@ use Rattle.ksql_program.specs.declared.query.JoinKind.{JoinKind}
 use Rattle.ksql_program.specs.declared.query.JoinKind.TheVariants as join
 use Rattle.ksql_program.specs.Sound as sound
 use Rattle.ksql_program.specs.Sound.{IsJoined, JoinsStream, JoinsTable, IsSoundOver, columns, row_key}
-use Rattle.ksql_typing.specs.declared.scope.Scope.{Scope}
-use Rattle.ksql_typing.specs.declared.scope.ScopeColumn.{ScopeColumn}
-use Rattle.ksql_typing.specs.Scope.{is_known_as}
+use Rattle.ksql_scope.specs.declared.scope.Scope.{Scope}
+use Rattle.ksql_scope.specs.declared.scope.ScopeColumn.{ScopeColumn}
+use Rattle.ksql_scope.specs.Scope.{is_known_as}
+use Rattle.ksql_scope.specs.Typing.{HasType, Agree, CanAgree}
+use Rattle.ksql_scope.specs.Uses.{names}
+use Rattle.ksql_scope.proofs.Sets.{both-true}
 use Rattle.ksql_typing.specs.Standing.{IsTypedTree}
-use Rattle.ksql_typing.specs.Typing.{HasType}
-use Rattle.ksql_typing.specs.Uses.{names}
-use Rattle.ksql_typing.proofs.Sets.{both-true}
 use Rattle.ksql_clauses.specs.declared.sources.Known.{Known}
 use Rattle.ksql_clauses.specs.Sources.{is_stream, is_windowed, from_scope, rowkey, scope_column}
-use Rattle.ksql_rules.specs.Breaks.{Agree, CanAgree, IfThere}
+use Rattle.ksql_rules.specs.Breaks.{IfThere}
 use Rattle.ksql_rules.specs.Keys.{is_of_left, is_left_name, is_only_key}
 use Rattle.ksql_analyse.proofs.Bearing.{reach, plain_use, bears, column-is-held, no-aggregate-held, short-texts-held, AreNear, some}
 use Rattle.ksql_analyse.proofs.Holding as hold

@@ -24,14 +24,14 @@ use Rattle.ksql_program.specs.declared.query.From.TheVariants as from
 use Rattle.ksql_program.specs.Program.{relation_at}
 use Rattle.ksql_program.specs.Sound as sound
 use Rattle.ksql_program.specs.Sound.{Reads, IsKeyed, AreColumnsFrom, columns}
-use Rattle.ksql_typing.specs.declared.scope.Scope.{Scope}
-use Rattle.ksql_typing.specs.declared.scope.ScopeColumn.{ScopeColumn}
-use Rattle.ksql_typing.specs.Scope.{column_types, is_known_as}
+use Rattle.ksql_scope.specs.declared.scope.Scope.{Scope}
+use Rattle.ksql_scope.specs.declared.scope.ScopeColumn.{ScopeColumn}
+use Rattle.ksql_scope.specs.Scope.{column_types, is_known_as}
+use Rattle.ksql_scope.specs.Functions.{is_aggregate}
+use Rattle.ksql_scope.proofs.Equations as equation
+use Rattle.ksql_scope.proofs.Sets.{and-true}
 use Rattle.ksql_typing.specs.Standing as st
 use Rattle.ksql_typing.specs.Standing.{Stands, IsTypedTree}
-use Rattle.ksql_typing.specs.Functions.{is_aggregate}
-use Rattle.ksql_typing.proofs.Equations as equation
-use Rattle.ksql_typing.proofs.Sets.{and-true}
 use Rattle.ksql_grouping.specs.Same.{same_expr}
 use Rattle.ksql_clauses.specs.declared.items.Named.{Named}
 use Rattle.ksql_clauses.specs.declared.sources.Known.{Known}

@@ -28,19 +28,20 @@ use Rattle.ksql_program.specs.declared.query.JoinKind.TheVariants as join
 use Rattle.ksql_program.specs.Program.{relation_at}
 use Rattle.ksql_program.specs.Sound as sound
 use Rattle.ksql_program.specs.Sound.{IsKeyed, IsTablesKey, columns}
-use Rattle.ksql_typing.specs.Functions.{is_aggregate}
+use Rattle.ksql_scope.specs.Functions.{is_aggregate}
+use Rattle.ksql_scope.specs.Uses.{calls}
+use Rattle.ksql_scope.specs.Typing.{CanAgree}
+use Rattle.ksql_scope.proofs.Equations as equation
+use Rattle.ksql_scope.proofs.Small as small
 use Rattle.ksql_typing.specs.Standing as st
 use Rattle.ksql_typing.specs.Standing.{Stands}
-use Rattle.ksql_typing.specs.Uses.{calls}
-use Rattle.ksql_typing.proofs.Equations as equation
-use Rattle.ksql_typing.proofs.Small as small
 use Rattle.ksql_grouping.specs.Same.{same_expr}
 use Rattle.ksql_clauses.specs.declared.items.Named.{Named}
 use Rattle.ksql_clauses.specs.declared.sources.Known.{Known}
 use Rattle.ksql_clauses.specs.Resolved.{resolved}
 use Rattle.ksql_clauses.specs.Items.{result_columns}
 use Rattle.ksql_clauses.specs.Sources.{is_stream, is_windowed, is_full, is_full_word, joined_streams, from_scope, item_scope, on_exprs, early_exprs, rowkey_of}
-use Rattle.ksql_rules.specs.Breaks.{same, key_columns, is_grouped, is_not_on_key, is_stream_join, has_stream_side, IfThere, CanAgree}
+use Rattle.ksql_rules.specs.Breaks.{same, key_columns, is_grouped, is_not_on_key, is_stream_join, has_stream_side, IfThere}
 use Rattle.ksql_rules.specs.Keys.{on_sides, join_key, left_key, needs, alone, key_exprs, key_places, is_only_key, is_of_left, tables_need, stream_needs, join_needs, beside}
 use Rattle.ksql_analyse.specs.Judgement.{IsFrom, AreTypedTrees, exprs, join_kind}
 use Rattle.ksql_analyse.proofs.KeySides.{only-key, AreSides, left-key-sides, equation-is}

@@ -26,8 +26,8 @@ use Rattle.ksql_clauses.proofs.Naming.{numbered_is_short}
 use Rattle.ksql_rules.specs.Breaks.{key_columns, value_columns, has_long_name, result_format, topic_of}
 use Rattle.ksql_rules.specs.Keys.{key_places}
 use Rattle.ksql_rules.specs.Limits.{HasShortAlias}
-use Rattle.ksql_typing.specs.declared.scope.Scope.{Scope}
-use Rattle.ksql_typing.proofs.Sets.{both-true, and-true}
+use Rattle.ksql_scope.specs.declared.scope.Scope.{Scope}
+use Rattle.ksql_scope.proofs.Sets.{both-true, and-true}
 use Rattle.ksql_analyse.specs.Judgement.{IsResult, left_partitions}
 use Rattle.ksql_analyse.proofs.Parsed.{IsPlainShort}
 use Rattle.ksql_analyse.proofs.Refusals.{KeepsQuery, stated, not-not}

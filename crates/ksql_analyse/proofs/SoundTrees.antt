@@ -9,16 +9,16 @@ use Rattle.ksql_grammar.specs.declared.tree.Expr.{Expr}
 use Rattle.ksql_expr.specs.declared.typed.Typed.{Typed}
 use Rattle.ksql_expr.specs.Rules.{fits}
 use Rattle.ksql_program.specs.Sound.{IsSoundOver, AreColumns, IsCondition}
-use Rattle.ksql_typing.specs.declared.scope.Scope.{Scope}
-use Rattle.ksql_typing.specs.Scope.{column_types}
+use Rattle.ksql_scope.specs.declared.scope.Scope.{Scope}
+use Rattle.ksql_scope.specs.Scope.{column_types}
+use Rattle.ksql_scope.specs.Typing.{HasType, CanBeTrue}
+use Rattle.ksql_scope.specs.Uses.{IsSmall}
 use Rattle.ksql_typing.specs.Standing.{IsTypedTree}
-use Rattle.ksql_typing.specs.Typing.{HasType}
-use Rattle.ksql_typing.specs.Uses.{IsSmall}
 use Rattle.ksql_typing.proofs.Making.{makes}
 use Rattle.ksql_typing.proofs.OneTyping.{tree-made}
 use Rattle.ksql_grouping.specs.Grouping.{has_aggregate}
 use Rattle.ksql_clauses.specs.Sources.{there}
-use Rattle.ksql_rules.specs.Breaks.{CanBeTrue, IfThere}
+use Rattle.ksql_rules.specs.Breaks.{IfThere}
 use Rattle.ksql_analyse.specs.Judgement.{IsTypedPart, AreTypedTrees}
 use Rattle.ksql_analyse.proofs.Bearing.{no-aggregate-held, short-texts-held}
 use Rattle.ksql_analyse.proofs.Distinct.{or-false}

@@ -10,16 +10,15 @@ use Rattle.ksql_grammar.specs.declared.tree.Expr.TheVariants as e
 use Rattle.ksql_grammar.specs.declared.tree.Property.{Property}
 use Rattle.ksql_grammar.specs.declared.tree.Select.{Select}
 use Rattle.ksql_expr.specs.declared.typed.Typed.{Typed}
-use Rattle.ksql_typing.specs.declared.scope.Scope.{Scope}
-use Rattle.ksql_typing.specs.Decisions as decided
-use Rattle.ksql_typing.specs.Decisions.{HasValue, CanBeTrue, CanAgree}
+use Rattle.ksql_scope.specs.declared.scope.Scope.{Scope}
+use Rattle.ksql_scope.specs.Decisions as decided
+use Rattle.ksql_scope.specs.Possible.{is_some_in}
+use Rattle.ksql_scope.specs.Typing.{HasType, HasSomeType, HasValue, CanBeTrue, CanAgree}
+use Rattle.ksql_scope.specs.Uses.{IsSmall, is_small, has_unknown_function, calls}
+use Rattle.ksql_scope.specs.Functions.{is_unknown}
+use Rattle.ksql_scope.proofs.Equations as equation
 use Rattle.ksql_typing.specs.Judged.{judged}
-use Rattle.ksql_typing.specs.Possible.{is_some_in}
 use Rattle.ksql_typing.specs.Standing.{IsTypedTree}
-use Rattle.ksql_typing.specs.Typing.{HasType, HasSomeType}
-use Rattle.ksql_typing.specs.Uses.{IsSmall, is_small, has_unknown_function, calls}
-use Rattle.ksql_typing.specs.Functions.{is_unknown}
-use Rattle.ksql_typing.proofs.Equations as equation
 use Rattle.ksql_typing.proofs.OneTyping.{one-tree}
 use Rattle.ksql_typing.proofs.TypeLaws.{accepted, tree_type, known, some_type, value, truth, agreement}
 use Rattle.ksql_clauses.specs.declared.items.Named.{Named}

@@ -2,17 +2,17 @@
 -- something there.
 use Rattle.std.proofs.Common.{◌≡◌, ℕ, ◌==◌, Bool, true, false, ◌||◌, if◌then◌else◌, List, [], ◌∷◌, ◌++◌, map, length, Option, Some, None, is_some, refl, ap, ap₂, sym, ◌∙◌}
 use Rattle.std.specs.List.{list_any}
-use Rattle.ksql_typing.specs.declared.scope.Scope.{Scope}
-use Rattle.ksql_typing.specs.Functions.{is_aggregate}
-use Rattle.ksql_typing.specs.Scope.{Meaning, meanings, inside, columns_known_as, row_time, window_bounds}
-use Rattle.ksql_typing.specs.Typing as h
-use Rattle.ksql_typing.specs.Typing.{Has, HasType, Typing, one, perhaps, each, whens}
-use Rattle.ksql_typing.specs.Uses.{Use, names, all_of, in_aggregate}
-use Rattle.ksql_typing.specs.Uses as uses
-use Rattle.ksql_typing.proofs.Disjoint.{no-aggregate, unknown-none}
-use Rattle.ksql_typing.proofs.Equations as q
-use Rattle.ksql_typing.proofs.Folds.{perhaps_folded}
-use Rattle.ksql_typing.proofs.NameFlags.{counted, none-of}
+use Rattle.ksql_scope.specs.declared.scope.Scope.{Scope}
+use Rattle.ksql_scope.specs.Functions.{is_aggregate}
+use Rattle.ksql_scope.specs.Scope.{Meaning, meanings, inside, columns_known_as, row_time, window_bounds}
+use Rattle.ksql_scope.specs.Typing as h
+use Rattle.ksql_scope.specs.Typing.{Has, HasType, Typing, one, perhaps, each, whens}
+use Rattle.ksql_scope.specs.Uses.{Use, names, all_of, in_aggregate}
+use Rattle.ksql_scope.specs.Uses as uses
+use Rattle.ksql_scope.proofs.Disjoint.{no-aggregate, unknown-none}
+use Rattle.ksql_scope.proofs.Equations as q
+use Rattle.ksql_scope.proofs.Folds.{perhaps_folded}
+use Rattle.ksql_scope.proofs.NameFlags.{counted, none-of}
 
 -- the names stand for something in a scope without windows
 abbrev lost : Scope → Use → Bool

@@ -10,8 +10,8 @@ use Rattle.ksql_expr.specs.declared.typed.Typed.{Typed}
 use Rattle.ksql_expr.specs.declared.typed.TypedNode.{TypedNode}
 use Rattle.ksql_expr.specs.Typing as w
 use Rattle.ksql_expr.specs.Typing.{HasTypes, Part}
-use Rattle.ksql_typing.specs.declared.scope.Scope.{Scope}
-use Rattle.ksql_typing.specs.Scope.{Meaning, meanings, columns_known_as, row_time, window_bounds, seen, inside, column_types}
+use Rattle.ksql_scope.specs.declared.scope.Scope.{Scope}
+use Rattle.ksql_scope.specs.Scope.{Meaning, meanings, columns_known_as, row_time, window_bounds, seen, inside, column_types}
 use Rattle.ksql_typing.specs.Standing.{IsTypedTree}
 use Rattle.ksql_analyse.proofs.OneStanding.{Agree, agree-itself, alike}
 

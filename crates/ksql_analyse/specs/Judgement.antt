@@ -38,8 +38,8 @@ use Rattle.ksql_program.specs.declared.query.Window.{Window}
 use Rattle.ksql_expr.specs.Rules.{agg_type}
 use Rattle.ksql_program.specs.Program.{relation_of, relations}
 use Rattle.ksql_program.specs.Sound.{argument_type}
-use Rattle.ksql_typing.specs.declared.scope.Scope.{Scope}
-use Rattle.ksql_typing.specs.declared.scope.ScopeColumn.{ScopeColumn}
+use Rattle.ksql_scope.specs.declared.scope.Scope.{Scope}
+use Rattle.ksql_scope.specs.declared.scope.ScopeColumn.{ScopeColumn}
 use Rattle.ksql_rules.specs.Breaks.{topic_of, key_columns, value_columns, result_format, is_grouped, group_exprs, shown_exprs, is_key}
 use Rattle.ksql_grouping.specs.Grouping.{aggregates_of, once_from, regrouped, late_column}
 use Rattle.ksql_clauses.specs.declared.items.Named.{Named}
@@ -182,7 +182,7 @@ abbrev pub shape_values : Shape → List Typed
 shape_values (shape.Plain keys values) = values
 shape_values (shape.Group keys window aggs having values) = values
 
--- the kind of a result: that of the left source, or of a grouping a table, with a window or without
+-- the kind of a result: of a grouping a table, with a window or without; else a stream where the left source is one
 abbrev pub result_kind : Select → List Known → Kind
 result_kind q ks = if is_grouped q then (if is_some q.window then kind.Windowed else kind.Table) else if reads_stream ks then kind.Stream else kind.Table
 

@@ -5,11 +5,10 @@ use Rattle.ksql_expr.specs.declared.typed.AggFun.{AggFun}
 use Rattle.ksql_expr.specs.declared.typed.Typed.{Typed}
 use Rattle.ksql_expr.specs.declared.typed.TypedNode.{TypedNode}
 use Rattle.ksql_expr.specs.declared.typed.TypedNode.TheVariants as n
-use Rattle.ksql_typing.specs.declared.scope.Scope.{Scope}
-use Rattle.ksql_typing.specs.Decisions.{HasValue}
+use Rattle.ksql_scope.specs.declared.scope.Scope.{Scope}
+use Rattle.ksql_scope.specs.Typing.{HasSomeType, HasValue}
+use Rattle.ksql_scope.specs.Uses.{IsSmall, has_unknown_function}
 use Rattle.ksql_typing.specs.Standing.{IsTypedTree}
-use Rattle.ksql_typing.specs.Typing.{HasSomeType}
-use Rattle.ksql_typing.specs.Uses.{IsSmall, has_unknown_function}
 
 -- an expression whose literals keep their limits, whose functions are known, and that has a type
 pub record IsTypable (s : Scope) (a : Expr) : Type 0 where

@@ -2,7 +2,7 @@
 
 ghost use Rattle.std.specs.Prelude.{◌≡◌, ◌≤◌, ◌-◌, ◌^◌, ◌∷◌, [], All, IfOk, length};
 ghost use Rattle.ksql_clauses.specs.Sources as sources;
-ghost use Rattle.ksql_typing.specs.Uses.{IsSmall};
+ghost use Rattle.ksql_scope.specs.Uses.{IsSmall};
 ghost use Rattle.ksql_analyse.specs.Judgement as spec;
 
 use crate::trees::tree_of;
@@ -10,7 +10,7 @@ use ksql_clauses::Known;
 use ksql_grammar::{JoinWord, Select};
 use ksql_program::{From, JoinKind};
 use ksql_rules::join_key;
-use ksql_typing::Scope;
+use ksql_scope::Scope;
 use std::alloc::{AllocError, Global};
 
 /// What a query reads: one relation, or two that are joined. An error says that memory is short, or that there is no

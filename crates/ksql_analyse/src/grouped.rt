@@ -8,8 +8,8 @@ ghost use Rattle.ksql_grouping.specs.Grouping as groups;
 ghost use Rattle.ksql_grouping.specs.Grouping.{regrouped as regrouped_by};
 ghost use Rattle.ksql_expr.specs.Rules.{agg_type};
 ghost use Rattle.ksql_program.specs.Sound.{argument_type};
+ghost use Rattle.ksql_scope.specs.Uses.{IsSmall};
 ghost use Rattle.ksql_typing.specs.Standing.{IsTypedTree};
-ghost use Rattle.ksql_typing.specs.Uses.{IsSmall};
 ghost use Rattle.ksql_analyse.specs.Judgement as spec;
 
 use crate::trees::tree_of;
@@ -18,8 +18,8 @@ use ksql_expr::{Typed, TypedNode};
 use ksql_grammar::Expr;
 use ksql_grouping::{aggregates_of, once, regrouped};
 use ksql_program::Agg;
+use ksql_scope::{Scope, ScopeColumn};
 use ksql_types::{Boxed, Chars, Column, CopyOf, Items, SqlType};
-use ksql_typing::{Scope, ScopeColumn};
 use std::alloc::{AllocError, Global};
 
 /// Each expression with resolved names. The only error is want of memory.

@@ -17,6 +17,7 @@ mod trees;
 
 pub use fault::AnalyseFault;
 pub use judgement::analyse;
-pub use ksql_typing::{Scope, ScopeColumn, ScopeColumns, TypeFault, typed};
+pub use ksql_scope::{Scope, ScopeColumn, ScopeColumns};
+pub use ksql_typing::{TypeFault, typed};
 pub use laws::one_judgement;
 pub use soundness::programs_are_sound;

@@ -7,7 +7,7 @@ ghost use Rattle.ksql_clauses.specs.Properties as properties;
 ghost use Rattle.ksql_clauses.specs.Sources as sources;
 ghost use Rattle.ksql_rules.specs.Breaks as breaks;
 ghost use Rattle.ksql_rules.specs.Keys as keys;
-ghost use Rattle.ksql_typing.specs.Uses.{IsSmall};
+ghost use Rattle.ksql_scope.specs.Uses.{IsSmall};
 ghost use Rattle.ksql_analyse.specs.Judgement as spec;
 
 use crate::from::from_of;

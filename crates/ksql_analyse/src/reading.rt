@@ -9,8 +9,8 @@ ghost use Rattle.ksql_rules.specs.Keys as keys;
 use ksql_clauses::{Known, Named, all_known, from_scope, item_scope, result_columns};
 use ksql_grammar::Select;
 use ksql_rules::key_places;
+use ksql_scope::Scope;
 use ksql_types::Catalog;
-use ksql_typing::Scope;
 use std::alloc::{AllocError, Global};
 
 /// What is read of a query: its sources, the scope of what stands before a grouping and that of its items, the columns

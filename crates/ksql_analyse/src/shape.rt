@@ -8,7 +8,7 @@ ghost use Rattle.ksql_clauses.specs.Sources as sources;
 ghost use Rattle.ksql_grouping.specs.Grouping as groups;
 ghost use Rattle.ksql_rules.specs.Breaks as breaks;
 ghost use Rattle.ksql_types.specs.declared.value.SqlType.{SqlType as Sql};
-ghost use Rattle.ksql_typing.specs.Uses.{IsSmall};
+ghost use Rattle.ksql_scope.specs.Uses.{IsSmall};
 ghost use Rattle.ksql_analyse.specs.Judgement as spec;
 
 use crate::grouped::{
@@ -20,8 +20,8 @@ use ksql_clauses::{Named, window_of};
 use ksql_expr::Typed;
 use ksql_grammar::{Expr, Select, WindowText};
 use ksql_program::{Agg, Shape, Window};
+use ksql_scope::Scope;
 use ksql_types::Items;
-use ksql_typing::Scope;
 use std::alloc::{AllocError, Global};
 
 /// The keys and the values of a query without a grouping.

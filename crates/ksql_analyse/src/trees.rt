@@ -1,15 +1,16 @@
 //! The typed trees of a query's expressions.
 
 ghost use Rattle.std.specs.Prelude.{◌≡◌, ◌≤◌, ◌-◌, ◌^◌, All, length, map, IfOk};
+ghost use Rattle.ksql_scope.specs.Uses.{IsSmall};
 ghost use Rattle.ksql_typing.specs.Standing.{IsTypedTree};
-ghost use Rattle.ksql_typing.specs.Uses.{IsSmall};
 ghost use Rattle.ksql_clauses.specs.Sources.{there};
 ghost use Rattle.ksql_analyse.specs.Judgement.{AreTypedTrees, IsTypedPart, exprs};
 
 use ksql_clauses::Named;
 use ksql_expr::Typed;
 use ksql_grammar::Expr;
-use ksql_typing::{Scope, typed};
+use ksql_scope::Scope;
+use ksql_typing::typed;
 use std::alloc::{AllocError, Global};
 
 /// The typed tree of an expression. An error says that memory is short, or that there is none.

@@ -12,7 +12,7 @@ use Rattle.ksql_grammar.specs.declared.tree.SelectItem.TheVariants.{Star, StarOf
 use Rattle.ksql_program.specs.Sound.{columns}
 use Rattle.ksql_clauses.specs.Resolved.{resolved}
 use Rattle.ksql_clauses.specs.declared.items.Named.{Named}
-use Rattle.ksql_typing.specs.declared.scope.Scope.{Scope}
+use Rattle.ksql_scope.specs.declared.scope.Scope.{Scope}
 use Rattle.ksql_clauses.specs.declared.sources.Known.{Known}
 use Rattle.ksql_clauses.specs.Sources.{item_scope}
 
@@ -46,10 +46,14 @@ is_among name cs = list_any (λ c. bytes_eq c.name name) cs
 abbrev pub has_column : List ℕ → Known → Bool
 has_column name k = is_among name (columns k.relation)
 
--- the name of a plain column: its own, or with its relation's alias where both joined relations have that name
+-- whether a relation of these is known by the alias
+abbrev pub is_alias : List ℕ → List Known → Bool
+is_alias alias ks = list_any (λ k. bytes_eq k.alias alias) ks
+
+-- the name of a plain column: its own, or with the alias that it is written with where both joined relations have it
 abbrev pub column_name : List Known → Option (List ℕ) → List ℕ → List ℕ
 column_name ks None name = name
-column_name ks (Some q) name = if is_join ks && list_all (has_column name) ks then made_name q name else name
+column_name ks (Some q) name = if is_join ks && is_alias q ks && list_all (has_column name) ks then made_name q name else name
 
 -- what a form without an alias is named; nothing where it isn't a plain column
 abbrev pub plain_step : {A B : Type 0} → List Known → Expr-F A B → Option (List ℕ)
@@ -59,7 +63,7 @@ plain_step ks form = None
 unfoldable pub plain_name : List Known → Expr → Option (List ℕ)
 plain_name ks = fold-Expr (Option (List ℕ)) (Option (List ℕ)) (plain_step ks) (λ w. None)
 
--- a name as the grammar has it: of at most 128 bytes, and so its qualifier
+-- a name behind a qualifier, each of at most 128 bytes as the grammar has them
 abbrev pub IsShortName : Option (List ℕ) → List ℕ → Type 0
 IsShortName None name = ⊤
 IsShortName (Some q) name = (length q ≤ 128) × (length name ≤ 128)

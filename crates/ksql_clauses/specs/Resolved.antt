@@ -1,12 +1,13 @@
 -- Expressions with resolved names: two are equal where their trees with resolved names are.
 use Rattle.std.specs.Prelude.{ℕ, ◌==◌, Bool, true, false, ◌&&◌, if◌then◌else◌, List, [], ◌∷◌, length, filter, Option, Some, None, codes, bytes_eq}
-use Rattle.ksql_grammar.specs.declared.tree.Expr.{Expr, fold-Expr, roll-Expr}
+use Rattle.ksql_grammar.specs.declared.tree.Expr.{Expr, out-Expr}
 use Rattle.ksql_grammar.specs.declared.tree.Expr.TheVariants as e
 use Rattle.ksql_grammar.specs.declared.tree.Expr.TheOpen.{Expr-F}
-use Rattle.ksql_grammar.specs.declared.tree.WhenText.{WhenText, fold-WhenText, roll-WhenText}
-use Rattle.ksql_typing.specs.declared.scope.Scope.{Scope}
-use Rattle.ksql_typing.specs.declared.scope.ScopeColumn.{ScopeColumn}
-use Rattle.ksql_typing.specs.Scope.{is_known_as, row_time}
+use Rattle.ksql_grammar.specs.declared.tree.WhenText.{WhenText}
+use Rattle.ksql_scope.specs.declared.scope.Scope.{Scope}
+use Rattle.ksql_scope.specs.declared.scope.ScopeColumn.{ScopeColumn}
+use Rattle.ksql_scope.specs.Scope.{is_known_as, row_time}
+use Rattle.ksql_walks.specs.Parts.{becomes, when_becomes}
 
 -- whether a name stands for ROWTIME
 abbrev pub is_row_time : Scope → Option (List ℕ) → List ℕ → Bool
@@ -21,14 +22,18 @@ written_for s q name (c ∷ cs) = e.Name c.alias name
 abbrev pub full_name : Scope → Option (List ℕ) → List ℕ → Expr
 full_name s q name = written_for s q name (filter (is_known_as q name) s.columns)
 
-abbrev pub resolved_step : Scope → Expr-F Expr WhenText → Expr
-resolved_step s (Expr-F.Name q name) = full_name s q name
-resolved_step s form = roll-Expr form
+-- what stands in the place of a name: what it stands for, in full
+abbrev pub full_name_of : Scope → Expr → Option Expr
+full_name_of s a = of (out-Expr a)
+  where
+    of : Expr-F Expr WhenText → Option Expr
+    of (Expr-F.Name q name) = Some (full_name s q name)
+    of form = None
 
 -- an expression with resolved names
 unfoldable pub resolved : Scope → Expr → Expr
-resolved s = fold-Expr Expr WhenText (resolved_step s) roll-WhenText
+resolved s = becomes (full_name_of s)
 
 -- a WHEN with resolved names
 unfoldable pub resolved_when : Scope → WhenText → WhenText
-resolved_when s = fold-WhenText Expr WhenText (resolved_step s) roll-WhenText
+resolved_when s = when_becomes (full_name_of s)

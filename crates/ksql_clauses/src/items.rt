@@ -10,8 +10,8 @@ ghost use Rattle.ksql_clauses.specs.Sources as sources;
 use crate::full_names::resolved;
 use crate::sources::Known;
 use ksql_grammar::{Expr, Select, SelectItem};
+use ksql_scope::Scope;
 use ksql_types::{Chars, Column, CopyOf};
-use ksql_typing::Scope;
 use std::alloc::{AllocError, Global};
 
 /// A column of a result: its name, and its expression with resolved names.
@@ -55,14 +55,21 @@ fn is_among(name: &Chars, columns: &[Column]) -> bool
     columns.iter().any(|column| column.name == *name)
 }
 
+/// Whether one of these relations is known by the alias.
+pub fn is_alias(alias: &Chars, known: &[Known]) -> bool
+    ensures { result ≡ spec.is_alias alias.now known.now }
+{
+    known.iter().any(|source| source.alias == *alias)
+}
+
 fn is_in_each(name: &Chars, known: &[Known]) -> bool
     ensures { result ≡ list_all (spec.has_column name.now) known.now }
 {
     known.iter().all(|source| has_column(name, source))
 }
 
-/// The name of a plain column: its own, or with its relation's alias where both joined relations have that name. The
-/// only error is want of memory.
+/// The name of a plain column: its own, or with the alias that it is written with where both joined relations have it.
+/// The only error is want of memory.
 fn column_name(
     alloc: Global,
     known: &[Known],
@@ -75,7 +82,7 @@ fn column_name(
     match qualifier {
         None => name.copy(alloc),
         Some(alias) => {
-            if is_join(known) && is_in_each(name, known) {
+            if is_join(known) && is_alias(alias, known) && is_in_each(name, known) {
                 return made_name(alloc, alias, name);
             }
             name.copy(alloc)

@@ -8,7 +8,7 @@ mod sources;
 mod windows;
 
 pub use full_names::{first_known_as, full_name, is_known_as, is_row_time, resolved};
-pub use items::{Named, is_join, made_name, result_columns};
+pub use items::{Named, is_alias, is_join, made_name, result_columns};
 pub use properties::{are_bad, format_in, has_topic, is_word, partitions_in, topic_in, value_of};
 pub use sources::{
     Known, alias_of, all_known, from_scope, has_unknown_source, have_one_alias, is_full, is_stream,

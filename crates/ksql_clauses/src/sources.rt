@@ -4,8 +4,8 @@ ghost use Rattle.std.specs.Prelude.{◌≡◌, ◌==◌, ◌++◌, map, length, 
 ghost use Rattle.ksql_clauses.specs.Sources as spec;
 
 use ksql_grammar::{JoinText, JoinWord, Select, Source};
+use ksql_scope::{Scope, ScopeColumn};
 use ksql_types::{Catalog, Chars, Column, CopyOf, Items, Kind, Relation};
-use ksql_typing::{Scope, ScopeColumn};
 use std::alloc::{AllocError, Global};
 
 /// A relation that is read, and the name by which it is known.

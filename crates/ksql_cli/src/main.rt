@@ -6,6 +6,7 @@ mod run;
 mod status;
 mod topics;
 
+use fault::write_fault;
 use ksql_outside::{DirFolder, NoGate, StdSink};
 use ksql_types::{Items, Word, Words};
 pub use run::ksql;
@@ -20,7 +21,10 @@ fn main(rt: HostRuntime) -> ExitCode {
     let mut out = StdSink::new(&rt);
     let status = match words(&rt) {
         Ok(words) => ksql(&rt, alloc, &words, &mut folder, &mut out, &NoGate),
-        Err(status) => status,
+        Err(status) => {
+            let _ = write_fault(&mut out, &status);
+            status
+        }
     };
     ExitCode::from(status.code())
 }

@@ -79,7 +79,7 @@ longest_value = 65536
 abbrev pub text : List ℕ → Value
 text t = if nat_le (length t) longest_value then Txt t else Null
 
--- two texts joined; NULL where one of them is NULL
+-- two texts joined; NULL where one of them is NULL, and where the whole is too long
 abbrev pub joined : Value → Value → Value
 joined (Txt a) (Txt b) = text (a ++ b)
 joined _ _ = Null
@@ -222,17 +222,18 @@ abbrev pub widened : Option SqlType → Value → Value
 widened (Some sql.Big) (Int n) = Big n
 widened t x = x
 
--- a whole number in a type, or NULL where it is out of range
+-- whether a whole number is below a limit and not below its negative
 abbrev pub is_below : ℕ → ℤ → Bool
 is_below limit (pos n) = nat_lt n limit
 is_below limit (negsuc n) = nat_lt n limit
 
+-- a whole number in a type, or NULL where it is out of range
 abbrev pub fitting : SqlType → ℤ → Value
 fitting sql.Int z = if is_below (2 ^ 31) z then Int z else Null
 fitting sql.Big z = if is_below (2 ^ 63) z then Big z else Null
 fitting t z = Null
 
--- whether a text is an optional sign and digits
+-- whether a text is one digit or more
 abbrev pub are_digits : List ℕ → Bool
 are_digits ds = nat_lt 0 (length ds) && list_all is_ascii_digit ds
 
@@ -243,11 +244,12 @@ cast_number to (Big n) = fitting to n
 cast_number to (Txt t) = if are_digits (without_leading_sign t) then fitting to (signed_digits_value 10 t) else Null
 cast_number to _ = Null
 
--- CAST to VARCHAR: decimal text, `true` or `false`
+-- a truth value as text
 abbrev pub truth_text : Bool → List ℕ
 truth_text true = codes "true"
 truth_text false = codes "false"
 
+-- CAST to VARCHAR: decimal text, `true` or `false`
 abbrev pub cast_text : Value → Value
 cast_text (Int n) = Txt (signed_decimal n)
 cast_text (Big n) = Txt (signed_decimal n)

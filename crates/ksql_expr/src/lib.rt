@@ -2,6 +2,7 @@
 #![tactic(auto)]
 
 mod comparison;
+mod copies;
 mod evaluation;
 mod number;
 mod pattern;

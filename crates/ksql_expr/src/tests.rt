@@ -1,6 +1,7 @@
 use super::*;
-use ksql_types::{BinaryOp, Boxed, Chars, Items, SqlType, Value};
+use ksql_types::{BinaryOp, Boxed, Chars, CopyOf, Items, SqlType, Value};
 use std::alloc::Global;
+use std::fmt::Debug;
 use std::test::Fail;
 
 const INT: Option<SqlType> = Some(SqlType::Int);
@@ -337,5 +338,102 @@ fn types_of_functions(rt: HostRuntime) -> Result<(), Fail> {
     assert!(rt; fun_type(Fun::Concat, &[TEXT]) == None);
     assert!(rt; agg_type(AggFun::Count, None) == None);
     assert!(rt; case_type(None, &[BOOL, INT], &[INT]) == None);
+    Ok(())
+}
+
+// Forms without parts, and with one to three expressions.
+fn plain_forms(alloc: Global) -> Result<Vec<TypedNode>, Fail> {
+    let mut forms = Vec::new(alloc);
+    forms.push(TypedNode::Literal(Value::Txt(chars(alloc, "ä")?)))?;
+    forms.push(TypedNode::Column(4))?;
+    forms.push(TypedNode::RowTime)?;
+    let (minus, negated) = (true, true);
+    let arg = boxed(alloc, "1")?;
+    forms.push(TypedNode::Sign { minus, arg })?;
+    let op = BinaryOp::Sub;
+    let (left, right) = (boxed(alloc, "2L")?, boxed(alloc, "3")?);
+    forms.push(TypedNode::Binary { op, left, right })?;
+    forms.push(TypedNode::Not(boxed(alloc, "false")?))?;
+    let arg = boxed(alloc, "NULL")?;
+    forms.push(TypedNode::IsNull { negated, arg })?;
+    let (arg, low, high) = (boxed(alloc, "5")?, boxed(alloc, "6")?, boxed(alloc, "7")?);
+    forms.push(TypedNode::Between {
+        negated,
+        arg,
+        low,
+        high,
+    })?;
+    let (arg, to) = (boxed(alloc, "8")?, SqlType::Text);
+    forms.push(TypedNode::Cast { arg, to })?;
+    Ok(forms)
+}
+
+// Forms with a text, a list, or an expression that may be left out.
+fn other_forms(alloc: Global) -> Result<Vec<TypedNode>, Fail> {
+    let mut forms = Vec::new(alloc);
+    let negated = true;
+    let (arg, pattern) = (boxed(alloc, "'a")?, chars(alloc, "a%")?);
+    forms.push(TypedNode::Like {
+        negated,
+        arg,
+        pattern,
+    })?;
+    let choices = Items::of(vec![in alloc; literal(alloc, "2")?, literal(alloc, "3")?]?);
+    let arg = boxed(alloc, "1")?;
+    forms.push(TypedNode::OneOf {
+        negated,
+        arg,
+        choices,
+    })?;
+    let whens = Items::of(vec![in alloc; when(alloc, "4", "5")?, when(alloc, "6", "7")?]?);
+    let otherwise = Some(boxed(alloc, "8")?);
+    forms.push(TypedNode::Case {
+        arg: None,
+        whens,
+        otherwise,
+    })?;
+    let (fun, arg) = (AggFun::Sum, Some(boxed(alloc, "9")?));
+    forms.push(TypedNode::Aggregate { fun, arg })?;
+    Ok(forms)
+}
+
+// A call of all forms.
+fn call_of_forms(alloc: Global) -> Result<Typed, Fail> {
+    let mut args = Vec::new(alloc);
+    for node in plain_forms(alloc)? {
+        args.push(Typed { ty: BIG, node })?;
+    }
+    for node in other_forms(alloc)? {
+        args.push(Typed { ty: None, node })?;
+    }
+    let (fun, args) = (Fun::Coalesce, Items::of(args));
+    let node = TypedNode::Call { fun, args };
+    Ok(Typed { ty: INT, node })
+}
+
+fn written<T: Debug>(alloc: Global, tree: &T) -> Result<String, Fail> {
+    Ok(format!(in alloc; "{tree:?}")?)
+}
+
+#[test]
+fn a_copy_has_each_form(rt: HostRuntime) -> Result<(), Fail> {
+    let alloc = rt.alloc();
+    let tree = call_of_forms(alloc)?;
+    let whole = written(alloc, &tree)?;
+    assert_eq!(rt;
+        written(alloc, &tree.copy(alloc)?)?.as_str(),
+        whole.as_str()
+    );
+    let node = written(alloc, &tree.node)?;
+    assert_eq!(rt;
+        written(alloc, &tree.node.copy(alloc)?)?.as_str(),
+        node.as_str()
+    );
+    let when = when(alloc, "1", "2")?;
+    assert_eq!(rt;
+        written(alloc, &when.copy(alloc)?)?.as_str(),
+        "TypedWhen { cond: Typed { ty: Some(Int), node: Literal(Int(1)) }, \
+         result: Typed { ty: Some(Int), node: Literal(Int(2)) } }"
+    );
     Ok(())
 }

@@ -8,10 +8,10 @@ use Rattle.ksql_types.specs.declared.value.SqlType.{SqlType}
 use Rattle.ksql_grammar.specs.declared.tree.Expr.{Expr}
 use Rattle.ksql_grammar.specs.declared.tree.Expr.TheVariants as e
 use Rattle.ksql_grammar.specs.declared.tree.WhenText.{WhenText}
-use Rattle.ksql_typing.specs.Uses.{calls, calls_step, of_when, all_of, perhaps}
-use Rattle.ksql_grouping.specs.Grouping.{any_of, any_perhaps}
-use Rattle.ksql_typing.proofs.Folds as folds
-use Rattle.ksql_typing.proofs.Folds.{perhaps_folded}
+use Rattle.ksql_scope.specs.Uses.{calls, calls_step, of_when, all_of, perhaps}
+use Rattle.ksql_walks.specs.Parts.{any_of, any_perhaps}
+use Rattle.ksql_scope.proofs.Folds as folds
+use Rattle.ksql_scope.proofs.Folds.{perhaps_folded}
 
 abbrev pub calls_one : (List ℕ → Bool) → Expr → Bool
 calls_one p x = list_any p (calls x)
@@ -100,5 +100,3 @@ calls-Case p x y ws z is =
     ∙ ap₂ (λ a b. a || b)
     (list_any-append p (perhaps (perhaps_folded calls y)) (all_of (map when_calls ws)) ∙ ap₂ (λ a b. a || b) (any-perhaps p y) (any-whens p ws))
     (any-perhaps p z)
-
-pub ruleset calls_forms = (calls-Digits, calls-Text, calls-Truth, calls-Null, calls-Name, calls-Sign, calls-Binary, calls-Not, calls-IsNull, calls-Between, calls-OneOf, calls-Like, calls-Cast, calls-Call, calls-Case)

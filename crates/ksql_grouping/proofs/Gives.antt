@@ -6,9 +6,9 @@ use Rattle.ksql_types.specs.declared.value.SqlType.{SqlType}
 use Rattle.ksql_grammar.specs.declared.tree.Expr.{Expr}
 use Rattle.ksql_grammar.specs.declared.tree.Expr.TheVariants as e
 use Rattle.ksql_grammar.specs.declared.tree.WhenText.{WhenText}
-use Rattle.ksql_typing.specs.Uses.{gathered, all_of, perhaps}
+use Rattle.ksql_scope.specs.Uses.{gathered, all_of, perhaps}
 use Rattle.ksql_grouping.specs.Grouping.{gives}
-use Rattle.ksql_grouping.proofs.Forms as p
+use Rattle.ksql_walks.proofs.Forms as p
 
 pub gives-decided : (decide : Expr → Option (List Expr)) (x : Expr) (v : List Expr) → decide x ≡ Some v → gives decide x ≡ v
 unfolding gives

@@ -1,8 +1,6 @@
 pub mod Appended
-pub mod Becomes
+pub mod Called
 pub mod Calls
 pub mod Equality
-pub mod Forms
 pub mod Gives
-pub mod Passes
 pub mod Sameness

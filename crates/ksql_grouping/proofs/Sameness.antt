@@ -10,7 +10,7 @@ use Rattle.ksql_grammar.specs.declared.tree.WhenText.{WhenText}
 use Rattle.std.specs.Prelude.{bytes_eq, option_map}
 use Rattle.ksql_expr.specs.Rules.{same_type}
 use Rattle.ksql_grouping.specs.Same.{Test, same_expr, same_form, same_when, same_when_text, same_parts, same_part, same_truth, same_name, op_number}
-use Rattle.ksql_typing.proofs.Folds as f
+use Rattle.ksql_scope.proofs.Folds as f
 
 -- what is tested of another, for a form with such parts
 abbrev Layer : Type 0

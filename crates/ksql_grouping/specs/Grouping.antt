@@ -1,20 +1,19 @@
 -- Aggregates and groups (ksqlDB reference manual, "Aggregate functions" and "GROUP BY").
-use Rattle.std.specs.Prelude.{ℕ, ◌+◌, suc, Bool, true, false, not, ◌&&◌, ◌||◌, if◌then◌else◌, List, [], ◌∷◌, ◌++◌, length, Option, Some, None, is_some, unwrap_or, codes, bytes_eq}
+use Rattle.std.specs.Prelude.{ℕ, ◌+◌, suc, Bool, true, false, not, ◌&&◌, ◌||◌, if◌then◌else◌, List, [], ◌∷◌, ◌++◌, length, Option, Some, None, is_some, codes, bytes_eq}
 use Rattle.std.specs.Fmt.{decimal}
 use Rattle.std.specs.List.{list_any}
-use Rattle.ksql_grammar.specs.declared.tree.Expr.{Expr, para-Expr, map-Expr, out-Expr, roll-Expr}
+use Rattle.ksql_grammar.specs.declared.tree.Expr.{Expr, para-Expr, out-Expr}
 use Rattle.ksql_grammar.specs.declared.tree.Expr.TheVariants as e
 use Rattle.ksql_grammar.specs.declared.tree.Expr.TheOpen.{Expr-F}
-use Rattle.ksql_grammar.specs.declared.tree.WhenText.{WhenText, roll-WhenText}
+use Rattle.ksql_grammar.specs.declared.tree.WhenText.{WhenText}
 use Rattle.ksql_program.specs.Names.{is_among}
 use Rattle.ksql_grouping.specs.declared.aggregates.Called.{Called}
 use Rattle.ksql_grouping.specs.declared.aggregates.Called.TheVariants.{Aggregate, Ordered, Unknown}
 use Rattle.ksql_grouping.specs.declared.regrouping.Replaced.{Replaced}
-use Rattle.ksql_grouping.specs.declared.columns.Wanted.{Wanted}
-use Rattle.ksql_grouping.specs.declared.columns.Wanted.TheVariants.{Nested, Bare}
-use Rattle.ksql_typing.specs.Functions.{is_aggregate, is_unknown}
+use Rattle.ksql_scope.specs.Functions.{is_aggregate, is_unknown}
 use Rattle.ksql_grouping.specs.Same.{same_expr}
-use Rattle.ksql_typing.specs.Uses.{gathered, calls}
+use Rattle.ksql_scope.specs.Uses.{gathered, calls}
+use Rattle.ksql_walks.specs.Parts.{decided_or, passes, becomes}
 
 -- the aggregates that a table has no place for
 abbrev pub ordered_aggregates : List (List ℕ)
@@ -26,69 +25,29 @@ is_wanted Aggregate name = is_aggregate name
 is_wanted Ordered name = is_among ordered_aggregates name
 is_wanted Unknown name = is_unknown name
 
--- whether an expression holds an aggregate, and one that a table has no place for
+-- what is decided of an expression where such a function is looked for in it
+abbrev pub is_called : Called → Expr → Option Bool
+is_called wanted a = of (out-Expr a)
+  where
+    of : Expr-F Expr WhenText → Option Bool
+    of (Expr-F.Call f star args) = if is_wanted wanted f then Some true else None
+    of form = None
+
+-- whether an expression holds an aggregate
 abbrev pub has_aggregate : Expr → Bool
 has_aggregate a = list_any is_aggregate (calls a)
 
+-- whether it holds one that a table has no place for
 abbrev pub has_ordered_aggregate : Expr → Bool
 has_ordered_aggregate a = list_any (is_among ordered_aggregates) (calls a)
-
--- ---- an expression by its parts
-
-abbrev pub any_of : List Bool → Bool
-any_of bs = list_any (λ b. b) bs
-
-abbrev pub any_perhaps : Option Bool → Bool
-any_perhaps None = false
-any_perhaps (Some b) = b
-
--- whether one of a form's parts passes
-abbrev pub any_part : Expr-F Bool Bool → Bool
-any_part (Expr-F.Digits number) = false
-any_part (Expr-F.Text content) = false
-any_part (Expr-F.Truth truth) = false
-any_part Expr-F.Null = false
-any_part (Expr-F.Name qualifier name) = false
-any_part (Expr-F.Sign minus a) = a
-any_part (Expr-F.Binary o a b) = a || b
-any_part (Expr-F.Not a) = a
-any_part (Expr-F.IsNull negated a) = a
-any_part (Expr-F.Between negated a low high) = a || low || high
-any_part (Expr-F.OneOf negated a choices) = a || any_of choices
-any_part (Expr-F.Like negated a pattern) = a
-any_part (Expr-F.Cast a to) = a
-any_part (Expr-F.Case operand whens otherwise) = any_perhaps operand || any_of whens || any_perhaps otherwise
-any_part (Expr-F.Call name star args) = any_of args
-
--- a form whose parts stand beside what was found of them: the expression, and the form of what was found
-abbrev pub whole : (A B : Type 0) → Expr-F (Expr × A) (WhenText × B) → Expr
-whole A B form = roll-Expr (map-Expr (Expr × A) (WhenText × B) Expr WhenText (λ a. a.0) (λ w. w.0) form)
-
-abbrev pub found : (A B : Type 0) → Expr-F (Expr × A) (WhenText × B) → Expr-F A B
-found A B form = map-Expr (Expr × A) (WhenText × B) A B (λ a. a.1) (λ w. w.1) form
-
--- what is decided of an expression as a whole, or else what its parts give together
-abbrev pub decided_or : (A B : Type 0) → (Expr → Option A) → (Expr-F A B → A) → Expr-F (Expr × A) (WhenText × B) → A
-decided_or A B decide together form = unwrap_or (decide (whole A B form)) (together (found A B form))
-
--- whether an expression passes: as is decided of it, or else where one of its parts does
-unfoldable pub passes : (Expr → Option Bool) → Expr → Bool
-passes decide = para-Expr Bool Bool (decided_or Bool Bool decide any_part) (λ w. w.cond.1 || w.result.1)
 
 -- what an expression gives: what is decided of it, or else what its parts give, from the left
 unfoldable pub gives : (Expr → Option (List Expr)) → Expr → List Expr
 gives decide = para-Expr (List Expr) (List Expr) (decided_or (List Expr) (List Expr) decide gathered) (λ w. w.cond.1 ++ w.result.1)
 
--- what an expression becomes: what is decided of it, or else itself with what its parts become
-unfoldable pub becomes : (Expr → Option Expr) → Expr → Expr
-becomes decide =
-    para-Expr Expr WhenText (decided_or Expr WhenText decide roll-Expr) (λ w. roll-WhenText (record { cond = w.cond.1; result = w.result.1 }))
-
-abbrev pub when_becomes : (Expr → Option Expr) → WhenText → WhenText
-when_becomes decide w = roll-WhenText (record { cond = becomes decide w.cond; result = becomes decide w.result })
-
 -- ---- aggregates
 
+-- whether an expression is an aggregate as a whole
 abbrev pub is_aggregate_call : Expr → Bool
 is_aggregate_call a = of (out-Expr a)
   where
@@ -96,14 +55,15 @@ is_aggregate_call a = of (out-Expr a)
     of (Expr-F.Call f star args) = is_aggregate f
     of form = false
 
--- the aggregates in an expression, from the left; not those inside others
+-- of an aggregate nothing but itself is given
 abbrev pub whole_aggregate : Expr → Option (List Expr)
 whole_aggregate a = if is_aggregate_call a then Some (a ∷ []) else None
 
+-- the aggregates in an expression, from the left; not those inside others
 abbrev pub aggregates_of : Expr → List Expr
 aggregates_of a = gives whole_aggregate a
 
--- whether one of an expression's aggregates stands in another
+-- an aggregate passes where its arguments hold another
 abbrev pub holds_inner : Expr → Option Bool
 holds_inner a = of (out-Expr a)
   where
@@ -111,24 +71,27 @@ holds_inner a = of (out-Expr a)
     of (Expr-F.Call f star args) = if is_aggregate f && list_any has_aggregate args then Some true else None
     of form = None
 
+-- whether one of an expression's aggregates stands in another
 abbrev pub has_nested_aggregate : Expr → Bool
 has_nested_aggregate a = passes holds_inner a
 
--- each of some expressions once, in the order in which they first stand
+-- an expression behind others, unless it is one of them
 abbrev pub add_once : List Expr → Expr → List Expr
 add_once found a = if list_any (same_expr a) found then found else found ++ a ∷ []
 
+-- each of some expressions once, in the order in which they first stand
 abbrev pub once_from : List Expr → List Expr → List Expr
 once_from found [] = found
 once_from found (a ∷ others) = once_from (add_once found a) others
 
 -- ---- groups
 
--- the number of the first of some expressions that this is
+-- the number of the first of some expressions that this is, where they are numbered from here
 abbrev pub place_from : ℕ → List Expr → Expr → Option ℕ
 place_from number [] a = None
 place_from number (g ∷ gs) a = if same_expr g a then Some number else place_from (suc number) gs a
 
+-- the number of the first of some expressions that this is
 abbrev pub place_among : List Expr → Expr → Option ℕ
 place_among es a = place_from 0 es a
 
@@ -166,11 +129,6 @@ is_bare groups a = if is_some (place_among groups a) then Some false else of (ou
 -- whether an expression, with resolved names, has such a column
 abbrev pub has_bare_column : List Expr → Expr → Bool
 has_bare_column groups a = passes (is_bare groups) a
-
--- what is decided of an expression where something is looked for in it
-abbrev pub decision : Wanted → Expr → Option Bool
-decision Nested a = holds_inner a
-decision (Bare groups) a = is_bare groups.now a
 
 -- what a part becomes where a grouping replaces some
 abbrev pub replacement : Replaced → Expr → Option Expr

@@ -1,15 +1,16 @@
 //! Aggregates, and the functions that are called in an expression.
 
-ghost use Rattle.std.specs.Prelude.{◌≡◌, ◌||◌, ◌++◌, IfOk, OnOk, map, option_map};
+ghost use Rattle.std.specs.Prelude.{◌≡◌, ◌++◌, IfOk, OnOk, map, option_map};
 ghost use Rattle.std.specs.List.{list_any};
-ghost use Rattle.ksql_typing.specs.Functions.{is_aggregate};
-ghost use Rattle.ksql_typing.specs.Uses.{all_of, calls, has_unknown_function, perhaps};
+ghost use Rattle.ksql_scope.specs.Functions.{is_aggregate};
+ghost use Rattle.ksql_scope.specs.Uses.{all_of, calls, has_unknown_function, perhaps};
 ghost use Rattle.ksql_grouping.specs.Grouping as spec;
 
 use ksql_grammar::{Expr, ExprTexts, WhenTexts};
 use ksql_program::is_among;
+use ksql_scope::{aggregate_of, function_of};
 use ksql_types::{Boxed, Chars, CopyOf};
-use ksql_typing::{aggregate_of, function_of};
+use ksql_walks::{Decides, passes};
 use std::alloc::{AllocError, Global};
 
 /// The aggregates that a table has no place for.
@@ -24,13 +25,6 @@ enum Called {
     Ordered,
     /// Functions that are unknown.
     Unknown,
-}
-
-/// Whether one of two holds.
-pub fn either(left: bool, right: bool) -> bool
-    ensures { result ≡ (left || right) }
-{
-    left || right
 }
 
 /// Whether a function is an aggregate.
@@ -50,89 +44,28 @@ fn is_wanted(wanted: Called, name: &Chars) -> bool
     }
 }
 
+impl Decides for Called {
+    ghost decide = { spec.is_called };
+
+    fn decision(&self, expr: &Expr) -> Option<bool> {
+        match expr {
+            Expr::Call { name, .. } => {
+                if is_wanted(*self, name) {
+                    Some(true)
+                } else {
+                    None
+                }
+            }
+            _ => None,
+        }
+    }
+}
+
 /// Whether a function that is looked for is called in an expression.
-#[cycle(calls)]
-#[tactic(auto, using(crate::proofs::Calls::calls_forms))]
 fn calls_one(wanted: Called, expr: &Expr) -> bool
     ensures { result ≡ list_any (spec.is_wanted wanted) (calls expr.now) }
 {
-    match expr {
-        Expr::Digits(_) => false,
-        Expr::Text(_) => false,
-        Expr::Truth(_) => false,
-        Expr::Null => false,
-        Expr::Name { .. } => false,
-        Expr::Sign { arg, .. } => calls_one(wanted, arg.get()),
-        Expr::Binary { left, right, .. } => {
-            let left = calls_one(wanted, left.get());
-            let right = calls_one(wanted, right.get());
-            either(left, right)
-        }
-        Expr::Not(arg) => calls_one(wanted, arg.get()),
-        Expr::IsNull { arg, .. } => calls_one(wanted, arg.get()),
-        Expr::Between { arg, low, high, .. } => {
-            let arg = calls_one(wanted, arg.get());
-            let low = calls_one(wanted, low.get());
-            let high = calls_one(wanted, high.get());
-            either(either(arg, low), high)
-        }
-        Expr::OneOf { arg, choices, .. } => {
-            let arg = calls_one(wanted, arg.get());
-            let choices = one_calls(wanted, choices);
-            either(arg, choices)
-        }
-        Expr::Like { arg, .. } => calls_one(wanted, arg.get()),
-        Expr::Cast { arg, .. } => calls_one(wanted, arg.get()),
-        Expr::Case {
-            arg,
-            whens,
-            otherwise,
-        } => {
-            let arg = part_calls(wanted, arg);
-            let whens = when_calls(wanted, whens);
-            let otherwise = part_calls(wanted, otherwise);
-            either(either(arg, whens), otherwise)
-        }
-        Expr::Call { name, args, .. } => {
-            let called = is_wanted(wanted, name);
-            let args = one_calls(wanted, args);
-            either(called, args)
-        }
-    }
-}
-
-#[cycle(calls)]
-fn one_calls(wanted: Called, exprs: &ExprTexts) -> bool
-    ensures { result ≡ spec.any_of (map (λ e. list_any (spec.is_wanted wanted) (calls e)) exprs.now) }
-{
-    for expr in exprs.items() {
-        if calls_one(wanted, expr) {
-            return true;
-        }
-    }
-    false
-}
-
-#[cycle(calls)]
-fn when_calls(wanted: Called, whens: &WhenTexts) -> bool
-    ensures { result ≡ spec.any_of (map (λ w. list_any (spec.is_wanted wanted) (calls w.cond) || list_any (spec.is_wanted wanted) (calls w.result)) whens.now) }
-{
-    for when in whens.items() {
-        if calls_one(wanted, &when.cond) || calls_one(wanted, &when.result) {
-            return true;
-        }
-    }
-    false
-}
-
-#[cycle(calls)]
-fn part_calls(wanted: Called, part: &Option<Boxed<Expr>>) -> bool
-    ensures { result ≡ spec.any_perhaps (option_map (λ e. list_any (spec.is_wanted wanted) (calls e)) part.now) }
-{
-    match part {
-        None => false,
-        Some(part) => calls_one(wanted, part.get()),
-    }
+    passes(&wanted, expr)
 }
 
 /// Whether an expression holds an aggregate.

@@ -1,24 +1,16 @@
 //! Columns and groups: which columns stand alone, and which of some expressions one is.
 
-ghost use Rattle.std.specs.Prelude.{◌≡◌, ◌||◌, [], IfOk, map, option_map};
+ghost use Rattle.std.specs.Prelude.{◌≡◌, [], IfOk};
 ghost use Rattle.std.specs.List.{list_any};
 ghost use Rattle.ksql_grouping.specs.Same.{same_expr};
 ghost use Rattle.ksql_grouping.specs.Grouping as spec;
 
-use crate::aggregates::{either, has_aggregate, is_aggregate};
+use crate::aggregates::{has_aggregate, is_aggregate};
 use crate::same::same_expr;
-use ksql_grammar::{Expr, ExprTexts, WhenTexts};
-use ksql_types::{Boxed, Chars};
+use ksql_grammar::{Expr, ExprTexts};
+use ksql_types::Chars;
+use ksql_walks::{Decides, passes};
 use std::alloc::{AllocError, Global};
-
-/// What is looked for in an expression.
-#[derive(Clone, Copy)]
-enum Wanted<'a> {
-    /// An aggregate that holds another.
-    Nested,
-    /// A column that stands neither in an aggregate nor in one of these.
-    Bare(&'a [Expr]),
-}
 
 /// The number of the first of some expressions that this is.
 pub fn place_among(exprs: &[Expr], expr: &Expr) -> Option<usize>
@@ -86,96 +78,28 @@ fn is_bare(groups: &[Expr], expr: &Expr) -> Option<bool>
     }
 }
 
-fn decided(wanted: Wanted<'_>, expr: &Expr) -> Option<bool>
-    ensures { result ≡ spec.decision wanted.entry expr.now }
-{
-    match wanted {
-        Wanted::Nested => holds_inner(expr),
-        Wanted::Bare(groups) => is_bare(groups, expr),
+/// Aggregates that hold another pass.
+struct Nested;
+
+impl Decides for Nested {
+    ghost decide = { λ _ a. spec.holds_inner a };
+
+    fn decision(&self, expr: &Expr) -> Option<bool> {
+        holds_inner(expr)
     }
 }
 
-/// Whether an expression holds what is looked for.
-#[cycle(holds)]
-#[tactic(auto, using(crate::proofs::Passes::passes_forms))]
-fn holds(wanted: Wanted<'_>, expr: &Expr) -> bool
-    ensures { result ≡ spec.passes (spec.decision wanted.entry) expr.now }
-{
-    if let Some(held) = decided(wanted, expr) {
-        return held;
-    }
-    match expr {
-        Expr::Digits(_) => false,
-        Expr::Text(_) => false,
-        Expr::Truth(_) => false,
-        Expr::Null => false,
-        Expr::Name { .. } => false,
-        Expr::Sign { arg, .. } => holds(wanted, arg.get()),
-        Expr::Binary { left, right, .. } => {
-            let left = holds(wanted, left.get());
-            let right = holds(wanted, right.get());
-            either(left, right)
-        }
-        Expr::Not(arg) => holds(wanted, arg.get()),
-        Expr::IsNull { arg, .. } => holds(wanted, arg.get()),
-        Expr::Between { arg, low, high, .. } => {
-            let arg = holds(wanted, arg.get());
-            let low = holds(wanted, low.get());
-            let high = holds(wanted, high.get());
-            either(either(arg, low), high)
-        }
-        Expr::OneOf { arg, choices, .. } => {
-            let arg = holds(wanted, arg.get());
-            let choices = one_holds(wanted, choices);
-            either(arg, choices)
-        }
-        Expr::Like { arg, .. } => holds(wanted, arg.get()),
-        Expr::Cast { arg, .. } => holds(wanted, arg.get()),
-        Expr::Case {
-            arg,
-            whens,
-            otherwise,
-        } => {
-            let arg = part_holds(wanted, arg);
-            let whens = when_holds(wanted, whens);
-            let otherwise = part_holds(wanted, otherwise);
-            either(either(arg, whens), otherwise)
-        }
-        Expr::Call { args, .. } => one_holds(wanted, args),
-    }
+/// Columns pass that stand neither in an aggregate nor in one of these groups.
+#[derive(Clone, Copy)]
+struct Bare<'a> {
+    groups: &'a [Expr],
 }
 
-#[cycle(holds)]
-fn one_holds(wanted: Wanted<'_>, exprs: &ExprTexts) -> bool
-    ensures { result ≡ spec.any_of (map (spec.passes (spec.decision wanted.entry)) exprs.now) }
-{
-    for expr in exprs.items() {
-        if holds(wanted, expr) {
-            return true;
-        }
-    }
-    false
-}
+impl Decides for Bare<'_> {
+    ghost decide = { λ bare. spec.is_bare bare.groups.now };
 
-#[cycle(holds)]
-fn when_holds(wanted: Wanted<'_>, whens: &WhenTexts) -> bool
-    ensures { result ≡ spec.any_of (map (λ w. spec.passes (spec.decision wanted.entry) w.cond || spec.passes (spec.decision wanted.entry) w.result) whens.now) }
-{
-    for when in whens.items() {
-        if holds(wanted, &when.cond) || holds(wanted, &when.result) {
-            return true;
-        }
-    }
-    false
-}
-
-#[cycle(holds)]
-fn part_holds(wanted: Wanted<'_>, part: &Option<Boxed<Expr>>) -> bool
-    ensures { result ≡ spec.any_perhaps (option_map (spec.passes (spec.decision wanted.entry)) part.now) }
-{
-    match part {
-        None => false,
-        Some(part) => holds(wanted, part.get()),
+    fn decision(&self, expr: &Expr) -> Option<bool> {
+        is_bare(self.groups, expr)
     }
 }
 
@@ -183,7 +107,7 @@ fn part_holds(wanted: Wanted<'_>, part: &Option<Boxed<Expr>>) -> bool
 pub fn has_nested_aggregate(expr: &Expr) -> bool
     ensures { result ≡ spec.has_nested_aggregate expr.now }
 {
-    holds(Wanted::Nested, expr)
+    passes(&Nested, expr)
 }
 
 /// Whether an expression, with resolved names, has a column that stands neither in an aggregate nor in one of the group
@@ -191,7 +115,7 @@ pub fn has_nested_aggregate(expr: &Expr) -> bool
 pub fn has_bare_column(groups: &[Expr], expr: &Expr) -> bool
     ensures { result ≡ spec.has_bare_column groups.now expr.now }
 {
-    holds(Wanted::Bare(groups), expr)
+    passes(&Bare { groups }, expr)
 }
 
 fn is_found(found: &[Expr], expr: &Expr) -> bool

@@ -4,7 +4,7 @@ ghost use Rattle.ksql_place.specs.Order.{ascending, between_cmp, part_stamps, pl
 
 use crate::change::SourceRecord;
 use crate::stamp::{Place, Stamp};
-use ksql_types::Items;
+use ksql_types::{CopyOf, Items};
 use std::alloc::{AllocError, Global};
 use std::cmp::Ordering;
 
@@ -16,6 +16,17 @@ pub struct PartTimes {
     pub part: u32,
     pub first: u64,
     pub times: Items<u64>,
+}
+
+impl CopyOf for PartTimes {
+    fn copy(&self, alloc: Global) -> Result<PartTimes, AllocError> {
+        Ok(PartTimes {
+            topic: self.topic,
+            part: self.part,
+            first: self.first,
+            times: self.times.copy(alloc)?,
+        })
+    }
 }
 
 /// The order of places of one relation: by stamp and then by path.

@@ -1,7 +1,8 @@
 use super::*;
-use ksql_types::{Items, Key};
+use ksql_types::{CopyOf, Items, Key, Row, Span, Value};
 use std::alloc::Global;
 use std::cmp::Ordering;
+use std::fmt::Debug;
 use std::test::Fail;
 
 fn stamp(high: u64, part: u32, offset: u64) -> Stamp {
@@ -80,5 +81,55 @@ fn records_are_put_in_order(rt: HostRuntime) -> Result<(), Fail> {
     assert_eq!(rt; order[0].stamp.offset, 40);
     assert_eq!(rt; order[1].stamp.offset, 0);
     assert_eq!(rt; order[30].stamp.offset, 29);
+    Ok(())
+}
+
+fn row(alloc: Global) -> Result<Row, Fail> {
+    Ok(Items::of(vec![in alloc; Value::Int(1), Value::Null]?))
+}
+
+fn written<T: Debug>(alloc: Global, value: &T) -> Result<String, Fail> {
+    Ok(format!(in alloc; "{value:?}")?)
+}
+
+// Whether a value is copied, and its copy is written as it is.
+fn is_copied<T: CopyOf + Debug>(alloc: Global, value: &T) -> Result<bool, Fail> {
+    let copied = written(alloc, &value.copy(alloc)?)?;
+    Ok(copied.as_str() == written(alloc, value)?.as_str())
+}
+
+#[test]
+fn copies_are_equal(rt: HostRuntime) -> Result<(), Fail> {
+    let alloc = rt.alloc();
+    let times = PartTimes {
+        topic: 1,
+        part: 2,
+        first: 3,
+        times: Items::of(vec![in alloc; 9, 1]?),
+    };
+    assert!(rt; is_copied(alloc, &times)?);
+    let source = SourceRecord {
+        stamp: stamp(9, 1, 4),
+        time: 8,
+        key: Key::of(vec![in alloc; Value::Big(7)]?),
+        value: Decoded::Good(row(alloc)?),
+    };
+    assert!(rt; is_copied(alloc, &source)?);
+    assert!(rt; is_copied(alloc, &source.value)?);
+    let change = Change {
+        place: place(alloc, 3, &[2, 0])?,
+        time: 8,
+        key: Key::of(vec![in alloc; Value::Bool(true)]?),
+        span: Some(Span { start: 5, end: 10 }),
+        body: Body::Turned {
+            old: None,
+            new: Some(row(alloc)?),
+        },
+    };
+    assert!(rt; is_copied(alloc, &change)?);
+    assert!(rt; is_copied(alloc, &change.place)?);
+    assert!(rt; is_copied(alloc, &change.body)?);
+    let copied = written(alloc, &change.place.copy(alloc)?.path)?;
+    assert_eq!(rt; copied.as_str(), "Items { inner: [2, 0] }");
     Ok(())
 }

@@ -75,11 +75,6 @@ AreColumns types [] [] = Unit {0}
 AreColumns types (e ∷ es) (c ∷ cs) = IsSoundOver types e × (e.ty ≡ Some c.ty) × AreColumns types es cs
 AreColumns types _ _ = ⊥
 
--- each of some expressions
-abbrev pub AreSoundOver : List (Option SqlType) → List Typed → Type 0
-AreSoundOver types [] = Unit {0}
-AreSoundOver types (e ∷ es) = IsSoundOver types e × AreSoundOver types es
-
 -- a condition
 abbrev pub IsCondition : List (Option SqlType) → Option Typed → Type 0
 IsCondition types None = Unit {0}
@@ -182,8 +177,6 @@ abbrev pub grouped_kind : Option Window → Kind
 grouped_kind None = kind.Table
 grouped_kind (Some w) = kind.Windowed
 
--- ---- queries
-
 -- ---- the key of a plain result
 
 -- each of some expressions is the column of this number, and of those that follow
@@ -198,7 +191,8 @@ IsTablesKey Inner l r e = (e.node ≡ n.Column 0) ⊎ (e.node ≡ n.Column (leng
 IsTablesKey Left l r e = e.node ≡ n.Column 0
 IsTablesKey Full l r e = e.node ≡ n.Column (length (columns l) + length (columns r))
 
--- the keys of a plain result: the source's, or what PARTITION BY may put there
+-- the keys of a plain result: the source's, of a stream what PARTITION BY may put there; in a join whose left side is a
+-- stream one expression, and in one of tables one of their keys
 pub data IsKeyed (before : List Item) : From → List Typed → Type 0 where
   own : {number : ℕ} {r : Relation} {es : List Typed} → relation_at before number ≡ Some r
       → AreColumnsFrom 0 r.schema.keys es → IsKeyed before (from.One number) es
@@ -213,6 +207,8 @@ pub data IsKeyed (before : List Item) : From → List Typed → Type 0 where
 abbrev pub HasItsKey : List Item → From → Shape → Type 0
 HasItsKey before f (shape.Plain ks vs) = IsKeyed before f ks
 HasItsKey before f (shape.Group ks w gs h vs) = Unit {0}
+
+-- ---- queries
 
 -- what is made of rows of a relation's kind with columns of these types
 pub data Makes (over : Relation) (types : List (Option SqlType)) : Shape → Relation → Type 0 where

@@ -4,16 +4,17 @@ use Rattle.std.specs.Prelude.{◌↔◌}
 use Rattle.std.specs.List.{list_all}
 use Rattle.ksql_grammar.specs.declared.tree.Expr.{Expr}
 use Rattle.ksql_grammar.specs.declared.tree.Select.{Select}
-use Rattle.ksql_typing.specs.declared.scope.Scope.{Scope}
+use Rattle.ksql_scope.specs.declared.scope.Scope.{Scope}
+use Rattle.ksql_scope.specs.Possible.{is_some_in}
+use Rattle.ksql_scope.specs.Typing.{CanBeTrue, CanAgree, HasValue}
+use Rattle.ksql_scope.proofs.Sets.{both-true, and-true}
 use Rattle.ksql_typing.specs.Judged.{judged}
-use Rattle.ksql_typing.specs.Possible.{is_some_in}
-use Rattle.ksql_typing.proofs.Sets.{both-true, and-true}
 use Rattle.ksql_typing.proofs.TypeLaws as law
 use Rattle.ksql_clauses.specs.declared.items.Named.{Named}
 use Rattle.ksql_clauses.specs.declared.sources.Known.{Known}
 use Rattle.ksql_clauses.specs.Items.{result_columns}
 use Rattle.ksql_clauses.specs.Sources.{from_scope, item_scope, early_exprs, late_exprs, on_exprs}
-use Rattle.ksql_rules.specs.Breaks.{Each, IfThere, CanBeTrue, CanAgree, HasValue, IsQueryTyped}
+use Rattle.ksql_rules.specs.Breaks.{Each, IfThere, IsQueryTyped}
 use Rattle.ksql_rules.specs.Decided.{fits_truth, is_valued, do_sides_agree, does_on_agree}
 use Rattle.ksql_rules.specs.Keys.{on_sides}
 

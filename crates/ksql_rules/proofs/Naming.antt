@@ -1,26 +1,27 @@
 -- Whether a name that is looked for stands in an expression, form by form.
 use Rattle.std.proofs.Common.{◌≡◌, ℕ, suc, arith, List, [], ◌∷◌, ◌++◌, ◌||◌, map, Bool, true, false, if◌then◌else◌, not, ◌&&◌, Bor, nat_lt, Option, Some, None, refl, ap, ap₂, sym, ◌∙◌}
-use Rattle.std.specs.Prelude.{◌==◌, bytes_eq, filter, find, length}
-use Rattle.std.specs.List.{list_any, list_all}
+use Rattle.std.specs.Prelude.{◌==◌, bytes_eq, filter, find, length, option_map}
+use Rattle.std.specs.List.{list_any, list_all, AllByRecursion as Each}
 use Rattle.std.proofs.lemmas.Bool.{lt-ltb}
 use Rattle.std.proofs.lemmas.List.Folds.{list_any-append}
-use Rattle.ksql_types.specs.declared.operator.BinaryOp.{BinaryOp}
-use Rattle.ksql_types.specs.declared.value.SqlType.{SqlType}
 use Rattle.ksql_grammar.specs.declared.tree.Expr.{Expr}
 use Rattle.ksql_grammar.specs.declared.tree.Expr.TheVariants as e
 use Rattle.ksql_grammar.specs.declared.tree.WhenText.{WhenText}
 use Rattle.ksql_clauses.specs.declared.sources.Known.{Known}
-use Rattle.ksql_typing.specs.declared.scope.Scope.{Scope}
-use Rattle.ksql_typing.specs.declared.scope.ScopeColumn.{ScopeColumn}
-use Rattle.ksql_typing.specs.Functions.{is_aggregate}
-use Rattle.ksql_typing.specs.Scope.{is_known_as, row_time}
-use Rattle.ksql_typing.specs.Uses.{Use, names, names_step, of_when, all_of, perhaps, in_aggregate}
-use Rattle.ksql_typing.proofs.Folds as folds
-use Rattle.ksql_typing.proofs.Folds.{perhaps_folded}
+use Rattle.ksql_scope.specs.declared.scope.Scope.{Scope}
+use Rattle.ksql_scope.specs.declared.scope.ScopeColumn.{ScopeColumn}
+use Rattle.ksql_scope.specs.Functions.{is_aggregate}
+use Rattle.ksql_scope.specs.Scope.{is_known_as, row_time}
+use Rattle.ksql_scope.specs.Uses.{Use, names, names_step, of_when, all_of, perhaps, in_aggregate}
+use Rattle.ksql_scope.proofs.Folds as folds
+use Rattle.ksql_scope.proofs.Folds.{perhaps_folded}
+use Rattle.ksql_scope.proofs.Induction.{IfThere, InWhen, induction}
+use Rattle.ksql_walks.specs.Parts.{passes, any_of, any_perhaps}
+use Rattle.ksql_walks.proofs.Passing as passed
 use Rattle.ksql_rules.specs.declared.left_names.Sought.{Sought}
 use Rattle.ksql_rules.specs.declared.left_names.Sought.TheVariants.{Any, Other}
 use Rattle.ksql_rules.specs.Keys.{is_left_name, is_of_left}
-use Rattle.ksql_rules.specs.Sought.{is_sought, has_name, when_has_name, part_has_name, use_of}
+use Rattle.ksql_rules.specs.Sought.{is_sought, has_name, sought_name, use_of}
 
 -- ---- what a name is found to be
 
@@ -81,11 +82,7 @@ pub of-left : (scope : Bor Scope) (left : Bor Known) (a : Expr) (any other : Boo
 of-left scope left a any other h i =
     ap₂ (λ b c. b && c) (h ∙ some-any (names a)) (ap not i ∙ sym (all-not (is_left_name scope.now left.now) (names a)))
 
--- ---- names, form by form
-
-any-all_of : (p : Use → Bool) (cs : List Expr) → list_any p (all_of (map names cs)) ≡ list_any (λ c. list_any p (names c)) cs
-any-all_of p [] = refl
-any-all_of p (c ∷ cs) = list_any-append p (names c) (all_of (map names cs)) ∙ ap (λ b. list_any p (names c) || b) (any-all_of p cs)
+-- ---- a name that is looked for stands in an expression exactly where the expression passes
 
 abbrev when_names : WhenText → List Use
 when_names = folds.folded_when (List Use) (List Use) names_step of_when
@@ -93,16 +90,6 @@ when_names = folds.folded_when (List Use) (List Use) names_step of_when
 one_when : (p : Use → Bool) (w : WhenText) → list_any p (when_names w) ≡ (list_any p (names w.cond) || list_any p (names w.result))
 unfolding names
 one_when p w = ap (list_any p) (folds.fold-when (List Use) (List Use) names_step of_when w) ∙ list_any-append p (names w.cond) (names w.result)
-
-any-whens : (sought : Sought) (ws : List WhenText) → list_any (is_sought sought) (all_of (map when_names ws)) ≡ list_any (when_has_name sought) ws
-any-whens sought [] = refl
-any-whens sought (w ∷ ws) =
-    list_any-append (is_sought sought) (when_names w) (all_of (map when_names ws))
-    ∙ ap₂ (λ a b. a || b) (one_when (is_sought sought) w) (any-whens sought ws)
-
-any-perhaps : (sought : Sought) (y : Option Expr) → list_any (is_sought sought) (perhaps (perhaps_folded names y)) ≡ part_has_name sought y
-any-perhaps sought None = refl
-any-perhaps sought (Some y) = refl
 
 -- a name in an aggregate is looked for where it is outside
 same-within : (sought : Sought) (u : Use) → is_sought sought (in_aggregate u) ≡ is_sought sought u
@@ -118,87 +105,88 @@ within-or-not : (sought : Sought) (b : Bool) (us : List Use)
 within-or-not sought true us = any-within sought us
 within-or-not sought false us = refl
 
-pub names-Digits : (p : Sought) (x : Expr) (number : ℕ) → x ≡ e.Digits number → has_name p x ≡ false
-unfolding names
-names-Digits p x number is = ap (has_name p) is ∙ ap (list_any (is_sought p)) (folds.fold-Digits (List Use) (List Use) names_step of_when number)
-
-pub names-Text : (p : Sought) (x : Expr) (content : List ℕ) → x ≡ e.Text content → has_name p x ≡ false
-unfolding names
-names-Text p x content is = ap (has_name p) is ∙ ap (list_any (is_sought p)) (folds.fold-Text (List Use) (List Use) names_step of_when content)
-
-pub names-Truth : (p : Sought) (x : Expr) (b : Bool) → x ≡ e.Truth b → has_name p x ≡ false
-unfolding names
-names-Truth p x b is = ap (has_name p) is ∙ ap (list_any (is_sought p)) (folds.fold-Truth (List Use) (List Use) names_step of_when b)
-
-pub names-Null : (p : Sought) (x : Expr) → x ≡ e.Null → has_name p x ≡ false
-unfolding names
-names-Null p x is = ap (has_name p) is ∙ ap (list_any (is_sought p)) (folds.fold-Null (List Use) (List Use) names_step of_when)
-
 or-false : (b : Bool) → (b || false) ≡ b
 or-false true = refl
 or-false false = refl
 
-pub names-Name : (p : Sought) (x : Expr) (q : Option (List ℕ)) (name : List ℕ) → x ≡ e.Name q name → has_name p x ≡ is_sought p (use_of q name)
-unfolding names
-names-Name p x q name is =
-    ap (has_name p) is ∙ ap (list_any (is_sought p)) (folds.fold-Name (List Use) (List Use) names_step of_when q name) ∙ or-false (is_sought p (use_of q name))
+module _ (sought : Sought) where
+  abbrev does : Expr → Bool
+  does = passes (sought_name sought)
 
-pub names-Sign : (p : Sought) (x : Expr) (minus : Bool) (a : Expr) → x ≡ e.Sign minus a → has_name p x ≡ has_name p a
-unfolding names
-names-Sign p x minus a is = ap (has_name p) is ∙ ap (list_any (is_sought p)) (folds.fold-Sign (List Use) (List Use) names_step of_when minus a)
+  abbrev IsSame : Expr → Type 0
+  IsSame a = does a ≡ has_name sought a
 
-pub names-Binary : (p : Sought) (x : Expr) (o : BinaryOp) (a : Expr) (b : Expr) → x ≡ e.Binary o a b → has_name p x ≡ (has_name p a || has_name p b)
-unfolding names
-names-Binary p x o a b is =
-    ap (has_name p) is ∙ ap (list_any (is_sought p)) (folds.fold-Binary (List Use) (List Use) names_step of_when o a b)
-    ∙ list_any-append (is_sought p) (names a) (names b)
+  any-each : (es : List Expr) → Each IsSame es → any_of (map does es) ≡ list_any (is_sought sought) (all_of (map names es))
+  any-each [] h = refl
+  any-each (a ∷ es) h = ap₂ (λ b c. b || c) h.0 (any-each es h.1) ∙ sym (list_any-append (is_sought sought) (names a) (all_of (map names es)))
 
-pub names-Not : (p : Sought) (x : Expr) (a : Expr) → x ≡ e.Not a → has_name p x ≡ has_name p a
-unfolding names
-names-Not p x a is = ap (has_name p) is ∙ ap (list_any (is_sought p)) (folds.fold-Not (List Use) (List Use) names_step of_when a)
+  any-whens : (ws : List WhenText) → Each (InWhen IsSame) ws
+      → any_of (map (λ w. does w.cond || does w.result) ws) ≡ list_any (is_sought sought) (all_of (map when_names ws))
+  any-whens [] h = refl
+  any-whens (w ∷ ws) h =
+      ap₂ (λ b c. b || c) (ap₂ (λ b c. b || c) h.0.0 h.0.1 ∙ sym (one_when (is_sought sought) w)) (any-whens ws h.1)
+      ∙ sym (list_any-append (is_sought sought) (when_names w) (all_of (map when_names ws)))
 
-pub names-IsNull : (p : Sought) (x : Expr) (n : Bool) (a : Expr) → x ≡ e.IsNull n a → has_name p x ≡ has_name p a
-unfolding names
-names-IsNull p x n a is = ap (has_name p) is ∙ ap (list_any (is_sought p)) (folds.fold-IsNull (List Use) (List Use) names_step of_when n a)
+  any-perhaps : (x : Option Expr) → IfThere IsSame x
+      → any_perhaps (option_map does x) ≡ list_any (is_sought sought) (perhaps (perhaps_folded names x))
+  any-perhaps None h = refl
+  any-perhaps (Some x) h = h
 
-pub names-Between : (p : Sought) (x : Expr) (n : Bool) (a : Expr) (b : Expr) (c : Expr) → x ≡ e.Between n a b c
-    → has_name p x ≡ (has_name p a || has_name p b || has_name p c)
-unfolding names
-names-Between p x n a b c is =
-    ap (has_name p) is ∙ ap (list_any (is_sought p)) (folds.fold-Between (List Use) (List Use) names_step of_when n a b c)
-    ∙ list_any-append (is_sought p) (names a ++ names b) (names c) ∙ ap (λ y. y || has_name p c) (list_any-append (is_sought p) (names a) (names b))
+  -- where the parts pass, the lists of their names have one that is looked for
+  any-two : (us vs : List Use) (b c : Bool) → b ≡ list_any (is_sought sought) us → c ≡ list_any (is_sought sought) vs
+      → (b || c) ≡ list_any (is_sought sought) (us ++ vs)
+  any-two us vs b c h k = ap₂ (λ u v. u || v) h k ∙ sym (list_any-append (is_sought sought) us vs)
 
-pub names-OneOf : (p : Sought) (x : Expr) (n : Bool) (a : Expr) (cs : List Expr) → x ≡ e.OneOf n a cs
-    → has_name p x ≡ (has_name p a || list_any (has_name p) cs)
-unfolding names
-names-OneOf p x n a cs is =
-    ap (has_name p) is ∙ ap (list_any (is_sought p)) (folds.fold-OneOf (List Use) (List Use) names_step of_when n a cs)
-    ∙ list_any-append (is_sought p) (names a) (all_of (map names cs)) ∙ ap (λ b. has_name p a || b) (any-all_of (is_sought p) cs)
+  any-three : (us vs ws : List Use) (b c d : Bool)
+      → b ≡ list_any (is_sought sought) us → c ≡ list_any (is_sought sought) vs → d ≡ list_any (is_sought sought) ws
+      → (b || c || d) ≡ list_any (is_sought sought) (us ++ vs ++ ws)
+  any-three us vs ws b c d h k l = any-two (us ++ vs) ws (b || c) d (any-two us vs b c h k) l
 
-pub names-Like : (p : Sought) (x : Expr) (n : Bool) (a : Expr) (pattern : List ℕ) → x ≡ e.Like n a pattern → has_name p x ≡ has_name p a
-unfolding names
-names-Like p x n a pattern is = ap (has_name p) is ∙ ap (list_any (is_sought p)) (folds.fold-Like (List Use) (List Use) names_step of_when n a pattern)
+  -- what an expression's names are, and so what is found among them
+  by-names : (a : Expr) (us : List Use) (b : Bool) → names a ≡ us → b ≡ list_any (is_sought sought) us → b ≡ has_name sought a
+  by-names a us b h k = k ∙ sym (ap (list_any (is_sought sought)) h)
 
-pub names-Cast : (p : Sought) (x : Expr) (a : Expr) (to : SqlType) → x ≡ e.Cast a to → has_name p x ≡ has_name p a
-unfolding names
-names-Cast p x a to is = ap (has_name p) is ∙ ap (list_any (is_sought p)) (folds.fold-Cast (List Use) (List Use) names_step of_when a to)
-
-pub names-Call : (p : Sought) (x : Expr) (f : List ℕ) (star : Bool) (args : List Expr) → x ≡ e.Call f star args
-    → has_name p x ≡ list_any (has_name p) args
-unfolding names
-names-Call p x f star args is =
-    ap (has_name p) is ∙ ap (list_any (is_sought p)) (folds.fold-Call (List Use) (List Use) names_step of_when f star args)
-    ∙ within-or-not p (is_aggregate f) (all_of (map names args)) ∙ any-all_of (is_sought p) args
-
-pub names-Case : (p : Sought) (x : Expr) (y : Option Expr) (ws : List WhenText) (z : Option Expr) → x ≡ e.Case y ws z
-    → has_name p x ≡ (part_has_name p y || list_any (when_has_name p) ws || part_has_name p z)
-unfolding names
-names-Case p x y ws z is =
-    ap (has_name p) is ∙ ap (list_any (is_sought p)) (folds.fold-Case (List Use) (List Use) names_step of_when y ws z)
-    ∙ list_any-append (is_sought p) (perhaps (perhaps_folded names y) ++ all_of (map when_names ws)) (perhaps (perhaps_folded names z))
-    ∙ ap₂ (λ a b. a || b)
-    (list_any-append (is_sought p) (perhaps (perhaps_folded names y)) (all_of (map when_names ws))
-    ∙ ap₂ (λ a b. a || b) (any-perhaps p y) (any-whens p ws))
-    (any-perhaps p z)
-
-pub ruleset names_forms = (names-Digits, names-Text, names-Truth, names-Null, names-Name, names-Sign, names-Binary, names-Not, names-IsNull, names-Between, names-OneOf, names-Like, names-Cast, names-Call, names-Case)
+  pub same : (a : Expr) → IsSame a
+  unfolding names
+  same = induction IsSame (record {
+    digits = λ n. passed.passes-Digits (sought_name sought) (e.Digits n) n refl (rw (e.outs-Digits n))
+        ∙ by-names (e.Digits n) [] false (folds.fold-Digits (List Use) (List Use) names_step of_when n) refl;
+    text = λ t. passed.passes-Text (sought_name sought) (e.Text t) t refl (rw (e.outs-Text t))
+        ∙ by-names (e.Text t) [] false (folds.fold-Text (List Use) (List Use) names_step of_when t) refl;
+    truth = λ b. passed.passes-Truth (sought_name sought) (e.Truth b) b refl (rw (e.outs-Truth b))
+        ∙ by-names (e.Truth b) [] false (folds.fold-Truth (List Use) (List Use) names_step of_when b) refl;
+    null = passed.passes-Null (sought_name sought) e.Null refl (rw e.outs-Null)
+        ∙ by-names e.Null [] false (folds.fold-Null (List Use) (List Use) names_step of_when) refl;
+    name = λ q t. passed.passes-decided (sought_name sought) (e.Name q t) (is_sought sought (use_of q t)) (rw (e.outs-Name q t))
+        ∙ by-names (e.Name q t) (use_of q t ∷ []) (is_sought sought (use_of q t)) (folds.fold-Name (List Use) (List Use) names_step of_when q t)
+        (sym (or-false (is_sought sought (use_of q t))));
+    sign = λ m a h. passed.passes-Sign (sought_name sought) (e.Sign m a) m a refl (rw (e.outs-Sign m a))
+        ∙ by-names (e.Sign m a) (names a) (does a) (folds.fold-Sign (List Use) (List Use) names_step of_when m a) h;
+    binary = λ o a b h k. passed.passes-Binary (sought_name sought) (e.Binary o a b) o a b refl (rw (e.outs-Binary o a b))
+        ∙ by-names (e.Binary o a b) (names a ++ names b) (does a || does b) (folds.fold-Binary (List Use) (List Use) names_step of_when o a b)
+        (any-two (names a) (names b) (does a) (does b) h k);
+    not = λ a h. passed.passes-Not (sought_name sought) (e.Not a) a refl (rw (e.outs-Not a))
+        ∙ by-names (e.Not a) (names a) (does a) (folds.fold-Not (List Use) (List Use) names_step of_when a) h;
+    is_null = λ n a h. passed.passes-IsNull (sought_name sought) (e.IsNull n a) n a refl (rw (e.outs-IsNull n a))
+        ∙ by-names (e.IsNull n a) (names a) (does a) (folds.fold-IsNull (List Use) (List Use) names_step of_when n a) h;
+    between = λ n a b c h k l. passed.passes-Between (sought_name sought) (e.Between n a b c) n a b c refl (rw (e.outs-Between n a b c))
+        ∙ by-names (e.Between n a b c) (names a ++ names b ++ names c) (does a || does b || does c)
+        (folds.fold-Between (List Use) (List Use) names_step of_when n a b c)
+        (any-three (names a) (names b) (names c) (does a) (does b) (does c) h k l);
+    one_of = λ n a es h k. passed.passes-OneOf (sought_name sought) (e.OneOf n a es) n a es refl (rw (e.outs-OneOf n a es))
+        ∙ by-names (e.OneOf n a es) (names a ++ all_of (map names es)) (does a || any_of (map does es))
+        (folds.fold-OneOf (List Use) (List Use) names_step of_when n a es)
+        (any-two (names a) (all_of (map names es)) (does a) (any_of (map does es)) h (any-each es k));
+    like = λ n a t h. passed.passes-Like (sought_name sought) (e.Like n a t) n a t refl (rw (e.outs-Like n a t))
+        ∙ by-names (e.Like n a t) (names a) (does a) (folds.fold-Like (List Use) (List Use) names_step of_when n a t) h;
+    cast = λ a to h. passed.passes-Cast (sought_name sought) (e.Cast a to) a to refl (rw (e.outs-Cast a to))
+        ∙ by-names (e.Cast a to) (names a) (does a) (folds.fold-Cast (List Use) (List Use) names_step of_when a to) h;
+    case = λ x ws z h k l. passed.passes-Case (sought_name sought) (e.Case x ws z) x ws z refl (rw (e.outs-Case x ws z))
+        ∙ by-names (e.Case x ws z) (perhaps (perhaps_folded names x) ++ all_of (map when_names ws) ++ perhaps (perhaps_folded names z))
+        (any_perhaps (option_map does x) || any_of (map (λ w. does w.cond || does w.result) ws) || any_perhaps (option_map does z))
+        (folds.fold-Case (List Use) (List Use) names_step of_when x ws z)
+        (any-three _ _ _ _ _ _ (any-perhaps x h) (any-whens ws k) (any-perhaps z l));
+    call = λ f star es h. passed.passes-Call (sought_name sought) (e.Call f star es) f star es refl (rw (e.outs-Call f star es)) ∙ any-each es h
+        ∙ sym (ap (list_any (is_sought sought)) (folds.fold-Call (List Use) (List Use) names_step of_when f star es)
+        ∙ within-or-not sought (is_aggregate f) (all_of (map names es)));
+  })

@@ -1,7 +1,7 @@
 -- The expressions of a result keep the limits of those of the items.
 use Rattle.std.proofs.Common.{◌≡◌, ℕ, suc, Bool, ◌&&◌, List, [], ◌∷◌, ◌++◌, nat_le, length, true, false, map, Option, Some, None, All, refl, ap, ap₂, sym, ◌∙◌}
 use Rattle.std.specs.Prelude.{filter, bytes_eq, option_map, unwrap_or}
-use Rattle.std.specs.List.{flat_map, list_all}
+use Rattle.std.specs.List.{flat_map, AllByRecursion as Each}
 use Rattle.std.proofs.lemmas.List.Elements.{All-nil, All-cons, All-head, All-tail, All-append}
 use Rattle.ksql_types.specs.declared.relation.Column.{Column}
 use Rattle.ksql_types.specs.declared.operator.BinaryOp.TheVariants as op
@@ -13,13 +13,12 @@ use Rattle.ksql_grammar.specs.declared.tree.SelectItem.{SelectItem}
 use Rattle.ksql_grammar.specs.declared.tree.SelectItem.TheVariants.{Star, StarOf, One}
 use Rattle.ksql_grammar.specs.declared.tree.WhenText.{WhenText}
 use Rattle.ksql_program.specs.Sound.{columns}
-use Rattle.ksql_typing.specs.declared.scope.Scope.{Scope}
-use Rattle.ksql_typing.specs.declared.scope.ScopeColumn.{ScopeColumn}
-use Rattle.ksql_typing.specs.Scope.{is_known_as}
-use Rattle.ksql_typing.specs.Uses.{is_small, IsSmall, small_step, are_small, are_whens_small, is_small_perhaps, all_hold, holds_perhaps}
-use Rattle.ksql_typing.proofs.Folds as f
-use Rattle.ksql_typing.proofs.Folds.{perhaps_folded}
-use Rattle.ksql_typing.proofs.Induction.{Each, IfThere, InWhen, Steps, induction}
+use Rattle.ksql_scope.specs.declared.scope.Scope.{Scope}
+use Rattle.ksql_scope.specs.declared.scope.ScopeColumn.{ScopeColumn}
+use Rattle.ksql_scope.specs.Scope.{is_known_as}
+use Rattle.ksql_scope.specs.Uses.{is_small, IsSmall, small_step, are_small, are_whens_small, is_small_perhaps}
+use Rattle.ksql_scope.proofs.Folds as f
+use Rattle.ksql_scope.proofs.Induction.{IfThere, InWhen, Steps, induction}
 use Rattle.ksql_clauses.specs.declared.items.Named.{Named}
 use Rattle.ksql_clauses.specs.declared.sources.Known.{Known}
 use Rattle.ksql_clauses.specs.Items.{named, named_from, numbered_name, plain_name, star_column, star_of, all_stars, stars_of, is_join}
@@ -28,43 +27,14 @@ use Rattle.ksql_clauses.specs.Sources.{item_exprs}
 use Rattle.ksql_clauses.proofs.Naming.{from-nothing, from-Star, from-StarOf, from-alias, from-plain, from-numbered}
 use Rattle.ksql_clauses.proofs.Resolving as r
 use Rattle.ksql_rules.specs.Keys.{on_sides, equated_sides}
-use Rattle.ksql_typing.proofs.Sets.{both-true}
+use Rattle.ksql_scope.proofs.Sets.{both-true}
+use Rattle.ksql_scope.proofs.Small.{is_small-OneOf, is_small-Case, is_small-Call}
 
 -- ---- forms
-
-small_when : WhenText → Bool
-small_when = f.folded_when Bool Bool small_step (λ w. w.cond && w.result)
-
-each : (es : List Expr) → all_hold (map is_small es) ≡ are_small es
-each [] = refl
-each (a ∷ es) = ap (λ b. is_small a && b) (each es)
-
-each_when : (ws : List WhenText) → all_hold (map small_when ws) ≡ are_whens_small ws
-unfolding small_when is_small
-each_when [] = refl
-each_when (w ∷ ws) = ap₂ (λ a b. a && b) (f.fold-when Bool Bool small_step (λ w. w.cond && w.result) w) (each_when ws)
-
-maybe : (x : Option Expr) → holds_perhaps (perhaps_folded is_small x) ≡ is_small_perhaps x
-maybe None = refl
-maybe (Some a) = refl
 
 pub small-Name : (q : Option (List ℕ)) (name : List ℕ) → is_small (e.Name q name) ≡ true
 unfolding is_small
 small-Name q name = f.fold-Name Bool Bool small_step (λ w. w.cond && w.result) q name
-
-small-OneOf : (n : Bool) (a : Expr) (es : List Expr) → is_small (e.OneOf n a es) ≡ (is_small a && are_small es)
-unfolding is_small
-small-OneOf n a es = f.fold-OneOf Bool Bool small_step (λ w. w.cond && w.result) n a es ∙ ap (λ b. is_small a && b) (each es)
-
-small-Case : (o : Option Expr) (ws : List WhenText) (z : Option Expr) → is_small (e.Case o ws z) ≡ (is_small_perhaps o && are_whens_small ws && is_small_perhaps z)
-unfolding is_small small_when
-small-Case o ws z =
-    f.fold-Case Bool Bool small_step (λ w. w.cond && w.result) o ws z
-    ∙ ap₂ (λ a b. a && b) (ap₂ (λ a b. a && b) (maybe o) (each_when ws)) (maybe z)
-
-small-Call : (g : List ℕ) (star : Bool) (es : List Expr) → is_small (e.Call g star es) ≡ are_small es
-unfolding is_small
-small-Call g star es = f.fold-Call Bool Bool small_step (λ w. w.cond && w.result) g star es ∙ each es
 
 -- ---- resolved names
 
@@ -126,8 +96,8 @@ module _ (s : Scope) where
         (r.resolved-Between s n a b c) (f.fold-Between Bool Bool small_step (λ w. w.cond && w.result) n (resolved s a) (resolved s b) (resolved s c))
         (ap₂ (λ x y. x && y) (ap₂ (λ x y. x && y) h k) l) (f.fold-Between Bool Bool small_step (λ w. w.cond && w.result) n a b c);
     one_of = λ n a es h k. via (e.OneOf n a es) (e.OneOf n (resolved s a) (map (resolved s) es)) (is_small (resolved s a) && are_small (map (resolved s) es))
-        (is_small a && are_small es) (r.resolved-OneOf s n a es) (small-OneOf n (resolved s a) (map (resolved s) es))
-        (ap₂ (λ x y. x && y) h (keeps-each es k)) (small-OneOf n a es);
+        (is_small a && are_small es) (r.resolved-OneOf s n a es) (is_small-OneOf n (resolved s a) (map (resolved s) es))
+        (ap₂ (λ x y. x && y) h (keeps-each es k)) (is_small-OneOf n a es);
     like = λ n a t h. via (e.Like n a t) (e.Like n (resolved s a) t) (is_small (resolved s a) && nat_le (length t) 65536) (is_small a && nat_le (length t) 65536)
         (r.resolved-Like s n a t) (f.fold-Like Bool Bool small_step (λ w. w.cond && w.result) n (resolved s a) t)
         (ap (λ x. x && nat_le (length t) 65536) h) (f.fold-Like Bool Bool small_step (λ w. w.cond && w.result) n a t);
@@ -136,10 +106,10 @@ module _ (s : Scope) where
     case = λ x ws z h k l. via (e.Case x ws z) (e.Case (option_map (resolved s) x) (map (resolved_when s) ws) (option_map (resolved s) z))
         (is_small_perhaps (option_map (resolved s) x) && are_whens_small (map (resolved_when s) ws) && is_small_perhaps (option_map (resolved s) z))
         (is_small_perhaps x && are_whens_small ws && is_small_perhaps z) (r.resolved-Case s x ws z)
-        (small-Case (option_map (resolved s) x) (map (resolved_when s) ws) (option_map (resolved s) z))
-        (ap₂ (λ u v. u && v) (ap₂ (λ u v. u && v) (keeps-perhaps x h) (keeps-whens ws k)) (keeps-perhaps z l)) (small-Case x ws z);
+        (is_small-Case (option_map (resolved s) x) (map (resolved_when s) ws) (option_map (resolved s) z))
+        (ap₂ (λ u v. u && v) (ap₂ (λ u v. u && v) (keeps-perhaps x h) (keeps-whens ws k)) (keeps-perhaps z l)) (is_small-Case x ws z);
     call = λ g star args h. via (e.Call g star args) (e.Call g star (map (resolved s) args)) (are_small (map (resolved s) args)) (are_small args)
-        (r.resolved-Call s g star args) (small-Call g star (map (resolved s) args)) (keeps-each args h) (small-Call g star args);
+        (r.resolved-Call s g star args) (is_small-Call g star (map (resolved s) args)) (keeps-each args h) (is_small-Call g star args);
   }
 
   pub keeps : (a : Expr) → Keeps a

@@ -1,12 +1,11 @@
 -- The rules by which a statement is refused, code by code, where these relations stand before it.
-use Rattle.std.specs.Prelude.{◌≡◌, ◌≢◌, ℕ, ◌+◌, ◌==◌, Bool, true, false, not, ◌&&◌, ◌||◌, nat_lt, if◌then◌else◌, IsTrue, ◌⊎◌, List, [], ◌∷◌, ◌++◌, length, map, filter, Option, Some, None, is_some, is_none, unwrap_or, option_map, codes, bytes_eq, slice_get}
-use Rattle.std.specs.List.{list_any, list_all, flat_map, Contains}
+use Rattle.std.specs.Prelude.{ℕ, ◌+◌, ◌==◌, Bool, true, false, not, ◌&&◌, ◌||◌, nat_lt, if◌then◌else◌, IsTrue, ◌⊎◌, List, [], ◌∷◌, ◌++◌, length, map, filter, Option, Some, None, is_some, is_none, unwrap_or, option_map, codes, bytes_eq, slice_get}
+use Rattle.std.specs.List.{list_any, list_all}
 use Rattle.ksql_types.specs.Catalog.{has_name, has_topic}
 use Rattle.ksql_types.specs.declared.relation.Format.{Format}
 use Rattle.ksql_types.specs.declared.relation.Format.TheVariants.{Json, Delimited}
 use Rattle.ksql_types.specs.declared.relation.Relation.{Relation}
 use Rattle.ksql_types.specs.declared.value.SqlType.{SqlType}
-use Rattle.ksql_types.specs.declared.value.SqlType.TheVariants as sql
 use Rattle.ksql_grammar.specs.declared.tree.ColumnText.{ColumnText}
 use Rattle.ksql_grammar.specs.declared.tree.Expr.{Expr}
 use Rattle.ksql_grammar.specs.declared.tree.KeyMark.{KeyMark}
@@ -21,21 +20,18 @@ use Rattle.ksql_grammar.specs.declared.tree.StatementBody.TheVariants.{Declared,
 use Rattle.ksql_grammar.specs.declared.tree.WindowText.{WindowText}
 use Rattle.ksql_types.specs.declared.code.Code.{Code}
 use Rattle.ksql_types.specs.declared.code.Code.TheVariants as code
-use Rattle.ksql_expr.specs.Rules.{fits}
-use Rattle.ksql_program.specs.Names.{is_among, are_column_names, is_topic_name}
+use Rattle.ksql_program.specs.Names.{are_column_names, is_topic_name}
 use Rattle.ksql_program.specs.Sound.{columns}
-use Rattle.ksql_typing.specs.declared.scope.Scope.{Scope}
-use Rattle.ksql_typing.specs.Functions.{is_aggregate}
-use Rattle.ksql_grouping.specs.Grouping.{has_aggregate, has_nested_aggregate, has_bare_column}
+use Rattle.ksql_grouping.specs.Grouping.{has_aggregate, has_ordered_aggregate, has_nested_aggregate, has_bare_column}
 use Rattle.ksql_clauses.specs.declared.items.Named.{Named}
 use Rattle.ksql_clauses.specs.declared.sources.Known.{Known}
-use Rattle.ksql_clauses.specs.Items.{result_columns, made_name, is_join}
+use Rattle.ksql_clauses.specs.Items.{result_columns, is_alias, is_join}
 use Rattle.ksql_rules.specs.Keys.{on_sides, join_key, key_places}
 use Rattle.ksql_clauses.specs.Properties.{are_bad, topic_in, partitions_in, format_in, value_of}
 use Rattle.ksql_clauses.specs.Resolved.{resolved}
-use Rattle.ksql_clauses.specs.Sources.{all_known, has_unknown_source, have_one_alias, is_stream, is_windowed, reads_stream, joined_streams, is_full, from_scope, item_scope, there, late_exprs, early_exprs, on_exprs}
-use Rattle.ksql_typing.specs.Typing.{HasType}
-use Rattle.ksql_typing.specs.Uses.{has_unknown_name, has_ambiguous_name, has_unknown_function, calls}
+use Rattle.ksql_clauses.specs.Sources.{all_known, has_unknown_source, have_one_alias, is_windowed, reads_stream, joined_streams, is_full, from_scope, item_scope, there, late_exprs, early_exprs, on_exprs}
+use Rattle.ksql_scope.specs.Typing.{HasType, HasValue, CanBeTrue, CanAgree}
+use Rattle.ksql_scope.specs.Uses.{has_unknown_name, has_ambiguous_name, has_unknown_function}
 use Rattle.ksql_clauses.specs.Windows.{is_too_large, is_bad}
 
 -- ---- TooLarge: a limit is passed
@@ -43,7 +39,7 @@ use Rattle.ksql_clauses.specs.Windows.{is_too_large, is_bad}
 abbrev pub has_many_partitions : List Property → Bool
 has_many_partitions ps = nat_lt 64 (unwrap_or (partitions_in ps) 0)
 
--- whether a name that a star makes in a join is above 128 bytes
+-- whether a name in the result of a join, which may be made of an alias and a name, is above 128 bytes
 abbrev pub has_long_name : List Known → List Named → Bool
 has_long_name ks cs = is_join ks && list_any (λ c. nat_lt 128 (length c.name)) cs
 
@@ -74,7 +70,7 @@ is_taken catalog st = list_any (has_name st.name) catalog || is_topic_taken cata
 
 -- whether `a.*` names no source
 abbrev pub is_unknown_star : List Known → SelectItem → Bool
-is_unknown_star ks (StarOf alias) = not (list_any (λ k. bytes_eq k.alias alias) ks)
+is_unknown_star ks (StarOf alias) = not (is_alias alias ks)
 is_unknown_star ks item = false
 
 abbrev pub has_unknown_column : Select → List Known → Bool
@@ -119,22 +115,6 @@ abbrev pub has_bad_names : Select → List Known → Bool
 has_bad_names q ks = not (are_column_names (map (λ c. c.name) (key_columns q ks ++ value_columns q ks)))
 
 -- ---- TypeMismatch
-
--- an expression has a type other than that of NULL alone
-abbrev pub HasValue : Scope → Expr → Type 0
-HasValue s a = (t : SqlType) × HasType s a (Some t)
-
--- a type of an expression fits BOOLEAN
-abbrev pub CanBeTrue : Scope → Expr → Type 0
-CanBeTrue s a = (t : Option SqlType) × HasType s a t × IsTrue (fits sql.Bool t)
-
--- two types agree: they are one, or one of them is that of NULL
-abbrev pub Agree : Option SqlType → Option SqlType → Type 0
-Agree (Some s) (Some t) = s ≡ t
-Agree _ _ = Unit {0}
-
-abbrev pub CanAgree : Scope → Expr × Expr → Type 0
-CanAgree s sides = (x : Option SqlType) × (y : Option SqlType) × HasType s sides.0 x × HasType s sides.1 y × Agree x y
 
 -- each member of a list
 abbrev pub Each : {A : Type 0} → (A → Type 0) → List A → Type 0
@@ -219,10 +199,6 @@ have_other_partitions _ = false
 
 -- ---- AggregateMisuse
 
--- the aggregates that a table has no place for
-abbrev pub ordered_aggregates : List (List ℕ)
-ordered_aggregates = codes "MIN" ∷ codes "MAX" ∷ codes "LATEST_BY_OFFSET" ∷ codes "EARLIEST_BY_OFFSET" ∷ []
-
 -- the expressions of a query's items, a star's columns among them, and of HAVING, with resolved names
 abbrev pub shown_exprs : Select → List Known → List Expr
 shown_exprs q ks = map (λ c. c.expr) (result_columns q ks) ++ there (option_map (resolved (item_scope q ks)) q.having)
@@ -235,7 +211,7 @@ misuses_aggregates q ks =
     list_any has_aggregate (early_exprs q) || list_any has_nested_aggregate (late_exprs q)
     || (not (is_grouped q) && (list_any has_aggregate (late_exprs q) || is_some q.having))
     || (is_grouped q && (not (list_any has_aggregate (late_exprs q)) || is_some q.partition || list_any (has_bare_column (group_exprs q ks)) (shown_exprs q ks)))
-    || (not (reads_stream ks) && list_any (λ a. list_any (is_among ordered_aggregates) (calls a)) (late_exprs q))
+    || (not (reads_stream ks) && list_any has_ordered_aggregate (late_exprs q))
 
 -- ---- BadWindow
 
@@ -327,7 +303,7 @@ abbrev pub BodyBreaks : List Relation → Statement → StatementBody → Code �
 BodyBreaks catalog st (Declared cs ps) c = DeclarationBreaks catalog st cs ps c
 BodyBreaks catalog st (Query ps q) c = QueryBreaks catalog st ps q (all_known catalog q) c
 
--- whether there are 200 relations already
+-- whether there are 200 relations already, which is too large
 abbrev pub is_full_catalog : List Relation → Code → Bool
 is_full_catalog catalog code.TooLarge = nat_lt 199 (length catalog)
 is_full_catalog catalog _ = false

@@ -2,10 +2,10 @@
 use Rattle.std.specs.Prelude.{◌≡◌, ℕ, ◌-◌, ◌^◌, ◌≤◌, List, length, map, is_some}
 use Rattle.std.specs.List.{list_any, list_all}
 use Rattle.ksql_grammar.specs.declared.tree.Expr.{Expr}
-use Rattle.ksql_typing.specs.declared.scope.Scope.{Scope}
+use Rattle.ksql_scope.specs.declared.scope.Scope.{Scope}
+use Rattle.ksql_scope.specs.Possible.{is_some_in}
+use Rattle.ksql_scope.specs.Uses.{has_unknown_name, has_ambiguous_name}
 use Rattle.ksql_typing.specs.Judged.{judged}
-use Rattle.ksql_typing.specs.Possible.{is_some_in}
-use Rattle.ksql_typing.specs.Uses.{has_unknown_name, has_ambiguous_name}
 use Rattle.ksql_clauses.specs.Items.{result_columns}
 use Rattle.ksql_clauses.specs.Sources.{from_scope, item_scope, early_exprs, late_exprs}
 use Rattle.ksql_rules.specs.declared.findings.Findings.{Findings}

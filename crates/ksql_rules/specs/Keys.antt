@@ -11,16 +11,16 @@ use Rattle.ksql_grammar.specs.declared.tree.JoinWord.{JoinWord}
 use Rattle.ksql_grammar.specs.declared.tree.JoinWord.TheVariants.{Inner, Left, Full}
 use Rattle.ksql_grammar.specs.declared.tree.Select.{Select}
 use Rattle.ksql_grammar.specs.declared.tree.WhenText.{WhenText}
-use Rattle.ksql_typing.specs.declared.scope.Scope.{Scope}
-use Rattle.ksql_typing.specs.declared.scope.ScopeColumn.{ScopeColumn}
+use Rattle.ksql_scope.specs.declared.scope.Scope.{Scope}
+use Rattle.ksql_scope.specs.declared.scope.ScopeColumn.{ScopeColumn}
 use Rattle.ksql_clauses.specs.declared.items.Named.{Named}
 use Rattle.ksql_clauses.specs.declared.sources.Known.{Known}
 use Rattle.ksql_clauses.specs.Items.{result_columns}
 use Rattle.ksql_clauses.specs.Resolved.{resolved}
 use Rattle.ksql_grouping.specs.Same.{same_expr}
-use Rattle.ksql_typing.specs.Scope.{is_known_as, row_time}
+use Rattle.ksql_scope.specs.Scope.{is_known_as, row_time}
 use Rattle.ksql_clauses.specs.Sources.{is_stream, joined_streams, join_word, from_scope}
-use Rattle.ksql_typing.specs.Uses.{Use, names}
+use Rattle.ksql_scope.specs.Uses.{Use, names}
 
 -- ---- ON
 
@@ -60,11 +60,12 @@ is_left_name s k u = of (filter (is_known_as u.qualifier u.name) s.columns)
 abbrev pub is_of_left : Scope → Known → Expr → Bool
 is_of_left s k a = nat_lt 0 (length (names a)) && list_all (is_left_name s k) (names a)
 
--- whether these two are the left side's key and the right relation's key: of a stream an expression of its columns, of
--- a table its only key column
+-- whether an expression is a key of the left side: of a stream an expression of its columns, of a table its only key
+-- column
 abbrev pub is_left_side : Scope → Known → Expr → Bool
 is_left_side s l a = if is_stream l.relation then is_of_left s l a else is_only_key s l a
 
+-- whether these two are the left side's key and the right relation's only key column
 abbrev pub are_sides : Scope → Known → Known → Expr → Expr → Bool
 are_sides s l r a b = is_left_side s l a && is_only_key s r b
 
@@ -130,10 +131,11 @@ needs q ks = grouped q.group
     grouped [] = partitioned q.partition
     grouped (g ∷ gs) = alone (map (resolved (from_scope q ks)) (g ∷ gs))
 
--- the number of the first column that is one of these expressions
+-- whether a column is one of these expressions
 abbrev pub is_one_of : List Expr → Named → Bool
 is_one_of es c = list_any (same_expr c.expr) es
 
+-- the number of the first column that is one of these expressions, where they are numbered from here
 unfoldable pub first_of : List Expr → ℕ → List Named → Option ℕ
 first_of es number [] = None
 first_of es number (c ∷ cs) = if is_one_of es c then Some number else first_of es (number + 1) cs

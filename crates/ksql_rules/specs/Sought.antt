@@ -1,9 +1,10 @@
 -- Names that are looked for in an expression.
-use Rattle.std.specs.Prelude.{ℕ, Bool, true, false, not, ◌||◌, List, Option, Some, None}
+use Rattle.std.specs.Prelude.{ℕ, Bool, true, false, not, List, Option, Some, None}
 use Rattle.std.specs.List.{list_any}
-use Rattle.ksql_grammar.specs.declared.tree.Expr.{Expr}
+use Rattle.ksql_grammar.specs.declared.tree.Expr.{Expr, out-Expr}
+use Rattle.ksql_grammar.specs.declared.tree.Expr.TheOpen.{Expr-F}
 use Rattle.ksql_grammar.specs.declared.tree.WhenText.{WhenText}
-use Rattle.ksql_typing.specs.Uses.{Use, names}
+use Rattle.ksql_scope.specs.Uses.{Use, names}
 use Rattle.ksql_rules.specs.declared.left_names.Sought.{Sought}
 use Rattle.ksql_rules.specs.declared.left_names.Sought.TheVariants.{Any, Other}
 use Rattle.ksql_rules.specs.Keys.{is_left_name}
@@ -21,9 +22,10 @@ is_sought (Other scope left) u = not (is_left_name scope.now left.now u)
 abbrev pub has_name : Sought → Expr → Bool
 has_name sought a = list_any (is_sought sought) (names a)
 
-abbrev pub when_has_name : Sought → WhenText → Bool
-when_has_name sought w = has_name sought w.cond || has_name sought w.result
-
-abbrev pub part_has_name : Sought → Option Expr → Bool
-part_has_name sought None = false
-part_has_name sought (Some a) = has_name sought a
+-- what is decided of an expression where such a name is looked for in it
+abbrev pub sought_name : Sought → Expr → Option Bool
+sought_name sought a = of (out-Expr a)
+  where
+    of : Expr-F Expr WhenText → Option Bool
+    of (Expr-F.Name q name) = Some (is_sought sought (use_of q name))
+    of form = None

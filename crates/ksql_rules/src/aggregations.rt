@@ -2,7 +2,7 @@
 
 ghost use Rattle.std.specs.Prelude.{◌≡◌, ◌||◌, IfOk, map, option_map};
 ghost use Rattle.std.specs.List.{list_any};
-ghost use Rattle.ksql_typing.specs.Uses as uses;
+ghost use Rattle.ksql_scope.specs.Uses as uses;
 ghost use Rattle.ksql_grouping.specs.Grouping as grouping;
 ghost use Rattle.ksql_clauses.specs.Resolved as names;
 ghost use Rattle.ksql_clauses.specs.Sources as sources;
@@ -18,7 +18,7 @@ use ksql_grouping::{
     has_aggregate, has_bare_column, has_nested_aggregate, has_ordered_aggregate,
     has_unknown_function,
 };
-use ksql_typing::Scope;
+use ksql_scope::Scope;
 use std::alloc::{AllocError, Global};
 
 fn one_has_aggregate(exprs: &[&Expr]) -> bool

@@ -1,8 +1,8 @@
 //! What is found out of a query once, before its rules are looked at.
 
 ghost use Rattle.std.specs.Prelude.{◌≡◌, ◌-◌, ◌^◌, ◌≤◌, All, IfOk, length, map};
+ghost use Rattle.ksql_scope.specs.Uses.{IsSmall};
 ghost use Rattle.ksql_typing.specs.Judged as typing;
-ghost use Rattle.ksql_typing.specs.Uses.{IsSmall};
 ghost use Rattle.ksql_clauses.specs.Sources as sources;
 ghost use Rattle.ksql_rules.specs.Decided as decided;
 ghost use Rattle.ksql_rules.specs.Findings.{AreFindings, IsFound};
@@ -12,9 +12,9 @@ use crate::expressions::{early_exprs, late_exprs};
 use crate::keys::{join_key, key_places};
 use ksql_clauses::{Known, Named, all_known, from_scope, item_scope, result_columns};
 use ksql_grammar::{Expr, Select};
+use ksql_scope::{Scope, Types, has_some_type};
 use ksql_types::Catalog;
 use ksql_typing::judgement::{Judged, judge};
-use ksql_typing::{Scope, Types, has_some_type};
 use std::alloc::{AllocError, Global};
 
 /// What is found out of some expressions together: whether a name in one stands for nothing, whether one stands for

@@ -12,8 +12,8 @@ use crate::left_names::{Sought, has_name};
 use ksql_clauses::{Known, Named, is_stream, resolved};
 use ksql_grammar::{Expr, JoinWord, Select};
 use ksql_grouping::same_expr;
+use ksql_scope::Scope;
 use ksql_types::{BinaryOp, Chars, Column, CopyOf};
-use ksql_typing::Scope;
 use std::alloc::{AllocError, Global};
 
 /// The two sides of `a = b`.

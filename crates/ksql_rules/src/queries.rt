@@ -1,6 +1,6 @@
 //! Which rules a query breaks.
 
-ghost use Rattle.std.specs.Prelude.{◌≡◌, ◌||◌, ◌++◌, IfOk, bytes_eq, is_none, length, map, nat_lt};
+ghost use Rattle.std.specs.Prelude.{◌≡◌, ◌||◌, ◌++◌, IfOk, is_none, length, map, nat_lt};
 ghost use Rattle.std.specs.List.{list_any};
 ghost use Rattle.ksql_clauses.specs.Items as items;
 ghost use Rattle.ksql_clauses.specs.Sources as sources;
@@ -11,8 +11,8 @@ use crate::findings::Findings;
 use crate::keys::{key_columns, value_columns};
 use crate::topics::{has_bad_topic, query_topic};
 use ksql_clauses::{
-    Known, Named, are_bad, format_in, have_one_alias, is_bad, is_full, is_join, is_too_large,
-    is_windowed, joined_streams, reads_stream,
+    Known, Named, are_bad, format_in, have_one_alias, is_alias, is_bad, is_full, is_join,
+    is_too_large, is_windowed, joined_streams, reads_stream,
 };
 use ksql_grammar::{Property, Select, SelectItem, WindowText};
 use ksql_program::are_column_names;
@@ -49,7 +49,7 @@ fn is_one_long(columns: &[Named]) -> bool
     columns.iter().any(|column| is_long(column))
 }
 
-/// Whether a name that a star makes in a join passes its limit.
+/// Whether a name in the result of a join, which may be made of an alias and a name, passes its limit.
 fn has_long_name(known: &[Known], columns: &[Named]) -> bool
     ensures { result ≡ spec.has_long_name known.now columns.now }
 {
@@ -69,17 +69,11 @@ pub fn is_query_too_large(findings: &Findings) -> bool
         || has_long_name(&findings.known, &findings.columns)
 }
 
-fn is_known(known: &[Known], alias: &Chars) -> bool
-    ensures { result ≡ list_any (λ k. bytes_eq k.alias alias.now) known.now }
-{
-    known.iter().any(|source| source.alias == *alias)
-}
-
 fn is_unknown_star(known: &[Known], item: &SelectItem) -> bool
     ensures { result ≡ spec.is_unknown_star known.now item.now }
 {
     match item {
-        SelectItem::StarOf(alias) => !is_known(known, alias),
+        SelectItem::StarOf(alias) => !is_alias(alias, known),
         _ => false,
     }
 }

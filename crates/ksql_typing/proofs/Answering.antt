@@ -4,26 +4,26 @@ use Rattle.std.specs.Prelude.{Result, Err, IfOk, IfErr}
 use Rattle.ksql_types.specs.declared.value.SqlType.{SqlType}
 use Rattle.ksql_grammar.specs.declared.tree.Expr.{Expr}
 use Rattle.ksql_expr.specs.declared.typed.Typed.{Typed}
+use Rattle.ksql_scope.specs.declared.scope.Scope.{Scope}
+use Rattle.ksql_scope.specs.Possible.{possible, is_some_in}
+use Rattle.ksql_scope.specs.Scope.{column_types}
+use Rattle.ksql_scope.specs.Typing.{HasType, HasSomeType}
+use Rattle.ksql_scope.specs.Uses.{has_unknown_name, has_ambiguous_name, has_unknown_function}
+use Rattle.ksql_scope.proofs.Deciding.{decides}
+use Rattle.ksql_scope.proofs.Possibly.{possibly}
+use Rattle.ksql_scope.proofs.Sets.{some-in, some-from}
 use Rattle.ksql_typing.specs.declared.judged.Judged.{Judged}
-use Rattle.ksql_typing.specs.declared.scope.Scope.{Scope}
-use Rattle.ksql_typing.specs.declared.scope.TypeFault.{TypeFault}
-use Rattle.ksql_typing.specs.declared.scope.TypeFault.TheVariants.{UnknownColumn, AmbiguousColumn, TypeMismatch, Unsupported, OutOfMemory}
+use Rattle.ksql_typing.specs.declared.fault.TypeFault.{TypeFault}
+use Rattle.ksql_typing.specs.declared.fault.TypeFault.TheVariants.{UnknownColumn, AmbiguousColumn, TypeMismatch, Unsupported, OutOfMemory}
 use Rattle.ksql_typing.specs.Judged as j
 use Rattle.ksql_typing.specs.Judged.{judged}
 use Rattle.ksql_typing.specs.Made.{made}
-use Rattle.ksql_typing.specs.Possible.{possible, is_some_in}
-use Rattle.ksql_typing.specs.Scope.{column_types}
 use Rattle.ksql_typing.specs.Standing.{IsTypedTree}
 use Rattle.ksql_typing.specs.Typed.{Answers, HasFault}
-use Rattle.ksql_typing.specs.Typing.{HasType, HasSomeType}
-use Rattle.ksql_typing.specs.Uses.{has_unknown_name, has_ambiguous_name, has_unknown_function}
-use Rattle.ksql_typing.proofs.Deciding.{decides}
 use Rattle.ksql_typing.proofs.MadeTrees.{makes-tree}
 use Rattle.ksql_typing.proofs.Making.{makes}
 use Rattle.ksql_typing.proofs.Meanings.{typed-meanings, typed-meanings-inside}
 use Rattle.ksql_typing.proofs.OneTyping.{not-both, one-fault}
-use Rattle.ksql_typing.proofs.Possibly.{possibly}
-use Rattle.ksql_typing.proofs.Sets.{some-in, some-from}
 
 -- a tree that is made is a tree of the expression
 pub made-is-tree : (s : Scope) (a : Expr) (x : Typed) → made a s ≡ Some x → IsTypedTree s a x

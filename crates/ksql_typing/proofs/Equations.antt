@@ -1,31 +1,20 @@
--- The equations of what is found out of an expression: one for each form.
-use Rattle.std.proofs.Common.{◌≡◌, ℕ, Bool, List, ◌++◌, map, Option, ap}
+-- The equations of the tree that is made of an expression: one for each form.
+use Rattle.std.proofs.Common.{◌≡◌, ℕ, Bool, List, map, Option, ap}
 use Rattle.ksql_types.specs.declared.operator.BinaryOp.{BinaryOp}
 use Rattle.ksql_types.specs.declared.value.SqlType.{SqlType}
 use Rattle.ksql_grammar.specs.declared.tree.Expr.{Expr}
 use Rattle.ksql_grammar.specs.declared.tree.Expr.TheVariants as e
 use Rattle.ksql_grammar.specs.declared.tree.Expr.TheOpen.{Expr-F}
 use Rattle.ksql_grammar.specs.declared.tree.WhenText.{WhenText}
-use Rattle.ksql_typing.specs.declared.scope.Scope.{Scope}
+use Rattle.ksql_scope.specs.declared.scope.Scope.{Scope}
+use Rattle.ksql_scope.proofs.Folds as f
+use Rattle.ksql_scope.proofs.Folds.{perhaps_folded}
 use Rattle.ksql_typing.specs.Made.{made, Tree, WhenTree, tree_step, when_step}
-use Rattle.ksql_typing.specs.Possible.{possible, Sets, WhenSets, sets_step, when_sets}
-use Rattle.ksql_typing.specs.Uses.{Use, names, names_step, of_when, calls, calls_step}
-use Rattle.ksql_typing.proofs.Folds as f
-use Rattle.ksql_typing.proofs.Folds.{perhaps_folded}
 
 -- ---- the folds of WHENs
 
 unfoldable pub made_when : WhenText → WhenTree
 made_when = f.folded_when Tree WhenTree tree_step when_step
-
-unfoldable pub possible_when : WhenText → WhenSets
-possible_when = f.folded_when Sets WhenSets sets_step when_sets
-
-unfoldable pub names_when : WhenText → List Use
-names_when = f.folded_when (List Use) (List Use) names_step of_when
-
-unfoldable pub calls_when : WhenText → List (List ℕ)
-calls_when = f.folded_when (List (List ℕ)) (List (List ℕ)) calls_step of_when
 
 -- ---- the folds of expressions
 
@@ -89,200 +78,8 @@ pub made-Call : (g : List ℕ) (star : Bool) (args : List Expr) (s : Scope) → 
 unfolding made
 made-Call g star args s = ap (λ v. v s) (f.fold-Call (Tree) (WhenTree) tree_step when_step g star args)
 
-pub possible-Digits : (number : ℕ) (s : Scope) → possible (e.Digits number) s ≡ sets_step (Expr-F.Digits number) s
-unfolding possible
-possible-Digits number s = ap (λ v. v s) (f.fold-Digits (Sets) (WhenSets) sets_step when_sets number)
-
-pub possible-Text : (content : List ℕ) (s : Scope) → possible (e.Text content) s ≡ sets_step (Expr-F.Text content) s
-unfolding possible
-possible-Text content s = ap (λ v. v s) (f.fold-Text (Sets) (WhenSets) sets_step when_sets content)
-
-pub possible-Truth : (b : Bool) (s : Scope) → possible (e.Truth b) s ≡ sets_step (Expr-F.Truth b) s
-unfolding possible
-possible-Truth b s = ap (λ v. v s) (f.fold-Truth (Sets) (WhenSets) sets_step when_sets b)
-
-pub possible-Null : (s : Scope) → possible e.Null s ≡ sets_step Expr-F.Null s
-unfolding possible
-possible-Null s = ap (λ v. v s) (f.fold-Null (Sets) (WhenSets) sets_step when_sets)
-
-pub possible-Name : (q : Option (List ℕ)) (name : List ℕ) (s : Scope) → possible (e.Name q name) s ≡ sets_step (Expr-F.Name q name) s
-unfolding possible
-possible-Name q name s = ap (λ v. v s) (f.fold-Name (Sets) (WhenSets) sets_step when_sets q name)
-
-pub possible-Sign : (minus : Bool) (a : Expr) (s : Scope) → possible (e.Sign minus a) s ≡ sets_step (Expr-F.Sign minus (possible a)) s
-unfolding possible
-possible-Sign minus a s = ap (λ v. v s) (f.fold-Sign (Sets) (WhenSets) sets_step when_sets minus a)
-
-pub possible-Binary : (o : BinaryOp) (a : Expr) (b : Expr) (s : Scope) → possible (e.Binary o a b) s ≡ sets_step (Expr-F.Binary o (possible a) (possible b)) s
-unfolding possible
-possible-Binary o a b s = ap (λ v. v s) (f.fold-Binary (Sets) (WhenSets) sets_step when_sets o a b)
-
-pub possible-Not : (a : Expr) (s : Scope) → possible (e.Not a) s ≡ sets_step (Expr-F.Not (possible a)) s
-unfolding possible
-possible-Not a s = ap (λ v. v s) (f.fold-Not (Sets) (WhenSets) sets_step when_sets a)
-
-pub possible-IsNull : (n : Bool) (a : Expr) (s : Scope) → possible (e.IsNull n a) s ≡ sets_step (Expr-F.IsNull n (possible a)) s
-unfolding possible
-possible-IsNull n a s = ap (λ v. v s) (f.fold-IsNull (Sets) (WhenSets) sets_step when_sets n a)
-
-pub possible-Between : (n : Bool) (a : Expr) (b : Expr) (c : Expr) (s : Scope) → possible (e.Between n a b c) s ≡ sets_step (Expr-F.Between n (possible a) (possible b) (possible c)) s
-unfolding possible
-possible-Between n a b c s = ap (λ v. v s) (f.fold-Between (Sets) (WhenSets) sets_step when_sets n a b c)
-
-pub possible-OneOf : (n : Bool) (a : Expr) (cs : List Expr) (s : Scope) → possible (e.OneOf n a cs) s ≡ sets_step (Expr-F.OneOf n (possible a) (map possible cs)) s
-unfolding possible
-possible-OneOf n a cs s = ap (λ v. v s) (f.fold-OneOf (Sets) (WhenSets) sets_step when_sets n a cs)
-
-pub possible-Like : (n : Bool) (a : Expr) (pattern : List ℕ) (s : Scope) → possible (e.Like n a pattern) s ≡ sets_step (Expr-F.Like n (possible a) pattern) s
-unfolding possible
-possible-Like n a pattern s = ap (λ v. v s) (f.fold-Like (Sets) (WhenSets) sets_step when_sets n a pattern)
-
-pub possible-Cast : (a : Expr) (to : SqlType) (s : Scope) → possible (e.Cast a to) s ≡ sets_step (Expr-F.Cast (possible a) to) s
-unfolding possible
-possible-Cast a to s = ap (λ v. v s) (f.fold-Cast (Sets) (WhenSets) sets_step when_sets a to)
-
-pub possible-Case : (x : Option Expr) (ws : List WhenText) (z : Option Expr) (s : Scope) → possible (e.Case x ws z) s ≡ sets_step (Expr-F.Case (perhaps_folded possible x) (map possible_when ws) (perhaps_folded possible z)) s
-unfolding possible possible_when
-possible-Case x ws z s = ap (λ v. v s) (f.fold-Case (Sets) (WhenSets) sets_step when_sets x ws z)
-
-pub possible-Call : (g : List ℕ) (star : Bool) (args : List Expr) (s : Scope) → possible (e.Call g star args) s ≡ sets_step (Expr-F.Call g star (map possible args)) s
-unfolding possible
-possible-Call g star args s = ap (λ v. v s) (f.fold-Call (Sets) (WhenSets) sets_step when_sets g star args)
-
-pub names-Digits : (number : ℕ) → names (e.Digits number) ≡ names_step (Expr-F.Digits number)
-unfolding names
-names-Digits number = f.fold-Digits (List Use) (List Use) names_step of_when number
-
-pub names-Text : (content : List ℕ) → names (e.Text content) ≡ names_step (Expr-F.Text content)
-unfolding names
-names-Text content = f.fold-Text (List Use) (List Use) names_step of_when content
-
-pub names-Truth : (b : Bool) → names (e.Truth b) ≡ names_step (Expr-F.Truth b)
-unfolding names
-names-Truth b = f.fold-Truth (List Use) (List Use) names_step of_when b
-
-pub names-Null : names e.Null ≡ names_step Expr-F.Null
-unfolding names
-names-Null = f.fold-Null (List Use) (List Use) names_step of_when
-
-pub names-Name : (q : Option (List ℕ)) (name : List ℕ) → names (e.Name q name) ≡ names_step (Expr-F.Name q name)
-unfolding names
-names-Name q name = f.fold-Name (List Use) (List Use) names_step of_when q name
-
-pub names-Sign : (minus : Bool) (a : Expr) → names (e.Sign minus a) ≡ names_step (Expr-F.Sign minus (names a))
-unfolding names
-names-Sign minus a = f.fold-Sign (List Use) (List Use) names_step of_when minus a
-
-pub names-Binary : (o : BinaryOp) (a : Expr) (b : Expr) → names (e.Binary o a b) ≡ names_step (Expr-F.Binary o (names a) (names b))
-unfolding names
-names-Binary o a b = f.fold-Binary (List Use) (List Use) names_step of_when o a b
-
-pub names-Not : (a : Expr) → names (e.Not a) ≡ names_step (Expr-F.Not (names a))
-unfolding names
-names-Not a = f.fold-Not (List Use) (List Use) names_step of_when a
-
-pub names-IsNull : (n : Bool) (a : Expr) → names (e.IsNull n a) ≡ names_step (Expr-F.IsNull n (names a))
-unfolding names
-names-IsNull n a = f.fold-IsNull (List Use) (List Use) names_step of_when n a
-
-pub names-Between : (n : Bool) (a : Expr) (b : Expr) (c : Expr) → names (e.Between n a b c) ≡ names_step (Expr-F.Between n (names a) (names b) (names c))
-unfolding names
-names-Between n a b c = f.fold-Between (List Use) (List Use) names_step of_when n a b c
-
-pub names-OneOf : (n : Bool) (a : Expr) (cs : List Expr) → names (e.OneOf n a cs) ≡ names_step (Expr-F.OneOf n (names a) (map names cs))
-unfolding names
-names-OneOf n a cs = f.fold-OneOf (List Use) (List Use) names_step of_when n a cs
-
-pub names-Like : (n : Bool) (a : Expr) (pattern : List ℕ) → names (e.Like n a pattern) ≡ names_step (Expr-F.Like n (names a) pattern)
-unfolding names
-names-Like n a pattern = f.fold-Like (List Use) (List Use) names_step of_when n a pattern
-
-pub names-Cast : (a : Expr) (to : SqlType) → names (e.Cast a to) ≡ names_step (Expr-F.Cast (names a) to)
-unfolding names
-names-Cast a to = f.fold-Cast (List Use) (List Use) names_step of_when a to
-
-pub names-Case : (x : Option Expr) (ws : List WhenText) (z : Option Expr) → names (e.Case x ws z) ≡ names_step (Expr-F.Case (perhaps_folded names x) (map names_when ws) (perhaps_folded names z))
-unfolding names names_when
-names-Case x ws z = f.fold-Case (List Use) (List Use) names_step of_when x ws z
-
-pub names-Call : (g : List ℕ) (star : Bool) (args : List Expr) → names (e.Call g star args) ≡ names_step (Expr-F.Call g star (map names args))
-unfolding names
-names-Call g star args = f.fold-Call (List Use) (List Use) names_step of_when g star args
-
-pub calls-Digits : (number : ℕ) → calls (e.Digits number) ≡ calls_step (Expr-F.Digits number)
-unfolding calls
-calls-Digits number = f.fold-Digits (List (List ℕ)) (List (List ℕ)) calls_step of_when number
-
-pub calls-Text : (content : List ℕ) → calls (e.Text content) ≡ calls_step (Expr-F.Text content)
-unfolding calls
-calls-Text content = f.fold-Text (List (List ℕ)) (List (List ℕ)) calls_step of_when content
-
-pub calls-Truth : (b : Bool) → calls (e.Truth b) ≡ calls_step (Expr-F.Truth b)
-unfolding calls
-calls-Truth b = f.fold-Truth (List (List ℕ)) (List (List ℕ)) calls_step of_when b
-
-pub calls-Null : calls e.Null ≡ calls_step Expr-F.Null
-unfolding calls
-calls-Null = f.fold-Null (List (List ℕ)) (List (List ℕ)) calls_step of_when
-
-pub calls-Name : (q : Option (List ℕ)) (name : List ℕ) → calls (e.Name q name) ≡ calls_step (Expr-F.Name q name)
-unfolding calls
-calls-Name q name = f.fold-Name (List (List ℕ)) (List (List ℕ)) calls_step of_when q name
-
-pub calls-Sign : (minus : Bool) (a : Expr) → calls (e.Sign minus a) ≡ calls_step (Expr-F.Sign minus (calls a))
-unfolding calls
-calls-Sign minus a = f.fold-Sign (List (List ℕ)) (List (List ℕ)) calls_step of_when minus a
-
-pub calls-Binary : (o : BinaryOp) (a : Expr) (b : Expr) → calls (e.Binary o a b) ≡ calls_step (Expr-F.Binary o (calls a) (calls b))
-unfolding calls
-calls-Binary o a b = f.fold-Binary (List (List ℕ)) (List (List ℕ)) calls_step of_when o a b
-
-pub calls-Not : (a : Expr) → calls (e.Not a) ≡ calls_step (Expr-F.Not (calls a))
-unfolding calls
-calls-Not a = f.fold-Not (List (List ℕ)) (List (List ℕ)) calls_step of_when a
-
-pub calls-IsNull : (n : Bool) (a : Expr) → calls (e.IsNull n a) ≡ calls_step (Expr-F.IsNull n (calls a))
-unfolding calls
-calls-IsNull n a = f.fold-IsNull (List (List ℕ)) (List (List ℕ)) calls_step of_when n a
-
-pub calls-Between : (n : Bool) (a : Expr) (b : Expr) (c : Expr) → calls (e.Between n a b c) ≡ calls_step (Expr-F.Between n (calls a) (calls b) (calls c))
-unfolding calls
-calls-Between n a b c = f.fold-Between (List (List ℕ)) (List (List ℕ)) calls_step of_when n a b c
-
-pub calls-OneOf : (n : Bool) (a : Expr) (cs : List Expr) → calls (e.OneOf n a cs) ≡ calls_step (Expr-F.OneOf n (calls a) (map calls cs))
-unfolding calls
-calls-OneOf n a cs = f.fold-OneOf (List (List ℕ)) (List (List ℕ)) calls_step of_when n a cs
-
-pub calls-Like : (n : Bool) (a : Expr) (pattern : List ℕ) → calls (e.Like n a pattern) ≡ calls_step (Expr-F.Like n (calls a) pattern)
-unfolding calls
-calls-Like n a pattern = f.fold-Like (List (List ℕ)) (List (List ℕ)) calls_step of_when n a pattern
-
-pub calls-Cast : (a : Expr) (to : SqlType) → calls (e.Cast a to) ≡ calls_step (Expr-F.Cast (calls a) to)
-unfolding calls
-calls-Cast a to = f.fold-Cast (List (List ℕ)) (List (List ℕ)) calls_step of_when a to
-
-pub calls-Case : (x : Option Expr) (ws : List WhenText) (z : Option Expr) → calls (e.Case x ws z) ≡ calls_step (Expr-F.Case (perhaps_folded calls x) (map calls_when ws) (perhaps_folded calls z))
-unfolding calls calls_when
-calls-Case x ws z = f.fold-Case (List (List ℕ)) (List (List ℕ)) calls_step of_when x ws z
-
-pub calls-Call : (g : List ℕ) (star : Bool) (args : List Expr) → calls (e.Call g star args) ≡ calls_step (Expr-F.Call g star (map calls args))
-unfolding calls
-calls-Call g star args = f.fold-Call (List (List ℕ)) (List (List ℕ)) calls_step of_when g star args
-
 -- ---- and of WHENs
 
 pub made-when : (w : WhenText) (s : Scope) → made_when w s ≡ when_step (record { cond = made w.cond; result = made w.result }) s
 unfolding made made_when
 made-when w s = ap (λ v. v s) (f.fold-when Tree WhenTree tree_step when_step w)
-
-pub possible-when : (w : WhenText) (s : Scope) → possible_when w s ≡ (possible w.cond s, possible w.result s)
-unfolding possible possible_when
-possible-when w s = ap (λ v. v s) (f.fold-when Sets WhenSets sets_step when_sets w)
-
-pub names-when : (w : WhenText) → names_when w ≡ names w.cond ++ names w.result
-unfolding names names_when
-names-when w = f.fold-when (List Use) (List Use) names_step of_when w
-
-pub calls-when : (w : WhenText) → calls_when w ≡ calls w.cond ++ calls w.result
-unfolding calls calls_when
-calls-when w = f.fold-when (List (List ℕ)) (List (List ℕ)) calls_step of_when w

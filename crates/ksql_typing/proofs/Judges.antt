@@ -8,11 +8,11 @@ use Rattle.std.proofs.lemmas.List.{map-append}
 use Rattle.std.proofs.lemmas.List.Folds.{list_all_at}
 use Rattle.ksql_grammar.specs.declared.tree.Expr.{Expr}
 use Rattle.ksql_grammar.specs.declared.tree.WhenText.{WhenText}
+use Rattle.ksql_scope.specs.declared.scope.Scope.{Scope}
+use Rattle.ksql_scope.specs.Uses.{is_small, are_whens_small}
+use Rattle.ksql_scope.proofs.Sets.{both-true}
 use Rattle.ksql_typing.specs.declared.judged.Judged.{Judged}
-use Rattle.ksql_typing.specs.declared.scope.Scope.{Scope}
 use Rattle.ksql_typing.specs.Judged.{judged}
-use Rattle.ksql_typing.specs.Uses.{is_small, are_whens_small}
-use Rattle.ksql_typing.proofs.Sets.{both-true}
 
 pub of_form : (x y : Expr) (s : Scope) {v : Judged} → x ≡ y → judged y s ≡ v → v ≡ judged x s
 of_form x y s k l = sym (ap (λ a. judged a s) k ∙ l)

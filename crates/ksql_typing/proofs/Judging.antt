@@ -13,24 +13,25 @@ use Rattle.ksql_grammar.specs.declared.tree.Expr.TheVariants as e
 use Rattle.ksql_grammar.specs.declared.tree.WhenText.{WhenText}
 use Rattle.ksql_expr.specs.declared.typed.Typed.{Typed}
 use Rattle.ksql_expr.specs.declared.typed.TypedWhen.{TypedWhen}
+use Rattle.ksql_scope.specs.declared.scope.Scope.{Scope}
+use Rattle.ksql_scope.specs.Functions.{is_aggregate, aggregate_of, function_of}
+use Rattle.ksql_scope.specs.Possible as t
+use Rattle.ksql_scope.specs.Possible.{possible, each_of, perhaps_of, scope_within, conds_of, results_of}
+use Rattle.ksql_scope.specs.Scope.{Meaning, meanings, seen}
+use Rattle.ksql_scope.specs.Senses.{sense}
+use Rattle.ksql_scope.specs.Typing.{digits_type}
+use Rattle.ksql_scope.specs.Uses.{Use, names, meanings_of, all_of, in_aggregate}
+use Rattle.ksql_scope.specs.Uses as uses
+use Rattle.ksql_scope.proofs.Equations as q
+use Rattle.ksql_scope.proofs.Folds.{perhaps_folded}
+use Rattle.ksql_scope.proofs.NameFlags.{counted, counted-inside}
 use Rattle.ksql_typing.specs.declared.judged.Judged.{Judged}
-use Rattle.ksql_typing.specs.declared.scope.Scope.{Scope}
-use Rattle.ksql_typing.specs.Functions.{is_aggregate, aggregate_of, function_of}
 use Rattle.ksql_typing.specs.Judged as j
 use Rattle.ksql_typing.specs.Judged.{judged, judged_when, after}
 use Rattle.ksql_typing.specs.Made as m
-use Rattle.ksql_typing.specs.Possible as t
 use Rattle.ksql_typing.specs.Made.{made, all_there, perhaps_there, literal_tree, typed_when}
-use Rattle.ksql_typing.specs.Possible.{possible, each_of, perhaps_of, scope_within, conds_of, results_of}
-use Rattle.ksql_typing.specs.Scope.{Meaning, meanings, seen}
-use Rattle.ksql_typing.specs.Senses.{sense}
 use Rattle.ksql_typing.specs.Standing.{digits_value}
-use Rattle.ksql_typing.specs.Typing.{digits_type}
-use Rattle.ksql_typing.specs.Uses.{Use, names, meanings_of, all_of, in_aggregate}
-use Rattle.ksql_typing.specs.Uses as uses
-use Rattle.ksql_typing.proofs.Equations as q
-use Rattle.ksql_typing.proofs.Folds.{perhaps_folded}
-use Rattle.ksql_typing.proofs.NameFlags.{counted, counted-inside}
+use Rattle.ksql_typing.proofs.Equations as forms
 
 abbrev lost : Scope → Use → Bool
 lost s = counted (λ n. n == 0) s
@@ -48,7 +49,7 @@ three t us xs ys zs h = two t us (xs ++ ys) zs h ∙ ap (λ b. b || list_any t z
 pub judged-Digits : (number : ℕ) (s : Scope) → judged (e.Digits number) s ≡ j.sure (literal_tree (digits_value number)) (digits_type number)
 unfolding judged
 judged-Digits number s = λ i. record {
-  tree = q.made-Digits number s i;
+  tree = forms.made-Digits number s i;
   types = q.possible-Digits number s i;
   unknown = ap (list_any (lost s)) (q.names-Digits number) i;
   ambiguous = ap (list_any (several s)) (q.names-Digits number) i;
@@ -57,7 +58,7 @@ judged-Digits number s = λ i. record {
 pub judged-Text : (content : List ℕ) (s : Scope) → judged (e.Text content) s ≡ j.sure (literal_tree (value.Txt content)) sql.Text
 unfolding judged
 judged-Text content s = λ i. record {
-  tree = q.made-Text content s i;
+  tree = forms.made-Text content s i;
   types = q.possible-Text content s i;
   unknown = ap (list_any (lost s)) (q.names-Text content) i;
   ambiguous = ap (list_any (several s)) (q.names-Text content) i;
@@ -66,7 +67,7 @@ judged-Text content s = λ i. record {
 pub judged-Truth : (b : Bool) (s : Scope) → judged (e.Truth b) s ≡ j.sure (literal_tree (value.Bool b)) sql.Bool
 unfolding judged
 judged-Truth b s = λ i. record {
-  tree = q.made-Truth b s i;
+  tree = forms.made-Truth b s i;
   types = q.possible-Truth b s i;
   unknown = ap (list_any (lost s)) (q.names-Truth b) i;
   ambiguous = ap (list_any (several s)) (q.names-Truth b) i;
@@ -75,7 +76,7 @@ judged-Truth b s = λ i. record {
 pub judged-Null : (s : Scope) → judged (e.Null) s ≡ j.null
 unfolding judged
 judged-Null s = λ i. record {
-  tree = q.made-Null s i;
+  tree = forms.made-Null s i;
   types = q.possible-Null s i;
   unknown = ap (list_any (lost s)) (q.names-Null) i;
   ambiguous = ap (list_any (several s)) (q.names-Null) i;
@@ -84,7 +85,7 @@ judged-Null s = λ i. record {
 pub judged-Sign : (minus : Bool) (a : Expr) (s : Scope) → judged (e.Sign minus a) s ≡ j.sign minus (judged a s)
 unfolding judged
 judged-Sign minus a s = λ i. record {
-  tree = q.made-Sign minus a s i;
+  tree = forms.made-Sign minus a s i;
   types = q.possible-Sign minus a s i;
   unknown = ap (list_any (lost s)) (q.names-Sign minus a) i;
   ambiguous = ap (list_any (several s)) (q.names-Sign minus a) i;
@@ -93,7 +94,7 @@ judged-Sign minus a s = λ i. record {
 pub judged-Not : (a : Expr) (s : Scope) → judged (e.Not a) s ≡ j.negation (judged a s)
 unfolding judged
 judged-Not a s = λ i. record {
-  tree = q.made-Not a s i;
+  tree = forms.made-Not a s i;
   types = q.possible-Not a s i;
   unknown = ap (list_any (lost s)) (q.names-Not a) i;
   ambiguous = ap (list_any (several s)) (q.names-Not a) i;
@@ -102,7 +103,7 @@ judged-Not a s = λ i. record {
 pub judged-IsNull : (n : Bool) (a : Expr) (s : Scope) → judged (e.IsNull n a) s ≡ j.is_null n (judged a s)
 unfolding judged
 judged-IsNull n a s = λ i. record {
-  tree = q.made-IsNull n a s i;
+  tree = forms.made-IsNull n a s i;
   types = q.possible-IsNull n a s i;
   unknown = ap (list_any (lost s)) (q.names-IsNull n a) i;
   ambiguous = ap (list_any (several s)) (q.names-IsNull n a) i;
@@ -111,7 +112,7 @@ judged-IsNull n a s = λ i. record {
 pub judged-Like : (n : Bool) (a : Expr) (pattern : List ℕ) (s : Scope) → judged (e.Like n a pattern) s ≡ j.like n pattern (judged a s)
 unfolding judged
 judged-Like n a pattern s = λ i. record {
-  tree = q.made-Like n a pattern s i;
+  tree = forms.made-Like n a pattern s i;
   types = q.possible-Like n a pattern s i;
   unknown = ap (list_any (lost s)) (q.names-Like n a pattern) i;
   ambiguous = ap (list_any (several s)) (q.names-Like n a pattern) i;
@@ -120,7 +121,7 @@ judged-Like n a pattern s = λ i. record {
 pub judged-Cast : (a : Expr) (to : SqlType) (s : Scope) → judged (e.Cast a to) s ≡ j.cast to (judged a s)
 unfolding judged
 judged-Cast a to s = λ i. record {
-  tree = q.made-Cast a to s i;
+  tree = forms.made-Cast a to s i;
   types = q.possible-Cast a to s i;
   unknown = ap (list_any (lost s)) (q.names-Cast a to) i;
   ambiguous = ap (list_any (several s)) (q.names-Cast a to) i;
@@ -129,7 +130,7 @@ judged-Cast a to s = λ i. record {
 pub judged-Binary : (o : BinaryOp) (a b : Expr) (s : Scope) → judged (e.Binary o a b) s ≡ j.binary o (judged a s) (judged b s)
 unfolding judged
 judged-Binary o a b s = λ i. record {
-  tree = q.made-Binary o a b s i;
+  tree = forms.made-Binary o a b s i;
   types = q.possible-Binary o a b s i;
   unknown = two (lost s) (names (e.Binary o a b)) (names a) (names b) (q.names-Binary o a b) i;
   ambiguous = two (several s) (names (e.Binary o a b)) (names a) (names b) (q.names-Binary o a b) i;
@@ -138,7 +139,7 @@ judged-Binary o a b s = λ i. record {
 pub judged-Between : (n : Bool) (a b c : Expr) (s : Scope) → judged (e.Between n a b c) s ≡ j.between n (judged a s) (judged b s) (judged c s)
 unfolding judged
 judged-Between n a b c s = λ i. record {
-  tree = q.made-Between n a b c s i;
+  tree = forms.made-Between n a b c s i;
   types = q.possible-Between n a b c s i;
   unknown = three (lost s) (names (e.Between n a b c)) (names a) (names b) (names c) (q.names-Between n a b c) i;
   ambiguous = three (several s) (names (e.Between n a b c)) (names a) (names b) (names c) (q.names-Between n a b c) i;
@@ -172,7 +173,7 @@ ambiguous-each s (a ∷ es) = ap (λ b. list_any (several s) (names a) || b) (am
 pub judged-OneOf : (n : Bool) (a : Expr) (es : List Expr) (s : Scope) → judged (e.OneOf n a es) s ≡ j.one_of n (judged a s) (each_judged s es)
 unfolding judged
 judged-OneOf n a es s = λ i. record {
-  tree = (q.made-OneOf n a es s ∙ ap (λ z. after (made a s) (λ x. after z (m.one_of_tree n x))) (sym (trees-each s es))) i;
+  tree = (forms.made-OneOf n a es s ∙ ap (λ z. after (made a s) (λ x. after z (m.one_of_tree n x))) (sym (trees-each s es))) i;
   types = (q.possible-OneOf n a es s ∙ ap (t.one_of_types (possible a s)) (sym (types-each s es))) i;
   unknown = (two (lost s) (names (e.OneOf n a es)) (names a) (all_of (map names es)) (q.names-OneOf n a es)
       ∙ ap (λ b. list_any (lost s) (names a) || b) (sym (unknown-each s es))) i;
@@ -194,7 +195,7 @@ pub judged-Call : (g : List ℕ) (star : Bool) (es : List Expr) (s : Scope)
     → judged (e.Call g star es) s ≡ j.call g star (each_judged (scope_within g s) es)
 unfolding judged
 judged-Call g star es s = λ i. record {
-  tree = (q.made-Call g star es s ∙ ap (λ z. after z (m.named_tree (aggregate_of g) (function_of g) star)) (sym (trees-each (scope_within g s) es))) i;
+  tree = (forms.made-Call g star es s ∙ ap (λ z. after z (m.named_tree (aggregate_of g) (function_of g) star)) (sym (trees-each (scope_within g s) es))) i;
   types = (q.possible-Call g star es s ∙ ap (t.call_types (aggregate_of g) (function_of g) star) (sym (types-each (scope_within g s) es))) i;
   unknown = (ap (list_any (lost s)) (q.names-Call g star es) ∙ called (λ n. n == 0) s g (is_aggregate g) refl (all_of (map names es)) ∙ sym (unknown-each (scope_within g s) es)) i;
   ambiguous = (ap (list_any (several s)) (q.names-Call g star es) ∙ called (λ n. nat_lt 1 n) s g (is_aggregate g) refl (all_of (map names es)) ∙ sym (ambiguous-each (scope_within g s) es)) i;
@@ -235,7 +236,7 @@ pub judged-Name : (qualifier : Option (List ℕ)) (name : List ℕ) (s : Scope)
     → judged (e.Name qualifier name) s ≡ j.named (sense (meanings s qualifier name))
 unfolding judged
 judged-Name qualifier name s = (λ i. record {
-  tree = q.made-Name qualifier name s i;
+  tree = forms.made-Name qualifier name s i;
   types = q.possible-Name qualifier name s i;
   unknown = (ap (list_any (lost s)) (q.names-Name qualifier name) ∙ or-none (length (meanings s qualifier name) == 0)) i;
   ambiguous = (ap (list_any (several s)) (q.names-Name qualifier name) ∙ or-none (nat_lt 1 (length (meanings s qualifier name)))) i;
@@ -250,12 +251,12 @@ joined None p rest = refl
 joined (Some a) None rest = refl
 joined (Some a) (Some b) rest = refl
 
-when_trees-each : (s : Scope) (ws : List WhenText) → j.when_trees (map (judged_when s) ws) ≡ all_there s (map q.made_when ws)
+when_trees-each : (s : Scope) (ws : List WhenText) → j.when_trees (map (judged_when s) ws) ≡ all_there s (map forms.made_when ws)
 unfolding judged
 when_trees-each s [] = refl
 when_trees-each s (w ∷ ws) =
     joined (made w.cond s) (made w.result s) (j.when_trees (map (judged_when s) ws))
-    ∙ ap₂ (λ o z. after o (λ x. after z (λ xs. Some (x ∷ xs)))) (sym (q.made-when w s)) (when_trees-each s ws)
+    ∙ ap₂ (λ o z. after o (λ x. after z (λ xs. Some (x ∷ xs)))) (sym (forms.made-when w s)) (when_trees-each s ws)
 
 cond_types-each : (s : Scope) (ws : List WhenText) → j.cond_types (map (judged_when s) ws) ≡ conds_of (each_of (map q.possible_when ws) s)
 unfolding judged
@@ -288,7 +289,7 @@ pub judged-Case : (x : Option Expr) (ws : List WhenText) (z : Option Expr) (s : 
 unfolding judged
 judged-Case x ws z s =
     (λ i. record {
-      tree = (q.made-Case x ws z s
+      tree = (forms.made-Case x ws z s
           ∙ ap (λ o. after (perhaps_there s (perhaps_folded made x)) (λ a. after o (λ bs. after (perhaps_there s (perhaps_folded made z)) (m.case_tree a bs))))
           (sym (when_trees-each s ws))) i;
       types = (q.possible-Case x ws z s

@@ -1,6 +1,7 @@
 -- The tree that is made of an expression stands for it and has its types.
 use Rattle.std.proofs.Common.{◌≡◌, ℕ, Bool, true, false, not, ◌&&◌, if◌then◌else◌, List, [], ◌∷◌, map, Option, Some, None, is_some, refl, ap, sym, ◌∙◌, subst}
 use Rattle.std.specs.Prelude.{option_map}
+use Rattle.std.specs.List.{AllByRecursion as Each}
 use Rattle.ksql_types.specs.declared.value.SqlType.{SqlType}
 use Rattle.ksql_types.specs.declared.value.SqlType.TheVariants as sql
 use Rattle.ksql_types.specs.declared.value.Value.TheVariants as value
@@ -17,18 +18,19 @@ use Rattle.ksql_expr.specs.declared.typed.TypedWhen.{TypedWhen}
 use Rattle.ksql_expr.specs.Rules.{fits, binary_type, sign_type, can_cast, fun_type, agg_type, case_type, is_between_typed, is_in_typed, typed}
 use Rattle.ksql_expr.specs.Typing as w
 use Rattle.ksql_expr.specs.Typing.{HasTypes, of, truth, types, results}
-use Rattle.ksql_typing.specs.declared.scope.Scope.{Scope}
-use Rattle.ksql_typing.specs.Functions.{function_of, aggregate_of}
+use Rattle.ksql_scope.specs.declared.scope.Scope.{Scope}
+use Rattle.ksql_scope.specs.Functions.{function_of, aggregate_of}
+use Rattle.ksql_scope.specs.Scope.{Meaning, meanings, inside, seen}
+use Rattle.ksql_scope.proofs.Folds.{perhaps_folded}
+use Rattle.ksql_scope.proofs.Induction.{IfThere, InWhen, Steps, induction}
 use Rattle.ksql_typing.specs.Judged.{after}
 use Rattle.ksql_typing.specs.Made as m
 use Rattle.ksql_typing.specs.Made.{made, all_there, perhaps_there, with_type, truth_where, name_tree, named_tree, agg_call_tree, fun_call_tree}
-use Rattle.ksql_typing.specs.Scope.{Meaning, meanings, inside, seen}
 use Rattle.ksql_typing.specs.Standing as st
 use Rattle.ksql_typing.specs.Standing.{Stands, digits_value}
 use Rattle.ksql_typing.proofs.Equations as q
-use Rattle.ksql_typing.proofs.Folds.{perhaps_folded}
-use Rattle.ksql_typing.proofs.Induction.{Each, IfThere, InWhen, Steps, induction}
-use Rattle.ksql_typing.proofs.Trees.{AreMeaningsTyped, same-some, results-typed}
+use Rattle.ksql_typing.proofs.Trees.{AreMeaningsTyped, results-typed}
+use Rattle.ksql_typing.proofs.Inversion.{same-some}
 
 -- a tree of an expression, whose parts have their types on rows of these columns
 abbrev pub IsTree : List (Option SqlType) → Scope → Expr → Typed → Type 0

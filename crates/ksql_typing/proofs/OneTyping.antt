@@ -1,23 +1,23 @@
 -- An expression has at most one typed tree, or one fault, and not both.
-use Rattle.std.proofs.Common.{◌≡◌, ℕ, Bool, true, false, Option, Some, None, refl, ap, sym, ◌∙◌}
-use Rattle.std.specs.Prelude.{◌==◌, nat_lt, Result, Ok, Err}
+use Rattle.std.proofs.Common.{◌≡◌, Bool, true, false, refl, ap, ◌∙◌}
+use Rattle.std.specs.Prelude.{◌==◌, nat_lt, Ok}
 use Rattle.ksql_grammar.specs.declared.tree.Expr.{Expr}
 use Rattle.ksql_expr.specs.declared.typed.Typed.{Typed}
+use Rattle.ksql_scope.specs.declared.scope.Scope.{Scope}
+use Rattle.ksql_scope.specs.Possible.{possible}
+use Rattle.ksql_scope.specs.Uses.{has_unknown_name, has_ambiguous_name}
+use Rattle.ksql_scope.proofs.Having.{clear}
 use Rattle.ksql_typing.specs.declared.judged.Judged.{Judged}
-use Rattle.ksql_typing.specs.declared.scope.Scope.{Scope}
-use Rattle.ksql_typing.specs.declared.scope.TypeFault.{TypeFault}
-use Rattle.ksql_typing.specs.declared.scope.TypeFault.TheVariants.{UnknownColumn, AmbiguousColumn, TypeMismatch, Unsupported, OutOfMemory}
+use Rattle.ksql_typing.specs.declared.fault.TypeFault.{TypeFault}
+use Rattle.ksql_typing.specs.declared.fault.TypeFault.TheVariants.{UnknownColumn, AmbiguousColumn, TypeMismatch, Unsupported, OutOfMemory}
 use Rattle.ksql_typing.specs.Judged as j
 use Rattle.ksql_typing.specs.Judged.{judged}
-use Rattle.ksql_typing.specs.Made.{made}
-use Rattle.ksql_typing.specs.Possible.{possible}
 use Rattle.ksql_typing.specs.Standing as st
 use Rattle.ksql_typing.specs.Standing.{IsTypedTree}
 use Rattle.ksql_typing.specs.Typed.{HasFault}
-use Rattle.ksql_typing.specs.Uses.{has_unknown_name, has_ambiguous_name}
-use Rattle.ksql_typing.proofs.Having.{clear}
 use Rattle.ksql_typing.proofs.Meanings.{typed-meanings, typed-meanings-inside}
-use Rattle.ksql_typing.proofs.Trees.{Gives, gives, same-some}
+use Rattle.ksql_typing.proofs.Trees.{Gives, gives}
+use Rattle.ksql_typing.proofs.Inversion.{same-some}
 
 never : {A : Type 0} (b : Bool) → b ≡ true → b ≡ false → A
 never true k l = absurd (cc (l))

@@ -16,82 +16,29 @@ use Rattle.ksql_expr.specs.declared.typed.Typed.{Typed}
 use Rattle.ksql_expr.specs.declared.typed.TypedNode.{TypedNode, out-TypedNode}
 use Rattle.ksql_expr.specs.declared.typed.TypedNode.TheVariants as node
 use Rattle.ksql_expr.specs.declared.typed.TypedNode.TheVariants.{outs-Literal, outs-Sign, outs-Binary, outs-Not, outs-IsNull, outs-Between, outs-OneOf, outs-Like, outs-Cast, outs-Case, outs-Call, outs-Aggregate}
-use Rattle.ksql_expr.specs.declared.typed.TypedNode.TheOpen.{TypedNode-F}
 use Rattle.ksql_expr.specs.declared.typed.TypedWhen.{TypedWhen}
 use Rattle.ksql_expr.specs.Rules.{type_of, fits, binary_type, sign_type, can_cast, fun_type, agg_type, case_type, is_between_typed, is_in_typed, typed}
 use Rattle.ksql_expr.specs.Typing as w
-use Rattle.ksql_expr.specs.Typing.{HasTypes, Part, of, types, results}
-use Rattle.ksql_typing.specs.declared.scope.Scope.{Scope}
-use Rattle.ksql_typing.specs.Functions.{function_of, aggregate_of, is_unknown}
+use Rattle.ksql_expr.specs.Typing.{HasTypes, of, types, results}
+use Rattle.ksql_scope.specs.declared.scope.Scope.{Scope}
+use Rattle.ksql_scope.specs.Functions.{function_of, aggregate_of, is_unknown}
+use Rattle.ksql_scope.specs.Scope.{meanings, inside, seen}
+use Rattle.ksql_scope.specs.Typing as h
+use Rattle.ksql_scope.specs.Typing.{Has, digits_type, with_otherwise}
+use Rattle.ksql_scope.specs.Uses.{calls, all_of}
+use Rattle.ksql_scope.specs.Uses as uses
+use Rattle.ksql_scope.proofs.Deciding.{typed-is, retyped}
+use Rattle.ksql_scope.proofs.Disjoint.{no-aggregate, known-function, known-aggregate}
+use Rattle.ksql_scope.proofs.Equations as q
+use Rattle.ksql_scope.proofs.Folds.{perhaps_folded}
+use Rattle.ksql_scope.proofs.NameFlags.{none-either}
 use Rattle.ksql_typing.specs.Judged.{after}
 use Rattle.ksql_typing.specs.Made as m
 use Rattle.ksql_typing.specs.Made.{made, all_there, perhaps_there, with_type, truth_where, name_tree, named_tree}
-use Rattle.ksql_typing.specs.Scope.{meanings, inside, seen}
 use Rattle.ksql_typing.specs.Standing as st
 use Rattle.ksql_typing.specs.Standing.{Stands, Pair, digits_value}
-use Rattle.ksql_typing.specs.Typing as h
-use Rattle.ksql_typing.specs.Typing.{Has, digits_type, with_otherwise}
-use Rattle.ksql_typing.specs.Uses.{calls, all_of}
-use Rattle.ksql_typing.specs.Uses as uses
-use Rattle.ksql_typing.proofs.Disjoint.{no-aggregate, known-function, known-aggregate}
-use Rattle.ksql_typing.proofs.Equations as q
-use Rattle.ksql_typing.proofs.Folds.{perhaps_folded}
-use Rattle.ksql_typing.proofs.Inversion.{Checks, checks}
-use Rattle.ksql_typing.proofs.NameFlags.{none-either}
-
--- ---- the parts have their types
-
-abbrev Inner : List (Option SqlType) → Part → Type 0
-Inner cs (w.one x) = Unit {0}
-Inner cs (w.perhaps None) = Unit {0}
-Inner cs (w.perhaps (Some x)) = HasTypes cs (w.one x)
-Inner cs (w.each []) = Unit {0}
-Inner cs (w.each (x ∷ xs)) = HasTypes cs (w.one x) × HasTypes cs (w.each xs)
-Inner cs (w.whens []) = Unit {0}
-Inner cs (w.whens (y ∷ ys)) = HasTypes cs (w.one y.cond) × HasTypes cs (w.one y.result) × HasTypes cs (w.whens ys)
-
-inner : {cs : List (Option SqlType)} {p : Part} → HasTypes cs p → Inner cs p
-inner w.literal = tt
-inner (w.column a) = tt
-inner w.row_time = tt
-inner (w.sign a b) = tt
-inner (w.binary a b c) = tt
-inner (w.not a b) = tt
-inner (w.is_null a) = tt
-inner (w.between a b c d) = tt
-inner (w.one_of a b c) = tt
-inner (w.like a b) = tt
-inner (w.cast a b) = tt
-inner (w.case a b c d) = tt
-inner (w.call a b) = tt
-inner (w.aggregate a b) = tt
-inner w.left_out = tt
-inner (w.there a) = a
-inner w.none = tt
-inner (w.more a b) = (a, b)
-inner w.no_when = tt
-inner (w.more_whens a b c) = (a, b, c)
-
--- ---- a form has one type
-
-pub same-some : {A : Type 0} {o : Option A} {a b : A} → o ≡ Some a → o ≡ Some b → a ≡ b
-same-some {A} {o} {a} {b} k l = let e : Some a ≡ Some b = sym k ∙ l in cc
-
-one-type : (cs : List (Option SqlType)) (v : TypedNode-F TypedNode Typed TypedWhen) (t u : Option SqlType) → Checks cs t v → Checks cs u v → t ≡ u
-one-type cs (TypedNode-F.Literal x) t u k l = k ∙ sym l
-one-type cs (TypedNode-F.Column i) t u k l = same-some k l
-one-type cs TypedNode-F.RowTime t u k l = k ∙ sym l
-one-type cs (TypedNode-F.Sign minus a) t u k l = same-some k.1 l.1
-one-type cs (TypedNode-F.Binary o a b) t u k l = same-some k.2 l.2
-one-type cs (TypedNode-F.Not a) t u k l = k.2 ∙ sym l.2
-one-type cs (TypedNode-F.IsNull negated a) t u k l = k.1 ∙ sym l.1
-one-type cs (TypedNode-F.Between negated a low high) t u k l = k.4 ∙ sym l.4
-one-type cs (TypedNode-F.OneOf negated a es) t u k l = k.3 ∙ sym l.3
-one-type cs (TypedNode-F.Like negated a pattern) t u k l = k.2 ∙ sym l.2
-one-type cs (TypedNode-F.Cast a to) t u k l = k.2 ∙ sym l.2
-one-type cs (TypedNode-F.Case x ws z) t u k l = same-some k.3 l.3
-one-type cs (TypedNode-F.Call f es) t u k l = same-some k.1 l.1
-one-type cs (TypedNode-F.Aggregate f a) t u k l = same-some k.1 l.1
+use Rattle.ksql_typing.proofs.Equations as forms
+use Rattle.ksql_typing.proofs.Inversion.{Checks, checks, inner, same-some, one-type}
 
 -- ---- what follows
 
@@ -115,7 +62,7 @@ Gives s (st.perhaps a x) =
 Gives s (st.each es xs) =
     (all_there s (map made es) ≡ Some xs) × (list_any is_unknown (all_of (map calls es)) ≡ false) × Has s (h.each es (types xs))
 Gives s (st.whens ws ys) =
-    (all_there s (map q.made_when ws) ≡ Some ys) × (list_any is_unknown (all_of (map q.calls_when ws)) ≡ false)
+    (all_there s (map forms.made_when ws) ≡ Some ys) × (list_any is_unknown (all_of (map q.calls_when ws)) ≡ false)
     × Has s (h.whens ws (map (λ y. y.cond.ty) ys) (map (λ y. y.result.ty) ys))
 
 known : {a b : List (List ℕ)} → a ≡ b → list_any is_unknown b ≡ false → list_any is_unknown a ≡ false
@@ -135,10 +82,6 @@ of-two o x p y f r k l j = ap (λ v. after v (λ a. after p (f a))) k ∙ of-one
 pub of-three : {A B C D : Type 0} (o : Option A) (x : A) (p : Option B) (y : B) (v : Option C) (z : C) (f : A → B → C → Option D) (r : D)
     → o ≡ Some x → p ≡ Some y → v ≡ Some z → f x y z ≡ Some r → after o (λ a. after p (λ b. after v (f a b))) ≡ Some r
 of-three o x p y v z f r k l i j = ap (λ u. after u (λ a. after p (λ b. after v (f a b)))) k ∙ of-two p y v z (f x) r l i j
-
-pub typed-is : (o : Option SqlType) (t : Option SqlType) → typed o ≡ Some t → (u : SqlType) × (o ≡ Some u) × (t ≡ Some u)
-typed-is None t k = absurd (cc (k))
-typed-is (Some u) t k = (u, refl, cc)
 
 pub typed-form : (o : Option (Option SqlType)) (t : Option SqlType) (form : TypedNode) → o ≡ Some t → with_type o form ≡ Some (of t form)
 typed-form o t form k = ap (λ v. with_type v form) k
@@ -168,43 +111,39 @@ results-typed ws (Some z) = map-append (λ e. e.ty) (map (λ v. v.result) ws) (z
 pub call-made : (f : List ℕ) (star : Bool) (es : List Expr) (s : Scope) (o : Option AggFun) (p : Option Fun) → aggregate_of f ≡ o → function_of f ≡ p
     → made (ex.Call f star es) s ≡ after (all_there (seen (not (is_some o) && s.windowed) s) (map made es)) (named_tree o p star)
 call-made f star es s o p k l =
-    q.made-Call f star es s ∙ ap₂ (λ a b. after (all_there (seen (not (is_some a) && s.windowed) s) (map made es)) (named_tree a b star)) k l
+    forms.made-Call f star es s ∙ ap₂ (λ a b. after (all_there (seen (not (is_some a) && s.windowed) s) (map made es)) (named_tree a b star)) k l
 
 call-known : (f : List ℕ) (star : Bool) (es : List Expr) → is_unknown f ≡ false → list_any is_unknown (all_of (map calls es)) ≡ false
     → list_any is_unknown (calls (ex.Call f star es)) ≡ false
 call-known f star es k l = ap (list_any is_unknown) (q.calls-Call f star es) ∙ ap₂ (λ a b. a || b) k l
-
--- an expression of this type
-pub retyped : (s : Scope) (a : Expr) {t u : Option SqlType} → t ≡ u → Has s (h.one a u) → Has s (h.one a t)
-retyped s a k has = subst (λ v. Has s (h.one a v)) (sym k) has
 
 pub gives : {cs : List (Option SqlType)} {s : Scope} {p : Pair} → AreMeaningsTyped cs s → AreMeaningsTyped cs (inside s)
     → Stands s p → HaveTypes cs p → Gives s p
 gives {cs} {s} f g (st.digits {number = number} {t = t}) k =
     let form = node.Literal (digits_value number) in
     let e : t ≡ type_of (digits_value number) = subst (Checks cs t) (outs-Literal (digits_value number)) (checks k) in (
-      q.made-Digits number s ∙ ap (λ v. Some (of v form)) (sym e),
+      forms.made-Digits number s ∙ ap (λ v. Some (of v form)) (sym e),
       known (q.calls-Digits number) refl,
       retyped s (ex.Digits number) (e ∙ digits-typed number) h.digits,
     )
 gives {cs} {s} f g (st.text {content = content} {t = t}) k =
     let e : t ≡ Some sql.Text = subst (Checks cs t) (outs-Literal (value.Txt content)) (checks k) in (
-      q.made-Text content s ∙ ap (λ v. Some (of v (node.Literal (value.Txt content)))) (sym e),
+      forms.made-Text content s ∙ ap (λ v. Some (of v (node.Literal (value.Txt content)))) (sym e),
       known (q.calls-Text content) refl,
       retyped s (ex.Text content) e h.text,
     )
 gives {cs} {s} f g (st.truth {b = b} {t = t}) k =
     let e : t ≡ Some sql.Bool = subst (Checks cs t) (outs-Literal (value.Bool b)) (checks k) in (
-      q.made-Truth b s ∙ ap (λ v. Some (of v (node.Literal (value.Bool b)))) (sym e),
+      forms.made-Truth b s ∙ ap (λ v. Some (of v (node.Literal (value.Bool b)))) (sym e),
       known (q.calls-Truth b) refl,
       retyped s (ex.Truth b) e h.truth,
     )
 gives {cs} {s} f g (st.null {t = t}) k =
     let e : t ≡ None = subst (Checks cs t) (outs-Literal value.Null) (checks k) in
-    (q.made-Null s ∙ ap (λ v. Some (of v (node.Literal value.Null))) (sym e), known q.calls-Null refl, retyped s ex.Null e h.null)
+    (forms.made-Null s ∙ ap (λ v. Some (of v (node.Literal value.Null))) (sym e), known q.calls-Null refl, retyped s ex.Null e h.null)
 gives {cs} {s} f g (st.name {q = qualifier} {found = found} {form = form} {meant = meant} {t = t} e) k =
     let same : t ≡ Some meant = one-type cs (out-TypedNode form) t (Some meant) (checks k) (checks (f qualifier found form meant e)) in (
-      q.made-Name qualifier found s ∙ ap name_tree e ∙ ap (λ v. Some (of v form)) (sym same),
+      forms.made-Name qualifier found s ∙ ap name_tree e ∙ ap (λ v. Some (of v form)) (sym same),
       known (q.calls-Name qualifier found) refl,
       retyped s (ex.Name qualifier found) same (h.name e),
     )
@@ -213,7 +152,7 @@ gives {cs} {s} f g (st.sign {minus = minus} {a = a} {x = x} {t = t} i) k =
     let r = gives f g i c.0 in
     let u = typed-is (sign_type x.ty) t c.1 in
     let form = node.Sign minus x in (
-      q.made-Sign minus a s ∙ of-one (made a s) x (m.sign_tree minus) (of t form) r.0 (typed-form (typed (sign_type x.ty)) t form c.1),
+      forms.made-Sign minus a s ∙ of-one (made a s) x (m.sign_tree minus) (of t form) r.0 (typed-form (typed (sign_type x.ty)) t form c.1),
       known (q.calls-Sign minus a) r.1,
       retyped s (ex.Sign minus a) u.2 (h.sign r.2 u.1),
     )
@@ -223,7 +162,7 @@ gives {cs} {s} f g (st.binary {o = o} {a = a} {b = b} {x = x} {y = y} {t = t} i 
     let r2 = gives f g j c.1 in
     let u = typed-is (binary_type o x.ty y.ty) t c.2 in
     let form = node.Binary o x y in (
-      q.made-Binary o a b s ∙ of-two (made a s) x (made b s) y (m.binary_tree o) (of t form) r.0 r2.0 (typed-form (typed (binary_type o x.ty y.ty)) t form c.2),
+      forms.made-Binary o a b s ∙ of-two (made a s) x (made b s) y (m.binary_tree o) (of t form) r.0 r2.0 (typed-form (typed (binary_type o x.ty y.ty)) t form c.2),
       known (q.calls-Binary o a b) (no-either _ _ r.1 r2.1),
       retyped s (ex.Binary o a b) u.2 (h.binary r.2 r2.2 u.1),
     )
@@ -231,7 +170,7 @@ gives {cs} {s} f g (st.not {a = a} {x = x} {t = t} i) k =
     let c = subst (Checks cs t) (outs-Not x) (checks k) in
     let r = gives f g i c.0 in
     let form = node.Not x in (
-      q.made-Not a s ∙ of-one (made a s) x m.not_tree (of t form) r.0 (truth-form (fits sql.Bool x.ty) t form c.1 c.2),
+      forms.made-Not a s ∙ of-one (made a s) x m.not_tree (of t form) r.0 (truth-form (fits sql.Bool x.ty) t form c.1 c.2),
       known (q.calls-Not a) r.1,
       retyped s (ex.Not a) c.2 (h.not r.2 c.1),
     )
@@ -239,7 +178,7 @@ gives {cs} {s} f g (st.is_null {negated = negated} {a = a} {x = x} {t = t} i) k 
     let c = subst (Checks cs t) (outs-IsNull negated x) (checks k) in
     let r = gives f g i c.0 in
     let form = node.IsNull negated x in (
-      q.made-IsNull negated a s ∙ of-one (made a s) x (m.is_null_tree negated) (of t form) r.0 (truth-form true t form refl c.1),
+      forms.made-IsNull negated a s ∙ of-one (made a s) x (m.is_null_tree negated) (of t form) r.0 (truth-form true t form refl c.1),
       known (q.calls-IsNull negated a) r.1,
       retyped s (ex.IsNull negated a) c.1 (h.is_null r.2),
     )
@@ -249,7 +188,7 @@ gives {cs} {s} f g (st.between {negated = negated} {a = a} {low = a2} {high = a3
     let r2 = gives f g j c.1 in
     let r3 = gives f g l c.2 in
     let form = node.Between negated x y z in (
-      q.made-Between negated a a2 a3 s
+      forms.made-Between negated a a2 a3 s
           ∙ of-three (made a s) x (made a2 s) y (made a3 s) z (m.between_tree negated) (of t form) r.0 r2.0 r3.0
           (truth-form (is_between_typed x.ty y.ty z.ty) t form c.3 c.4),
       known (q.calls-Between negated a a2 a3) (no-either _ _ (no-either _ _ r.1 r2.1) r3.1),
@@ -260,7 +199,7 @@ gives {cs} {s} f g (st.one_of {negated = negated} {a = a} {es = es} {x = x} {xs 
     let r = gives f g i c.0 in
     let r2 = gives f g j c.1 in
     let form = node.OneOf negated x xs in (
-      q.made-OneOf negated a es s
+      forms.made-OneOf negated a es s
           ∙ of-two (made a s) x (all_there s (map made es)) xs (m.one_of_tree negated) (of t form) r.0 r2.0
           (truth-form (is_in_typed x.ty (types xs)) t form c.2 c.3),
       known (q.calls-OneOf negated a es) (no-either _ _ r.1 r2.1),
@@ -270,7 +209,7 @@ gives {cs} {s} f g (st.like {negated = negated} {a = a} {pattern = pattern} {x =
     let c = subst (Checks cs t) (outs-Like negated x pattern) (checks k) in
     let r = gives f g i c.0 in
     let form = node.Like negated x pattern in (
-      q.made-Like negated a pattern s ∙ of-one (made a s) x (m.like_tree negated pattern) (of t form) r.0 (truth-form (fits sql.Text x.ty) t form c.1 c.2),
+      forms.made-Like negated a pattern s ∙ of-one (made a s) x (m.like_tree negated pattern) (of t form) r.0 (truth-form (fits sql.Text x.ty) t form c.1 c.2),
       known (q.calls-Like negated a pattern) r.1,
       retyped s (ex.Like negated a pattern) c.2 (h.like r.2 c.1),
     )
@@ -278,7 +217,7 @@ gives {cs} {s} f g (st.cast {a = a} {to = to} {x = x} {t = t} i) k =
     let c = subst (Checks cs t) (outs-Cast x to) (checks k) in
     let r = gives f g i c.0 in
     let form = node.Cast x to in (
-      q.made-Cast a to s ∙ of-one (made a s) x (m.cast_tree to) (of t form) r.0 (cast-form (can_cast x.ty to) to t form c.1 c.2),
+      forms.made-Cast a to s ∙ of-one (made a s) x (m.cast_tree to) (of t form) r.0 (cast-form (can_cast x.ty to) to t form c.1 c.2),
       known (q.calls-Cast a to) r.1,
       retyped s (ex.Cast a to) c.2 (h.cast r.2 c.1),
     )
@@ -290,8 +229,8 @@ gives {cs} {s} f g (st.case {operand = a} {otherwise = b} {ws = ws} {x = x} {z =
     let form = node.Case x ys z in
     let e : m.type_of_case x ys z ≡ Some t =
     ap (case_type (option_map (λ e. e.ty) x) (map (λ v. v.cond.ty) ys)) (sym (results-typed ys z)) ∙ c.3 in (
-      q.made-Case a ws b s
-          ∙ of-three (perhaps_there s (perhaps_folded made a)) x (all_there s (map q.made_when ws)) ys (perhaps_there s (perhaps_folded made b)) z
+      forms.made-Case a ws b s
+          ∙ of-three (perhaps_there s (perhaps_folded made a)) x (all_there s (map forms.made_when ws)) ys (perhaps_there s (perhaps_folded made b)) z
           m.case_tree (of t form) r.0 r2.0 r3.0 (typed-form (m.type_of_case x ys z) t form e),
       known (q.calls-Case a ws b) (no-either _ _ (no-either _ _ r.1 r2.1) r3.1),
       h.case r.2 r2.2 r3.2 e,
@@ -338,8 +277,8 @@ gives {cs} {s} f g (st.more_whens {w = v} {ws = ws} {y = y} {ys = ys} i j l) k =
     let r = gives f g i c.0 in
     let r2 = gives f g j c.1 in
     let r3 = gives f g l c.2 in (
-      of-two (q.made_when v s) y (all_there s (map q.made_when ws)) ys (λ z zs. Some (z ∷ zs)) (y ∷ ys)
-          (q.made-when v s ∙ of-two (made v.cond s) y.cond (made v.result s) y.result (λ z zs. Some (m.typed_when z zs)) y r.0 r2.0 refl) r3.0 refl,
+      of-two (forms.made_when v s) y (all_there s (map forms.made_when ws)) ys (λ z zs. Some (z ∷ zs)) (y ∷ ys)
+          (forms.made-when v s ∙ of-two (made v.cond s) y.cond (made v.result s) y.result (λ z zs. Some (m.typed_when z zs)) y r.0 r2.0 refl) r3.0 refl,
       no-either _ _ (known (q.calls-when v) (no-either _ _ r.1 r2.1)) r3.1,
       h.more_whens r.2 r2.2 r3.2,
     )

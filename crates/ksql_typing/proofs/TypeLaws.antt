@@ -6,20 +6,20 @@ use Rattle.ksql_types.specs.declared.value.SqlType.TheVariants as sql
 use Rattle.ksql_grammar.specs.declared.tree.Expr.{Expr}
 use Rattle.ksql_expr.specs.declared.typed.Typed.{Typed}
 use Rattle.ksql_expr.specs.Rules.{fits}
-use Rattle.ksql_typing.specs.declared.scope.Scope.{Scope}
-use Rattle.ksql_typing.specs.Decisions.{HasValue, CanBeTrue, Agree, CanAgree, has_value, can_be_true, do_agree, can_agree}
+use Rattle.ksql_scope.specs.declared.scope.Scope.{Scope}
+use Rattle.ksql_scope.specs.Decisions.{has_value, can_be_true, do_agree, can_agree}
+use Rattle.ksql_scope.specs.Possible.{possible, has, is_some_in, some_in}
+use Rattle.ksql_scope.specs.Typing.{HasType, HasSomeType, HasValue, CanBeTrue, Agree, CanAgree}
+use Rattle.ksql_scope.specs.Uses.{has_unknown_name, has_ambiguous_name, has_unknown_function}
+use Rattle.ksql_scope.proofs.Deciding.{decides}
+use Rattle.ksql_scope.proofs.Having.{clear}
+use Rattle.ksql_scope.proofs.Possibly.{possibly}
+use Rattle.ksql_scope.proofs.Sets.{some-in, some-from, type-same, same-type}
 use Rattle.ksql_typing.specs.Judged.{judged}
-use Rattle.ksql_typing.specs.Possible.{possible, has, is_some_in, some_in}
 use Rattle.ksql_typing.specs.Standing.{IsTypedTree}
 use Rattle.ksql_typing.specs.Typed.{AreNamesClear}
-use Rattle.ksql_typing.specs.Typing.{HasType, HasSomeType}
-use Rattle.ksql_typing.specs.Uses.{has_unknown_name, has_ambiguous_name, has_unknown_function}
 use Rattle.ksql_typing.proofs.Answering.{made-is-tree, tree-of, some-type, some-in-set}
-use Rattle.ksql_typing.proofs.Deciding.{decides}
-use Rattle.ksql_typing.proofs.Having.{clear}
 use Rattle.ksql_typing.proofs.OneTyping.{tree-made}
-use Rattle.ksql_typing.proofs.Possibly.{possibly}
-use Rattle.ksql_typing.proofs.Sets.{some-in, some-from, type-same, same-type}
 
 -- ---- the types and the tree
 

@@ -8,8 +8,8 @@ use Rattle.ksql_grammar.specs.declared.tree.Expr.{Expr, fold-Expr}
 use Rattle.ksql_grammar.specs.declared.tree.Expr.TheVariants as e
 use Rattle.ksql_grammar.specs.declared.tree.Expr.TheOpen.{Expr-F, WhenText-F}
 use Rattle.ksql_grammar.specs.declared.tree.WhenText.{WhenText}
-use Rattle.ksql_typing.proofs.Folds as f
-use Rattle.ksql_typing.proofs.Folds.{perhaps_folded}
+use Rattle.ksql_scope.proofs.Folds as f
+use Rattle.ksql_scope.proofs.Folds.{perhaps_folded}
 
 abbrev or_zero : Option ℕ → ℕ
 or_zero None = 0

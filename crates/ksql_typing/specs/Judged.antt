@@ -11,19 +11,19 @@ use Rattle.ksql_grammar.specs.Expressions.{◌>>=◌}
 use Rattle.ksql_expr.specs.declared.typed.Typed.{Typed}
 use Rattle.ksql_expr.specs.declared.typed.TypedWhen.{TypedWhen}
 use Rattle.ksql_expr.specs.Typing.{of}
-use Rattle.ksql_typing.specs.declared.possible.Types.{Types}
+use Rattle.ksql_scope.specs.declared.possible.Types.{Types}
+use Rattle.ksql_scope.specs.declared.scope.Scope.{Scope}
+use Rattle.ksql_scope.specs.Functions.{function_of, aggregate_of}
+use Rattle.ksql_scope.specs.Possible as types
+use Rattle.ksql_scope.specs.Scope.{Meaning}
+use Rattle.ksql_scope.specs.Uses.{has_unknown_name, has_ambiguous_name}
 use Rattle.ksql_typing.specs.declared.judged.Judged.{Judged}
 use Rattle.ksql_typing.specs.declared.judged.Parts.{Parts}
 use Rattle.ksql_typing.specs.declared.judged.Perhaps.{Perhaps}
 use Rattle.ksql_typing.specs.declared.judged.WhenParts.{WhenParts}
-use Rattle.ksql_typing.specs.declared.scope.Scope.{Scope}
-use Rattle.ksql_typing.specs.declared.scope.TypeFault.{TypeFault}
-use Rattle.ksql_typing.specs.declared.scope.TypeFault.TheVariants.{UnknownColumn, AmbiguousColumn, TypeMismatch, Unsupported}
-use Rattle.ksql_typing.specs.Functions.{function_of, aggregate_of}
+use Rattle.ksql_typing.specs.declared.fault.TypeFault.{TypeFault}
+use Rattle.ksql_typing.specs.declared.fault.TypeFault.TheVariants.{UnknownColumn, AmbiguousColumn, TypeMismatch, Unsupported}
 use Rattle.ksql_typing.specs.Made as made
-use Rattle.ksql_typing.specs.Possible as types
-use Rattle.ksql_typing.specs.Scope.{Meaning}
-use Rattle.ksql_typing.specs.Uses.{has_unknown_name, has_ambiguous_name}
 
 -- what is found out of an expression in a scope: its typed tree, the types that it can have, and whether a name in it
 -- stands for nothing or for several things

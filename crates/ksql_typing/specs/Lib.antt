@@ -1,11 +1,4 @@
-pub mod Decisions
-pub mod Functions
 pub mod Judged
 pub mod Made
-pub mod Possible
-pub mod Scope
-pub mod Senses
 pub mod Standing
 pub mod Typed
-pub mod Typing
-pub mod Uses

@@ -1,12 +1,12 @@
 -- Why an expression has no typed tree: the first of these that applies.
-use Rattle.std.specs.Prelude.{◌≡◌, Bool, true, false, Result, Ok, Err}
+use Rattle.std.specs.Prelude.{◌≡◌, true, false, Result, Err}
 use Rattle.ksql_grammar.specs.declared.tree.Expr.{Expr}
 use Rattle.ksql_expr.specs.declared.typed.Typed.{Typed}
-use Rattle.ksql_typing.specs.declared.scope.Scope.{Scope}
-use Rattle.ksql_typing.specs.declared.scope.TypeFault.{TypeFault}
-use Rattle.ksql_typing.specs.declared.scope.TypeFault.TheVariants.{UnknownColumn, AmbiguousColumn, TypeMismatch, Unsupported, OutOfMemory}
-use Rattle.ksql_typing.specs.Typing.{HasSomeType}
-use Rattle.ksql_typing.specs.Uses.{has_unknown_name, has_ambiguous_name, has_unknown_function}
+use Rattle.ksql_scope.specs.declared.scope.Scope.{Scope}
+use Rattle.ksql_scope.specs.Typing.{HasSomeType}
+use Rattle.ksql_scope.specs.Uses.{has_unknown_name, has_ambiguous_name, has_unknown_function}
+use Rattle.ksql_typing.specs.declared.fault.TypeFault.{TypeFault}
+use Rattle.ksql_typing.specs.declared.fault.TypeFault.TheVariants.{UnknownColumn, AmbiguousColumn, TypeMismatch, Unsupported, OutOfMemory}
 
 -- each name stands for one thing
 abbrev pub AreNamesClear : Scope → Expr → Type 0

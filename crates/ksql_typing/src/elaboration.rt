@@ -2,18 +2,18 @@
 
 ghost use Rattle.std.specs.Prelude.{◌≡◌, ◌≤◌, ◌-◌, ◌^◌, ◌⊎◌, length, IfOk, IfErr};
 ghost use Rattle.ksql_expr.specs.declared.typed.Typed.{Typed as OneTyped};
-ghost use Rattle.ksql_typing.specs.declared.scope.TypeFault.{TypeFault as OneFault};
+ghost use Rattle.ksql_scope.specs.Uses.{IsSmall};
+ghost use Rattle.ksql_typing.specs.declared.fault.TypeFault.{TypeFault as OneFault};
 ghost use Rattle.ksql_typing.specs.Judged as spec;
 ghost use Rattle.ksql_typing.specs.Standing.{IsTypedTree};
 ghost use Rattle.ksql_typing.specs.Typed.{HasFault, Answers};
-ghost use Rattle.ksql_typing.specs.Uses.{IsSmall};
 
+use crate::fault::TypeFault;
 use crate::judge::judge;
 use crate::judged::Judged;
-use crate::possible::{Types, is_some_in};
-use crate::scope::{Scope, TypeFault};
 use ksql_expr::Typed;
 use ksql_grammar::Expr;
+use ksql_scope::{Scope, Types, has_some_type};
 use std::alloc::Global;
 
 fn refusal(types: Types, unknown: bool, ambiguous: bool) -> TypeFault
@@ -25,7 +25,7 @@ fn refusal(types: Types, unknown: bool, ambiguous: bool) -> TypeFault
     if ambiguous {
         return TypeFault::AmbiguousColumn;
     }
-    if is_some_in(types) {
+    if has_some_type(types) {
         return TypeFault::Unsupported;
     }
     TypeFault::TypeMismatch

@@ -2,24 +2,23 @@
 
 ghost use Rattle.std.specs.Prelude.{◌≡◌, ◌≤◌, ◌-◌, ◌^◌, ◌++◌, ◌∷◌, [], ◌||◌, List, length, option_map, Some, IfOk};
 ghost use Rattle.ksql_types.specs.declared.value.Value.TheVariants as value;
+ghost use Rattle.ksql_scope.specs.Functions as functions;
+ghost use Rattle.ksql_scope.specs.Possible as types;
+ghost use Rattle.ksql_scope.specs.Senses.{sense, view};
+ghost use Rattle.ksql_scope.specs.Typing.{digits_type};
+ghost use Rattle.ksql_scope.specs.Scope.{meanings, seen};
 ghost use Rattle.ksql_typing.specs.declared.judged.Judged.{Judged as OneJudged};
 ghost use Rattle.ksql_typing.specs.Judged as spec;
 ghost use Rattle.ksql_typing.specs.Judged.{AreOf, AreOfWhens, JudgedWhen, after};
-ghost use Rattle.ksql_typing.specs.Standing.{digits_value};
-ghost use Rattle.ksql_typing.specs.Functions as functions;
-ghost use Rattle.ksql_typing.specs.Made as made;
-ghost use Rattle.ksql_typing.specs.Possible as types;
-ghost use Rattle.ksql_typing.specs.Senses.{sense, view};
 ghost use Rattle.ksql_expr.specs.Typing.{of};
-ghost use Rattle.ksql_typing.specs.Typing.{digits_type};
-ghost use Rattle.ksql_typing.specs.Scope.{meanings, seen};
+ghost use Rattle.ksql_typing.specs.Standing.{digits_value};
+ghost use Rattle.ksql_typing.specs.Made as made;
 
 use crate::form;
-use crate::function::{aggregate_of, function_of};
-use crate::possible::{self, Types};
-use crate::scope::Scope;
-use crate::sense::{Sense, sense_of};
 use ksql_expr::{AggFun, Typed, TypedNode, TypedWhen};
+use ksql_scope::{
+    Scope, Sense, Types, aggregate_of, function_of, has_some_type, possible, sense_of,
+};
 use ksql_types::{BinaryOp, Chars, SqlType};
 use std::alloc::{AllocError, Global};
 
@@ -366,7 +365,7 @@ pub fn is_null(alloc: Global, negated: bool, arg: Judged) -> Result<Judged, Allo
 {
     Ok(Judged {
         tree: is_null_tree(alloc, negated, arg.tree)?,
-        types: possible::where_found(possible::is_some_in(arg.types), Some(SqlType::Bool)),
+        types: possible::where_found(has_some_type(arg.types), Some(SqlType::Bool)),
         unknown: arg.unknown,
         ambiguous: arg.ambiguous,
     })

@@ -4,15 +4,14 @@ ghost use Rattle.std.specs.Prelude.{◌≡◌, ◌↔◌, false, IsTrue, Option,
 ghost use Rattle.ksql_types.specs.declared.value.SqlType.{SqlType as OneType};
 ghost use Rattle.ksql_grammar.specs.declared.tree.Expr.{Expr as OneExpr};
 ghost use Rattle.ksql_expr.specs.declared.typed.Typed.{Typed as OneTyped};
-ghost use Rattle.ksql_typing.specs.declared.scope.Scope.{Scope as OneScope};
-ghost use Rattle.ksql_typing.specs.Decisions as decided;
-ghost use Rattle.ksql_typing.specs.Decisions.{HasValue, CanBeTrue, CanAgree};
+ghost use Rattle.ksql_scope.specs.declared.scope.Scope.{Scope as OneScope};
+ghost use Rattle.ksql_scope.specs.Decisions as decided;
+ghost use Rattle.ksql_scope.specs.Possible.{has, is_some_in};
+ghost use Rattle.ksql_scope.specs.Typing.{HasType, HasSomeType, HasValue, CanBeTrue, CanAgree};
+ghost use Rattle.ksql_scope.specs.Uses.{has_unknown_function};
 ghost use Rattle.ksql_typing.specs.Judged.{judged};
-ghost use Rattle.ksql_typing.specs.Possible.{has, is_some_in};
 ghost use Rattle.ksql_typing.specs.Standing.{IsTypedTree};
 ghost use Rattle.ksql_typing.specs.Typed.{AreNamesClear};
-ghost use Rattle.ksql_typing.specs.Typing.{HasType, HasSomeType};
-ghost use Rattle.ksql_typing.specs.Uses.{has_unknown_function};
 
 /// What is found out of an expression is exact: its types are those that it can have, and its tree is the one typed tree
 /// of the expression. There is a tree of each type of an expression whose functions are all known. The tree's type is

@@ -3,6 +3,7 @@ ghost use Rattle.std.specs.List.{All, flat_map};
 ghost use Rattle.record_codec.specs.Spelling as spelled;
 ghost use Rattle.record_codec.specs.Spelling.{spelling, IsWithinLimits, IsSpellable, IsShort, IsShortRow, IsSpellableRow, IsTypedValue};
 
+use byteorder::{BigEndian, ByteOrder};
 use ksql_place::{Body, Change, Stamp};
 use ksql_types::{Bytes, Items, Row, Span, Value};
 use std::alloc::{AllocError, Global};
@@ -11,14 +12,18 @@ use std::alloc::{AllocError, Global};
 fn put_four(out: &mut Vec<u8>, number: u32) -> Result<(), AllocError>
     ensures { OnOk result (out.new.items ≡ out.old.items ++ spelled.four number) }
 {
-    out.extend_from_slice(&number.to_be_bytes())
+    let mut bytes = [0; 4];
+    BigEndian::write_u32(&mut bytes, number);
+    out.extend_from_slice(&bytes)
 }
 
 #[tactic(auto, unfolding(crate::specs::Spelling::eight))]
 fn put_eight(out: &mut Vec<u8>, number: u64) -> Result<(), AllocError>
     ensures { OnOk result (out.new.items ≡ out.old.items ++ spelled.eight number) }
 {
-    out.extend_from_slice(&number.to_be_bytes())
+    let mut bytes = [0; 8];
+    BigEndian::write_u64(&mut bytes, number);
+    out.extend_from_slice(&bytes)
 }
 
 fn put_value(out: &mut Vec<u8>, value: &Value) -> Result<(), AllocError>

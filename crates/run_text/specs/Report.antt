@@ -1,15 +1,17 @@
 -- The report on the relations of a program.
-use Rattle.std.specs.Prelude.{ℕ, ◌≤◌, List, [], ◌∷◌, ◌++◌, length, flat_map, count_by, codes, decimal, Bool, true, false, ◌==◌, ◌&&◌, slice_get}
+use Rattle.std.specs.Prelude.{ℕ, ◌≤◌, List, [], ◌∷◌, ◌++◌, length, flat_map, count_by, codes, decimal, Bool, true, false, not, ◌==◌, ◌&&◌, ◌||◌, slice_get}
 use Rattle.std.specs.Option.{option_map_or}
 use Rattle.ksql_types.specs.declared.relation.Kind.{Kind}
 use Rattle.ksql_types.specs.declared.relation.Kind.TheVariants as kinds
 use Rattle.ksql_types.specs.declared.relation.Relation.{Relation}
+use Rattle.ksql_types.specs.declared.value.Value.{Value}
 use Rattle.ksql_place.specs.declared.change.Change.{Change}
 use Rattle.ksql_place.specs.declared.change.Decoded.{Decoded}
 use Rattle.ksql_place.specs.declared.change.Decoded.TheVariants.{Good, Tombstone, Skipped}
 use Rattle.ksql_place.specs.declared.change.SourceRecord.{SourceRecord}
 use Rattle.ksql_program.specs.declared.program.Item.{Item}
 use Rattle.ksql_program.specs.Program.{relation_of, relations}
+use Rattle.query_meaning.specs.Built.{is_stream}
 use Rattle.run_text.specs.Printed.{change_line, order_line}
 
 -- a relation of 1 to 64 partitions
@@ -28,26 +30,26 @@ pub record Section : Type 0 where
 abbrev pub topic_name : List Relation → ℕ → List ℕ
 topic_name relations number = option_map_or (λ relation. relation.topic) (slice_get relations number) []
 
--- whether a value was skipped
-abbrev pub was_skipped : Decoded → Bool
-was_skipped (Good row) = false
-was_skipped Tombstone = false
-was_skipped Skipped = true
+-- whether a record has what a relation of this kind takes: a stream a row; a table a key, and a row or a tombstone
+abbrev pub is_good : Kind → List Value → Decoded → Bool
+is_good kind key (Good row) = is_stream kind || not (length key == 0)
+is_good kind key Tombstone = not (is_stream kind) && not (length key == 0)
+is_good kind key Skipped = false
 
--- whether a record is a skipped one of this topic
-abbrev pub is_skipped : ℕ → SourceRecord → Bool
-is_skipped topic fed = (fed.stamp.topic == topic) && was_skipped fed.value
+-- whether a record is a skipped one of a relation's topic: one that isn't good
+abbrev pub is_skipped : Relation → SourceRecord → Bool
+is_skipped relation fed = (fed.stamp.topic == relation.number) && not (is_good relation.kind fed.key fed.value)
 
--- how many records of this topic were skipped
-abbrev pub skipped_of : ℕ → List SourceRecord → ℕ
-skipped_of topic order = count_by (is_skipped topic) order
+-- how many records of a relation's topic were skipped
+abbrev pub skipped_of : Relation → List SourceRecord → ℕ
+skipped_of relation order = count_by (is_skipped relation) order
 
 -- what is shown of an item with these changes
 unfoldable pub section_of : ℕ → Item → List SourceRecord → List Change → Section
 section_of closed item order changes = record {
   relation = relation_of item;
   closed = closed;
-  skipped = skipped_of (relation_of item).number order;
+  skipped = skipped_of (relation_of item) order;
   changes = changes;
 }
 

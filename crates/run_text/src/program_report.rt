@@ -2,7 +2,7 @@
 
 ghost use Rattle.std.specs.Prelude.{◌≡◌, ◌++◌, [], All, IfOk, OnOk, flat_map, slice_index_or, string_bytes};
 ghost use Rattle.ksql_program.specs.Program.{relation_of, relations};
-ghost use Rattle.run_text.specs.Report.{HasPartitions, head_line, is_skipped, kind_text, order_text, origin_text, report, section_of, section_text, sections, skipped_of, topic_name};
+ghost use Rattle.run_text.specs.Report.{HasPartitions, head_line, is_good, is_skipped, kind_text, order_text, origin_text, report, section_of, section_text, sections, skipped_of, topic_name};
 
 use crate::printed::{push_change, push_order_line};
 use ksql_place::{Change, Changes, Decoded, SourceRecord};
@@ -12,8 +12,8 @@ use std::alloc::{AllocError, Global};
 use topic_files::labels;
 
 /// The report on a program's relations: the records that were fed in their order, a head line and the changes of
-/// each relation, up to the feed `closed`, and a last line. `lists` has the changes of each relation at its number.
-/// The only error is want of memory.
+/// each relation, and a last line. `lists` has the changes of each relation at its number, and `closed` is the feed
+/// that each head line shows. The only error is want of memory.
 #[tactic(auto, using(crate::proofs::ReportLemmas::appends), unfolding(crate::specs::Report::report))]
 pub fn report(
     alloc: Global,
@@ -151,28 +151,40 @@ fn push_origin(
     order: &[SourceRecord],
 ) -> Result<(), AllocError>
     ensures { OnOk result (string_bytes out.new ≡ string_bytes out.old
-        ++ origin_text relation.now.declared closed (skipped_of relation.now.number order.now)) }
+        ++ origin_text relation.now.declared closed (skipped_of relation.now order.now)) }
 {
     if relation.declared {
-        let skipped = skipped_of(relation.number, order);
+        let skipped = skipped_of(relation, order);
         write!(out, " declared c={closed} skipped={skipped}")
     } else {
         write!(out, " query c={closed}")
     }
 }
 
-/// How many records of this topic were skipped.
-fn skipped_of(topic: u32, order: &[SourceRecord]) -> usize
-    ensures { result ≡ skipped_of topic order.now }
+/// How many records of a relation's topic were skipped.
+fn skipped_of(relation: &Relation, order: &[SourceRecord]) -> usize
+    ensures { result ≡ skipped_of relation.now order.now }
 {
-    order.iter().filter(|fed| is_skipped(topic, fed)).count()
+    order.iter().filter(|fed| is_skipped(relation, fed)).count()
 }
 
-/// Whether the record is a skipped one of this topic.
-fn is_skipped(topic: u32, fed: &SourceRecord) -> bool
-    ensures { result ≡ is_skipped topic fed.now }
+/// Whether the record is a skipped one of a relation's topic.
+fn is_skipped(relation: &Relation, fed: &SourceRecord) -> bool
+    ensures { result ≡ is_skipped relation.now fed.now }
 {
-    fed.stamp.topic == topic && matches!(&fed.value, Decoded::Skipped)
+    fed.stamp.topic == relation.number && !is_good(relation.kind, fed)
+}
+
+/// Whether a record has what a relation of this kind takes: a stream a row; a table a key, and a row or a tombstone.
+fn is_good(kind: Kind, fed: &SourceRecord) -> bool
+    ensures { result ≡ is_good kind fed.now.key fed.now.value }
+{
+    let has_key = !fed.key.items().is_empty();
+    match &fed.value {
+        Decoded::Good(_) => kind == Kind::Stream || has_key,
+        Decoded::Tombstone => kind != Kind::Stream && has_key,
+        Decoded::Skipped => false,
+    }
 }
 
 #[cfg(test)]

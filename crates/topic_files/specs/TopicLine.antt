@@ -9,7 +9,7 @@ use Rattle.serde_json.specs.Find.{get, as_null, as_bool, as_number, as_i64, as_s
 abbrev pub last_time : ℕ
 last_time = 2 ^ 53
 
--- what a line says as JSON, None where it isn't UTF-8 or isn't JSON
+-- what a line says as JSON, None where it isn't UTF-8 or serde_json doesn't read it
 abbrev pub data_of : List ℕ → Option Data
 data_of line = if is_utf8 line then read line else None
 

@@ -10,7 +10,8 @@ use std::alloc::{AllocError, Global};
 /// The greatest time of a record, in milliseconds.
 const LAST_TIME: u64 = 1 << 53;
 
-/// What a line says as JSON, None where it isn't UTF-8 or isn't JSON.
+/// What a line says as JSON, None where it isn't UTF-8 or `serde_json` doesn't read it: it is no JSON, is nested deeper
+/// than 127, or has a number too large for a float.
 pub(crate) fn json_of_line(alloc: Global, line: &[u8]) -> Result<Option<Json>, AllocError>
     ensures { IfOk result (λ json. option_map view json ≡ data_of line.now) }
 {

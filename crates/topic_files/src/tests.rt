@@ -1,7 +1,8 @@
 use super::*;
 use ksql_place::Decoded;
-use ksql_types::{Chars, Column, Format, Items, Kind, Relation, Schema, SqlType, Value};
+use ksql_types::{Chars, Column, CopyOf, Format, Items, Kind, Relation, Schema, SqlType, Value};
 use std::alloc::{AllocError, Global};
+use std::fmt::Debug;
 use std::test::Fail;
 
 /// All room that there is.
@@ -279,5 +280,29 @@ fn a_row_is_printed_without_blanks(rt: HostRuntime) -> Result<(), Fail> {
         printed.items(),
         b"{\"A\":1,\"b\\\"\":\"x\\n\",\"C\":null,\"D\":true}".as_slice()
     );
+    Ok(())
+}
+
+fn written<T: Debug>(alloc: Global, value: &T) -> Result<String, Fail> {
+    Ok(format!(in alloc; "{value:?}")?)
+}
+
+// Whether a value is copied, and its copy is written as it is.
+fn is_copied<T: CopyOf + Debug>(alloc: Global, value: &T) -> Result<bool, Fail> {
+    let copied = written(alloc, &value.copy(alloc)?)?;
+    Ok(copied.as_str() == written(alloc, value)?.as_str())
+}
+
+#[test]
+fn copies_are_equal(rt: HostRuntime) -> Result<(), Fail> {
+    let alloc = rt.alloc();
+    let line = "{\"t\":4,\"k\":\"a\",\"v\":{\"AB\":1}}";
+    let fed = one(alloc, Kind::Stream, SqlType::Int, line)?;
+    assert!(rt; is_copied(alloc, &fed)?);
+    let lines = TopicLines {
+        relation: 3,
+        feds: Items::of(vec![in alloc; fed]?),
+    };
+    assert!(rt; is_copied(alloc, &lines)?);
     Ok(())
 }

@@ -252,13 +252,17 @@ const STREAM: &str = "CREATE STREAM S (ID VARCHAR KEY, N INTEGER)
   WITH (KAFKA_TOPIC='s', VALUE_FORMAT='JSON', PARTITIONS=1);
 ";
 
+/// A run: its script, the lines of the topics s and k, the exit status and what is written.
+type Run = (&'static str, &'static str, &'static str, u8, &'static str);
+
 // Sums wrap, by zero is NULL, and NULL = NULL is false. A value that isn't of its column's type is skipped. A line that
-// isn't a topic line is refused. Records of one key keep their order in its partition, where a late one waits.
-const RUNS: [(&str, &str, &str, &str); 7] = [
+// isn't a topic line is refused. PARTITION BY gives NULL no key.
+const RUNS: [Run; 5] = [
     (
         "CREATE STREAM X AS SELECT ID, N + 1 AS A, 7 / 0 AS B, NULL = NULL AS C FROM S;",
         "{\"t\":1,\"k\":\"a\",\"v\":{\"N\":2147483647}}\n",
         "",
+        0,
         "order 1
 1 s 0 0 1
 stream S declared c=1 skipped=0 changes=1
@@ -272,6 +276,7 @@ end
         "",
         "{\"t\":1,\"k\":\"a\",\"v\":{\"N\":\"x\"}}\n",
         "",
+        0,
         "order 1
 1 s 0 0 1
 stream S declared c=1 skipped=1 changes=0
@@ -282,40 +287,21 @@ end
         "",
         "{\"t\":1,\"k\":\"a\",\"v\":{\"N\":\"x\"}}\n{\"k\":\"a\",\"v\":{\"N\":1}}\n",
         "",
+        4,
         "ksql: topic s line 2: BadLine\n",
     ),
     (
         "",
         "{\"t\":1,\"k\":\"a\",\"v\":{\"N\":\"x\"}}\n{\"t\":1,\"k\":\"a\"",
         "",
+        4,
         "ksql: topic s line 2: BadLine\n",
-    ),
-    (
-        "CREATE STREAM K (ID VARCHAR KEY, PAGE VARCHAR) WITH (KAFKA_TOPIC='k', VALUE_FORMAT='JSON', PARTITIONS=2);",
-        "",
-        "{\"t\":9,\"k\":\"a\",\"v\":{}}\n{\"t\":1,\"k\":\"a\",\"v\":{}}\n{\"t\":5,\"k\":\"b\",\"v\":{}}\n",
-        "order 3
-1 k 0 0 5
-1 k 1 0 9
-1 k 1 1 1
-stream S declared c=1 skipped=0 changes=0
-stream K declared c=1 skipped=0 changes=3
-{\"p\":0,\"t\":5,\"k\":\"b\",\"v\":{\"PAGE\":null}}
-{\"p\":1,\"t\":9,\"k\":\"a\",\"v\":{\"PAGE\":null}}
-{\"p\":1,\"t\":1,\"k\":\"a\",\"v\":{\"PAGE\":null}}
-end
-",
-    ),
-    (
-        "CREATE TABLE G AS SELECT ID, COUNT(*) AS C FROM S GROUP BY ID;",
-        "",
-        "",
-        "ksql: script statement 2: S15 Unsupported\n",
     ),
     (
         "CREATE STREAM X AS SELECT N, ID FROM S PARTITION BY N;",
         "{\"t\":1,\"k\":\"a\",\"v\":{}}\n{\"t\":2,\"k\":\"a\",\"v\":{\"N\":7}}\n",
         "",
+        0,
         "order 2
 1 s 0 0 1
 1 s 0 1 2
@@ -333,10 +319,117 @@ end
 #[test]
 fn streams_are_run_behind_a_stream(rt: HostRuntime) -> Result<(), Fail> {
     let alloc = rt.alloc();
-    for (statement, s_lines, k_lines, wanted) in RUNS {
+    for (statement, s_lines, k_lines, status, wanted) in RUNS {
         let script = format!(in alloc; "{STREAM}{statement}")?;
-        let (_, written) = run_on(&rt, alloc, script.as_str().as_bytes(), s_lines, k_lines)?;
+        let (code, written) = run_on(&rt, alloc, script.as_str().as_bytes(), s_lines, k_lines)?;
         assert_eq!(rt; written.as_slice(), wanted.as_bytes());
+        assert_eq!(rt; code, status);
+    }
+    Ok(())
+}
+
+// Records of one key keep their order in its partition, where a late one waits. Of equal times the smaller topic is
+// first, and then the smaller partition. Keys of each type have their lanes, and a key of another type is skipped.
+const ORDERS: [Run; 4] = [
+    (
+        "CREATE STREAM K (ID VARCHAR KEY, PAGE VARCHAR) WITH (KAFKA_TOPIC='k', VALUE_FORMAT='JSON', PARTITIONS=2);",
+        "",
+        "{\"t\":9,\"k\":\"a\",\"v\":{}}\n{\"t\":1,\"k\":\"a\",\"v\":{}}\n{\"t\":5,\"k\":\"b\",\"v\":{}}\n",
+        0,
+        "order 3
+1 k 0 0 5
+1 k 1 0 9
+1 k 1 1 1
+stream K declared c=1 skipped=0 changes=3
+{\"p\":0,\"t\":5,\"k\":\"b\",\"v\":{\"PAGE\":null}}
+{\"p\":1,\"t\":9,\"k\":\"a\",\"v\":{\"PAGE\":null}}
+{\"p\":1,\"t\":1,\"k\":\"a\",\"v\":{\"PAGE\":null}}
+end
+",
+    ),
+    (
+        "CREATE STREAM S (ID VARCHAR KEY, N INTEGER) WITH (KAFKA_TOPIC='s');
+CREATE STREAM K (ID VARCHAR KEY, N INTEGER) WITH (KAFKA_TOPIC='k', PARTITIONS=2);",
+        "{\"t\":5,\"k\":\"a\",\"v\":{\"N\":1}}\n{\"t\":3,\"k\":\"a\",\"v\":{\"N\":2}}\n",
+        "{\"t\":5,\"k\":\"a\",\"v\":{}}\n{\"t\":5,\"k\":\"b\",\"v\":{}}\n{\"t\":4,\"k\":\"a\",\"v\":{}}\n",
+        0,
+        "order 5
+1 s 0 0 5
+1 s 0 1 3
+1 k 0 0 5
+1 k 1 0 5
+1 k 1 1 4
+stream S declared c=1 skipped=0 changes=2
+{\"p\":0,\"t\":5,\"k\":\"a\",\"v\":{\"N\":1}}
+{\"p\":0,\"t\":3,\"k\":\"a\",\"v\":{\"N\":2}}
+stream K declared c=1 skipped=0 changes=3
+{\"p\":0,\"t\":5,\"k\":\"b\",\"v\":{\"N\":null}}
+{\"p\":1,\"t\":5,\"k\":\"a\",\"v\":{\"N\":null}}
+{\"p\":1,\"t\":4,\"k\":\"a\",\"v\":{\"N\":null}}
+end
+",
+    ),
+    (
+        "CREATE STREAM S (ID INTEGER KEY, N INTEGER) WITH (KAFKA_TOPIC='s', PARTITIONS=4);
+CREATE STREAM K (ID BIGINT KEY, N BOOLEAN) WITH (KAFKA_TOPIC='k', PARTITIONS=4);",
+        "{\"t\":1,\"k\":7,\"v\":{\"N\":1}}\n{\"t\":2,\"k\":\"7\",\"v\":{}}\n",
+        "{\"t\":3,\"k\":258,\"v\":{\"n\":true}}\n",
+        0,
+        "order 3
+1 s 3 0 1
+1 s 1 0 2
+1 k 1 0 3
+stream S declared c=1 skipped=1 changes=1
+{\"p\":3,\"t\":1,\"k\":7,\"v\":{\"N\":1}}
+stream K declared c=1 skipped=0 changes=1
+{\"p\":1,\"t\":3,\"k\":258,\"v\":{\"N\":true}}
+end
+",
+    ),
+    (
+        "CREATE STREAM S (ID BOOLEAN KEY, N VARCHAR) WITH (KAFKA_TOPIC='s', PARTITIONS=4);",
+        "{\"t\":1,\"k\":true,\"v\":{\"N\":7}}\n{\"t\":1,\"k\":1,\"v\":{}}\n",
+        "",
+        0,
+        "order 2
+1 s 1 0 1
+1 s 1 1 1
+stream S declared c=1 skipped=1 changes=1
+{\"p\":1,\"t\":1,\"k\":true,\"v\":{\"N\":\"7\"}}
+end
+",
+    ),
+];
+
+#[test]
+fn records_are_taken_in_their_order(rt: HostRuntime) -> Result<(), Fail> {
+    let alloc = rt.alloc();
+    for (script, s_lines, k_lines, status, wanted) in ORDERS {
+        let (code, written) = run_on(&rt, alloc, script.as_bytes(), s_lines, k_lines)?;
+        assert_eq!(rt; written.as_slice(), wanted.as_bytes());
+        assert_eq!(rt; code, status);
+    }
+    Ok(())
+}
+
+#[test]
+fn forms_that_are_not_run_are_refused(rt: HostRuntime) -> Result<(), Fail> {
+    let alloc = rt.alloc();
+    for statement in [
+        "CREATE TABLE T (ID VARCHAR PRIMARY KEY, V VARCHAR) WITH (KAFKA_TOPIC='t');",
+        "CREATE TABLE G AS SELECT ID, COUNT(*) AS C FROM S GROUP BY ID;",
+        "CREATE TABLE G AS SELECT ID, LATEST_BY_OFFSET(NULL) IS NULL AS C FROM S GROUP BY ID;",
+        "CREATE TABLE W AS SELECT ID, COUNT(*) AS C FROM S WINDOW TUMBLING (SIZE 1 SECOND) GROUP BY ID;",
+        "CREATE STREAM D (A VARCHAR) WITH (KAFKA_TOPIC='d', VALUE_FORMAT='DELIMITED');",
+        "CREATE STREAM D WITH (VALUE_FORMAT='DELIMITED') AS SELECT * FROM S;",
+    ] {
+        let script = format!(in alloc; "{STREAM}{statement}")?;
+        let (code, written) = run_on(&rt, alloc, script.as_str().as_bytes(), "", "")?;
+        assert_eq!(rt;
+            written.as_slice(),
+            b"ksql: script statement 2: S15 Unsupported\n".as_slice()
+        );
+        assert_eq!(rt; code, 3);
     }
     Ok(())
 }
@@ -390,6 +483,153 @@ fn deep_statements_are_run(rt: HostRuntime) -> Result<(), Fail> {
         )?;
         let (status, _) = run_on(&rt, alloc, script.as_str().as_bytes(), LINES, "")?;
         assert_eq!(rt; status, 0);
+    }
+    Ok(())
+}
+
+// One record more than topic files may hold, each of the first kind.
+#[test]
+fn record_200001_is_too_large(rt: HostRuntime) -> Result<(), Fail> {
+    let alloc = rt.alloc();
+    let lines = "{\"t\":1,\"k\":\"a\",\"v\":{\"N\":1}}\n".repeat(alloc, 200_001)?;
+    let (status, written) = run_on(&rt, alloc, STREAM.as_bytes(), lines.as_str(), "")?;
+    assert_eq!(rt;
+        written.as_slice(),
+        b"ksql: topic s line 200001: TooLarge\n".as_slice()
+    );
+    assert_eq!(rt; status, 4);
+    Ok(())
+}
+
+// Two or three values of each form of expression: the ends of the types, NULL in each place, signs, characters of
+// several bytes, positions before and behind a text.
+const VALUES: [(&str, &str); 76] = [
+    ("2147483647 + 1", "-2147483648"),
+    ("9223372036854775807 + 1", "-9223372036854775808"),
+    ("65536 * 65536", "0"),
+    ("-7 / 2", "-3"),
+    ("-7 % 2", "-1"),
+    ("7 % -2", "1"),
+    ("N % 0", "null"),
+    ("N - NULL", "null"),
+    ("-(-2147483647 - 1)", "-2147483648"),
+    ("-NULL", "null"),
+    ("+N", "5"),
+    ("+NULL", "null"),
+    ("'a' + 'b'", "\"ab\""),
+    ("'a' || NULL", "null"),
+    ("'B' < 'a'", "true"),
+    ("'ä' > 'z'", "true"),
+    ("TRUE <> FALSE", "true"),
+    ("N = 5000000000", "false"),
+    ("NULL = NULL", "false"),
+    ("NULL <> 1", "false"),
+    ("NULL OR TRUE", "true"),
+    ("TRUE AND NULL", "false"),
+    ("NOT (NULL = 1)", "true"),
+    ("NOT NULL", "true"),
+    ("NULL IS NULL", "true"),
+    ("N IS NOT NULL", "true"),
+    ("'' IS NULL", "false"),
+    ("3 BETWEEN 1 AND 3", "true"),
+    ("NULL BETWEEN 1 AND 3", "false"),
+    ("3 NOT BETWEEN NULL AND 3", "true"),
+    ("2 IN (1, 2)", "true"),
+    ("NULL IN (1, NULL)", "false"),
+    ("2 NOT IN (1, NULL)", "true"),
+    ("'a%' LIKE 'a_'", "true"),
+    ("'aXbXXc' LIKE 'a%X%c'", "true"),
+    ("'ä' LIKE '_'", "true"),
+    ("'ab' NOT LIKE 'a_'", "false"),
+    ("NULL LIKE '%'", "false"),
+    ("CASE WHEN NULL THEN 1 WHEN TRUE THEN 2 ELSE 3 END", "2"),
+    ("CASE N WHEN NULL THEN 1 END", "null"),
+    ("CASE N WHEN 5 THEN 1 ELSE 9223372036854775807 END", "1"),
+    ("CAST(2147483648 AS INTEGER)", "null"),
+    (
+        "CAST('-9223372036854775808' AS BIGINT)",
+        "-9223372036854775808",
+    ),
+    ("CAST('9223372036854775808' AS BIGINT)", "null"),
+    ("CAST('+07' AS INTEGER)", "7"),
+    ("CAST(' 7' AS INTEGER)", "null"),
+    ("CAST(-12 AS VARCHAR)", "\"-12\""),
+    ("CAST(FALSE AS VARCHAR)", "\"false\""),
+    ("CAST('TrUe' AS BOOLEAN)", "true"),
+    ("CAST('yes' AS BOOLEAN)", "false"),
+    ("CAST(NULL AS BIGINT)", "null"),
+    ("ABS(-2147483647 - 1)", "-2147483648"),
+    ("ABS(-7)", "7"),
+    ("ABS(NULL)", "null"),
+    ("LEN('äb')", "2"),
+    ("LEN(NULL)", "null"),
+    ("CONCAT('a', NULL, 'b')", "\"ab\""),
+    ("CONCAT(NULL, NULL)", "\"\""),
+    ("SUBSTRING('abcd', 2, 2)", "\"bc\""),
+    ("SUBSTRING('abcd', 0)", "\"abcd\""),
+    ("SUBSTRING('äöü', -2, 1)", "\"ö\""),
+    ("SUBSTRING('abcd', -9, 2)", "\"ab\""),
+    ("SUBSTRING('abcd', 9)", "\"\""),
+    ("SUBSTRING('abcd', 2, 0)", "\"\""),
+    ("SUBSTRING('abcd', NULL)", "null"),
+    ("TRIM('  a b ')", "\"a b\""),
+    ("TRIM(NULL)", "null"),
+    ("UCASE('äb')", "\"äB\""),
+    ("LCASE('AZ[')", "\"az[\""),
+    ("LCASE(NULL)", "null"),
+    ("COALESCE(NULL, 5, 6000000000)", "5"),
+    ("COALESCE(NULL, 'a')", "\"a\""),
+    ("IFNULL(NULL, 5)", "5"),
+    ("IFNULL(5, NULL)", "5"),
+    ("NULLIF(5, N)", "null"),
+    ("NULLIF(5, NULL)", "5"),
+];
+
+/// The report of a stream whose one record has an expression's value.
+fn report_of_value(alloc: Global, value: &str) -> Result<String, AllocError> {
+    format!(in alloc;
+        "order 1
+1 s 0 0 1
+stream S declared c=1 skipped=0 changes=1
+{{\"p\":0,\"t\":1,\"k\":\"a\",\"v\":{{\"N\":5}}}}
+stream X query c=1 changes=1
+{{\"p\":0,\"t\":1,\"k\":\"a\",\"v\":{{\"A\":{value}}}}}
+end
+"
+    )
+}
+
+#[test]
+fn expressions_have_their_values(rt: HostRuntime) -> Result<(), Fail> {
+    let alloc = rt.alloc();
+    let lines = "{\"t\":1,\"k\":\"a\",\"v\":{\"N\":5}}\n";
+    for (expression, value) in VALUES {
+        let script = format!(in alloc;
+            "{STREAM}CREATE STREAM X AS SELECT ID, {expression} AS A FROM S;"
+        )?;
+        let wanted = report_of_value(alloc, value)?;
+        let (_, written) = run_on(&rt, alloc, script.as_str().as_bytes(), lines, "")?;
+        assert_eq!(rt; written.as_slice(), wanted.as_str().as_bytes());
+    }
+    Ok(())
+}
+
+#[test]
+fn texts_have_at_most_65536_bytes(rt: HostRuntime) -> Result<(), Fail> {
+    let alloc = rt.alloc();
+    let letters = "a".repeat(alloc, 65_536)?;
+    let lines = "{\"t\":1,\"k\":\"a\",\"v\":{\"N\":5}}\n";
+    for (front, back, value) in [
+        ("LEN(", " + '')", "65536"),
+        ("(", " || 'a') IS NULL", "true"),
+        ("CONCAT(", ", NULL, 'a') IS NULL", "true"),
+    ] {
+        let script = format!(in alloc;
+            "{STREAM}CREATE STREAM X AS SELECT ID, {front}'{letters}'{back} AS A FROM S;"
+        )?;
+        let wanted = report_of_value(alloc, value)?;
+        let (_, written) = run_on(&rt, alloc, script.as_str().as_bytes(), lines, "")?;
+        assert_eq!(rt; written.as_slice(), wanted.as_str().as_bytes());
     }
     Ok(())
 }

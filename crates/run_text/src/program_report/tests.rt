@@ -135,7 +135,7 @@ fn shows_a_stream_and_a_query_over_it(rt: HostRuntime) -> Result<(), Fail> {
         reported(alloc, &order, &lists)?.as_str(),
         concat!(
             "order 3\n1 s 2 0 5\n1 s 2 1 7\n1 s 2 2 4\n",
-            "stream S declared c=1 skipped=1 changes=2\n",
+            "stream S declared c=1 skipped=2 changes=2\n",
             "{\"p\":2,\"t\":5,\"k\":null,\"v\":{\"NAME\":null,\"BIG\":null,\"on\":false}}\n",
             "{\"p\":2,\"t\":7,\"k\":null,\"v\":{\"NAME\":null,\"BIG\":null,\"on\":false}}\n",
             "stream BIG query c=1 changes=1\n",

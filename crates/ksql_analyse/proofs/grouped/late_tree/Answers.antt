@@ -1,6 +1,6 @@
 use Rattle.std.proofs.Common.{◌≡◌, subst, sym}
 use Rattle.ksql_grammar.specs.declared.tree.Expr.{Expr}
-use Rattle.ksql_typing.specs.Uses.{IsSmall}
+use Rattle.ksql_scope.specs.Uses.{IsSmall}
 use Rattle.ksql_analyse.proofs.LateSmallness.{behind-small}
 use Rattle.ksql_analyse.proofs.grouped.late_tree.Goals as goal
 

@@ -1,6 +1,6 @@
 use Rattle.std.proofs.Common.{◌++◌}
 use Rattle.ksql_clauses.specs.Sources.{on_exprs, there}
-use Rattle.ksql_typing.specs.Uses.{IsSmall}
+use Rattle.ksql_scope.specs.Uses.{IsSmall}
 use Rattle.ksql_rules.proofs.Within.{All-left, All-right}
 use Rattle.ksql_analyse.proofs.query.query_of.Goals as goal
 

@@ -2,7 +2,7 @@ use Rattle.std.proofs.Common.{◌≡◌, ◌∙◌, All, List, Option, ap, map, 
 use Rattle.ksql_grammar.specs.declared.tree.Expr.{Expr}
 use Rattle.ksql_clauses.specs.declared.items.Named.{Named}
 use Rattle.ksql_clauses.specs.Sources.{there}
-use Rattle.ksql_typing.specs.Uses.{IsSmall}
+use Rattle.ksql_scope.specs.Uses.{IsSmall}
 use Rattle.ksql_analyse.specs.Judgement.{AreAggs, AreLateTypes, AreTypedTrees, exprs}
 use Rattle.ksql_analyse.proofs.BehindGroups.{grouped-made, moved}
 use Rattle.ksql_analyse.proofs.LateSmallness.{all-of-map, groups-small, aggregates-small, having-small, values-small}

@@ -2,10 +2,11 @@ use Rattle.std.proofs.Common.{◌≡◌, if◌then◌else◌, Bool, Option, Some
 use Rattle.std.specs.Prelude.{find}
 use Rattle.ksql_grammar.specs.declared.tree.Expr.{Expr}
 use Rattle.ksql_grammar.specs.declared.tree.Expr.TheVariants as e
-use Rattle.ksql_typing.specs.declared.scope.ScopeColumn.{ScopeColumn}
+use Rattle.ksql_scope.specs.declared.scope.ScopeColumn.{ScopeColumn}
 use Rattle.ksql_clauses.specs.Resolved.{full_name, is_row_time}
-use Rattle.ksql_typing.specs.Scope.{is_known_as}
-use Rattle.ksql_clauses.proofs.Resolving.{moved, written_by, written-found}
+use Rattle.ksql_scope.specs.Scope.{is_known_as}
+use Rattle.ksql_walks.proofs.Becoming.{moved}
+use Rattle.ksql_clauses.proofs.Resolving.{written_by, written-found}
 use Rattle.ksql_clauses.proofs.full_names.full_name.Goals as goal
 
 pub returns-in-Some : goal.returns-in-Some

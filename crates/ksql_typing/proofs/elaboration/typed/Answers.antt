@@ -1,6 +1,6 @@
 use Rattle.std.proofs.Common.{◌≡◌, ◌⊎◌, refl, sym, ◌∙◌, subst}
 use Rattle.std.specs.Prelude.{Ok, Err, IfOk, IfErr}
-use Rattle.ksql_typing.specs.declared.scope.TypeFault.TheVariants.{OutOfMemory}
+use Rattle.ksql_typing.specs.declared.fault.TypeFault.TheVariants.{OutOfMemory}
 use Rattle.ksql_typing.specs.Standing.{IsTypedTree}
 use Rattle.ksql_typing.specs.Typed.{Answers, HasFault}
 use Rattle.ksql_typing.proofs.Answering.{right, fault-answered}

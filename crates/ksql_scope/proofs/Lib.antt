@@ -1,0 +1,11 @@
+pub mod Deciding
+pub mod Disjoint
+pub mod Equations
+pub mod Folds
+pub mod Having
+pub mod Induction
+pub mod NameFlags
+pub mod Possibly
+pub mod Senses
+pub mod Sets
+pub mod Small

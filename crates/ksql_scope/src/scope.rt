@@ -1,0 +1,21 @@
+use ksql_types::{Chars, Column, Items};
+
+/// What names can stand for: the columns of a row; where `stream` is true the row's time ROWTIME, which the alias of
+/// the first column may qualify; and where `windowed` is true WINDOWSTART and WINDOWEND, the two columns behind those of
+/// `columns`, outside aggregates.
+#[derive(Debug, Drop)]
+pub struct Scope {
+    pub columns: ScopeColumns,
+    pub stream: bool,
+    pub windowed: bool,
+}
+
+/// A column, and the name by which its relation is known, where it belongs to one.
+#[derive(Debug, Drop)]
+pub struct ScopeColumn {
+    pub alias: Option<Chars>,
+    pub column: Column,
+}
+
+/// Columns in the order of a row.
+pub type ScopeColumns = Items<ScopeColumn>;
