@@ -1,17 +1,15 @@
 -- The aggregates in an expression with a typed tree have typed trees, and their literals keep their limits.
-use Rattle.std.proofs.Common.{◌≡◌, ℕ, Bool, true, false, ◌&&◌, List, [], ◌∷◌, ◌++◌, map, Option, Some, None, is_some, refl, ap, sym, ◌∙◌, subst, IsTrue}
+use Rattle.std.proofs.Common.{◌≡◌, ℕ, Bool, true, false, ◌&&◌, List, [], ◌∷◌, ◌++◌, map, Option, Some, None, is_some, refl, ap, sym, subst}
 use Rattle.std.specs.Prelude.{option_map}
 use Rattle.std.specs.List.{AllByRecursion as Each}
 use Rattle.ksql_types.specs.declared.value.SqlType.{SqlType}
-use Rattle.ksql_types.specs.declared.value.Value.TheVariants as value
 use Rattle.ksql_grammar.specs.declared.tree.Expr.{Expr}
 use Rattle.ksql_grammar.specs.declared.tree.Expr.TheVariants as e
-use Rattle.ksql_grammar.specs.declared.tree.WhenText.{WhenText}
-use Rattle.ksql_expr.specs.declared.typed.AggFun.TheVariants.{CountAll, Count}
+use Rattle.ksql_expr.specs.declared.typed.AggFun.TheVariants.{CountAll}
 use Rattle.ksql_expr.specs.declared.typed.Typed.{Typed}
 use Rattle.ksql_expr.specs.declared.typed.TypedNode.TheVariants as n
 use Rattle.ksql_expr.specs.Typing as w
-use Rattle.ksql_expr.specs.Typing.{HasTypes, of}
+use Rattle.ksql_expr.specs.Typing.{of}
 use Rattle.ksql_scope.specs.declared.scope.Scope.{Scope}
 use Rattle.ksql_scope.specs.Functions.{is_aggregate}
 use Rattle.ksql_scope.specs.Scope.{column_types}
@@ -20,10 +18,10 @@ use Rattle.ksql_scope.proofs.Disjoint.{no-aggregate}
 use Rattle.ksql_scope.proofs.Sets.{both-true}
 use Rattle.ksql_scope.proofs.Small as small
 use Rattle.ksql_typing.specs.Standing as st
-use Rattle.ksql_typing.specs.Standing.{Stands, Pair, IsTypedTree, digits_value}
+use Rattle.ksql_typing.specs.Standing.{Stands, Pair, IsTypedTree}
 use Rattle.ksql_typing.proofs.Inversion.{Checks, checks, inner}
 use Rattle.ksql_typing.proofs.Trees.{HaveTypes}
-use Rattle.ksql_grouping.specs.Grouping.{gives, whole_aggregate, aggregates_of}
+use Rattle.ksql_grouping.specs.Grouping.{gives, whole_aggregate}
 use Rattle.ksql_grouping.proofs.Gives.{gives-decided, gives-Digits, gives-Text, gives-Truth, gives-Null, gives-Name, gives-Sign, gives-Binary, gives-Not, gives-IsNull, gives-Between, gives-OneOf, gives-Like, gives-Cast, gives-Case, gives-Call}
 use Rattle.ksql_analyse.specs.Typable.{IsAggregateNode}
 use Rattle.ksql_analyse.proofs.LateForms as f

@@ -1,7 +1,7 @@
 -- One statement more behind those that were judged.
-use Rattle.std.proofs.Common.{◌≡◌, ◌⊎◌, ℕ, suc, ◌+◌, ◌<◌, ◌≤◌, List, [], ◌∷◌, ◌++◌, map, length, take, drop, get_or, refl, ap, ap₂, sym, ◌∙◌, subst, arith, append_assoc}
+use Rattle.std.proofs.Common.{◌≡◌, ℕ, suc, ◌+◌, ◌<◌, ◌≤◌, List, [], ◌∷◌, ◌++◌, length, take, drop, get_or, refl, ap, sym, ◌∙◌, subst, arith}
 use Rattle.std.specs.List.{All}
-use Rattle.std.specs.Prelude.{Result, Ok, Err}
+use Rattle.std.specs.Prelude.{Result, Err}
 use Rattle.std.proofs.lemmas.List.{take_more, take_all, drop_more, take-append-drop, map_push, length_push, length-take-le, length-map}
 use Rattle.std.proofs.lemmas.List.Elements.{All-nil, All-push}
 use Rattle.std.proofs.Math.Numerals.{suc-eq-add-one}
@@ -11,7 +11,7 @@ use Rattle.ksql_grammar.specs.declared.tree.Statement.{Statement}
 use Rattle.ksql_program.specs.declared.program.Item.{Item}
 use Rattle.ksql_program.specs.declared.program.Program.{Program}
 use Rattle.ksql_program.specs.Program.{relation_of, relations}
-use Rattle.ksql_rules.specs.Limits.{IsRelationWithin, IsWithinLimits}
+use Rattle.ksql_rules.specs.Limits.{IsRelationWithin}
 use Rattle.ksql_rules.specs.Lowest.{IsAccepted, IsRefused}
 use Rattle.ksql_analyse.specs.Judgement.{IsItemOf, Judged, done, next, FirstRefused, here, later, IsProgramOf, AreParsed, AreRefused, IsJudgement}
 use Rattle.ksql_analyse.specs.Next.{IsFaultOf}

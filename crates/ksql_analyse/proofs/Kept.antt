@@ -1,10 +1,10 @@
 -- What the relation of an accepted statement keeps.
-use Rattle.std.proofs.Common.{◌≡◌, ℕ, suc, zero, ◌+◌, ◌<◌, ◌≤◌, Bool, true, false, not, ◌&&◌, ◌||◌, IsTrue, nat_le, List, [], ◌∷◌, ◌++◌, map, take, length, refl, ap, ap₂, sym, ◌∙◌, subst, arith}
+use Rattle.std.proofs.Common.{◌≡◌, ℕ, suc, zero, ◌+◌, ◌<◌, ◌≤◌, Bool, true, false, not, ◌&&◌, ◌||◌, IsTrue, nat_le, List, [], ◌∷◌, ◌++◌, map, take, length, refl, ap, sym, ◌∙◌, subst, arith}
 use Rattle.std.specs.Prelude.{bytes_eq}
 use Rattle.std.specs.List.{All, AllZip, list_any, list_all}
 use Rattle.std.proofs.lemmas.Bool.{leb-true}
 use Rattle.std.proofs.lemmas.List.{map-append, length-map, append-nil, append_assoc}
-use Rattle.std.proofs.lemmas.List.Elements.{All-weaker, All-map}
+use Rattle.std.proofs.lemmas.List.Elements.{All-weaker}
 use Rattle.std.proofs.lemmas.List.Sums.{AllPass-from_list_all}
 use Rattle.ksql_types.specs.Catalog.{has_name, has_topic, is_taken}
 use Rattle.ksql_types.specs.declared.relation.Column.{Column}
@@ -16,7 +16,7 @@ use Rattle.ksql_program.specs.declared.program.Item.{Item}
 use Rattle.ksql_program.specs.declared.program.Item.TheVariants.{Declared, Started}
 use Rattle.ksql_program.specs.Names.{is_among, are_distinct, reserved_columns}
 use Rattle.ksql_program.specs.Program.{relation_of, relations}
-use Rattle.ksql_program.specs.Sound.{columns, IsSound, IsSoundItem, IsSoundRelation, AreSoundItems}
+use Rattle.ksql_program.specs.Sound.{columns, IsSoundItem, IsSoundRelation, AreSoundItems}
 use Rattle.ksql_rules.specs.Limits.{IsRelationWithin}
 use Rattle.ksql_rules.proofs.Within.{All-unmap}
 use Rattle.ksql_analyse.specs.Judgement.{AreParsed, IsProgramOf}

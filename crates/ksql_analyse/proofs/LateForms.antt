@@ -1,5 +1,5 @@
 -- What is looked for in an expression that is neither a group expression nor an aggregate is looked for in its parts.
-use Rattle.std.proofs.Common.{◌≡◌, ℕ, ◌+◌, Bool, true, false, not, ◌&&◌, ◌||◌, List, [], ◌∷◌, ◌++◌, map, length, Option, Some, None, is_some, refl, ap, ap₂, sym, ◌∙◌}
+use Rattle.std.proofs.Common.{◌≡◌, ℕ, ◌+◌, Bool, true, false, not, ◌&&◌, ◌||◌, List, [], ◌∷◌, ◌++◌, map, length, Option, Some, None, is_some, refl, ap, sym, ◌∙◌}
 use Rattle.std.specs.Prelude.{option_map}
 use Rattle.std.specs.List.{list_all}
 use Rattle.std.proofs.lemmas.List.Folds.{list_all-append}
@@ -11,7 +11,7 @@ use Rattle.ksql_grammar.specs.declared.tree.WhenText.{WhenText}
 use Rattle.ksql_scope.specs.Functions.{is_aggregate}
 use Rattle.ksql_scope.specs.Uses.{all_of, perhaps}
 use Rattle.ksql_walks.specs.Parts.{passes, any_of, any_perhaps}
-use Rattle.ksql_grouping.specs.Grouping.{gives, whole_aggregate, aggregates_of, late_part, late_column, place_among, is_bare, is_window_bound, has_bare_column}
+use Rattle.ksql_grouping.specs.Grouping.{gives, whole_aggregate, is_aggregate_call, late_part, late_column, place_among, is_bare, is_window_bound}
 use Rattle.ksql_grouping.proofs.Gives.{gives-decided, gives-Sign, gives-Binary, gives-Not, gives-IsNull, gives-Between, gives-OneOf, gives-Like, gives-Cast, gives-Case, gives-Call}
 use Rattle.ksql_walks.proofs.Passing.{passes-decided, passes-Sign, passes-Binary, passes-Not, passes-IsNull, passes-Between, passes-OneOf, passes-Like, passes-Cast, passes-Case, passes-Call}
 use Rattle.ksql_analyse.proofs.Distinct.{or-false}
@@ -29,8 +29,11 @@ module _ (groups aggs : List Expr) where
   pub late-agg : (a : Expr) (i : ℕ) → place_among groups a ≡ None → place_among aggs a ≡ Some i → late_part groups aggs a ≡ Some (late_column (length groups + i))
   late-agg a i h k = rw (h, k)
 
-  pub late-none : (a : Expr) → place_among groups a ≡ None → place_among aggs a ≡ None → late_part groups aggs a ≡ None
-  late-none a h k = rw (h, k)
+  pub late-null : (a : Expr) → place_among groups a ≡ None → place_among aggs a ≡ None → is_aggregate_call a ≡ true → late_part groups aggs a ≡ Some e.Null
+  late-null a h k is = rw (h, k, is)
+
+  pub late-none : (a : Expr) → place_among groups a ≡ None → place_among aggs a ≡ None → is_aggregate_call a ≡ false → late_part groups aggs a ≡ None
+  late-none a h k plain = rw (h, k, plain)
 
   pub bare-Name : (q : Option (List ℕ)) (name : List ℕ) → place_among groups (e.Name q name) ≡ None → is_bare groups (e.Name q name) ≡ Some (not (is_window_bound q name))
   bare-Name q name h = rw (h, e.outs-Name q name)
@@ -209,15 +212,12 @@ module _ (groups aggs : List Expr) where
       (gives-Call whole_aggregate x f star args refl (whole-Call f star args plain)) r
 
   -- an aggregate is among those of the query
-  pub ready-Aggregate : (f : List ℕ) (star : Bool) (args : List Expr) → is_aggregate f ≡ true → place_among aggs (e.Call f star args) ≡ None
-      → IsReady (e.Call f star args) → ⊥
-  ready-Aggregate f star args is none r =
+  pub ready-Aggregate : (f : List ℕ) (star : Bool) (args : List Expr) → is_aggregate f ≡ true → IsReady (e.Call f star args)
+      → is_some (place_among aggs (e.Call f star args)) ≡ true
+  ready-Aggregate f star args is r =
       let x = e.Call f star args in
       let found : list_all is_found (x ∷ []) ≡ true = ap (list_all is_found) (sym (gives-decided whole_aggregate x (x ∷ []) (whole-Aggregate f star args is))) ∙ r.1 in
-      let here : is_found x ≡ true = (both-true (is_found x) true found).0 in
-      let isnt : is_found x ≡ false = ap is_some none in
-      let e : true ≡ false = sym here ∙ isnt in
-      cc
+      (both-true (is_found x) true found).0
 
   -- a name is a bound of a window
   pub ready-Name : (q : Option (List ℕ)) (name : List ℕ) → place_among groups (e.Name q name) ≡ None → IsReady (e.Name q name) → is_window_bound q name ≡ true

@@ -1,9 +1,7 @@
--- An expression with a typed tree has one behind a grouping too: its keys and its aggregates become columns, and no type
--- changes.
-use Rattle.std.proofs.Common.{◌≡◌, ◌⊎◌, ℕ, suc, zero, ◌+◌, ◌<◌, ◌^◌, Bool, true, false, not, ◌&&◌, ◌||◌, if◌then◌else◌, IsTrue, List, [], ◌∷◌, ◌++◌, map, length, Option, Some, None, is_some, unwrap_or, refl, ap, ap₂, sym, ◌∙◌, subst, inl, inr, arith}
+-- An expression with a typed tree has one behind a grouping too: its keys and its aggregates become columns or NULL, and
+-- no type changes.
+use Rattle.std.proofs.Common.{◌≡◌, ◌⊎◌, ℕ, ◌+◌, ◌<◌, ◌^◌, Bool, true, false, not, ◌&&◌, ◌||◌, if◌then◌else◌, List, [], ◌∷◌, map, length, Option, Some, None, is_some, refl, ap, ap₂, sym, ◌∙◌, subst, inl, inr, arith}
 use Rattle.std.specs.Prelude.{option_map, slice_get, codes, bytes_eq}
-use Rattle.std.specs.Fmt.{decimal}
-use Rattle.std.specs.List.{list_any}
 use Rattle.std.specs.Cmp.Lexicographic.{bytes_decides}
 use Rattle.ksql_types.specs.declared.value.SqlType.{SqlType}
 use Rattle.ksql_types.specs.declared.value.SqlType.TheVariants as sql
@@ -11,21 +9,19 @@ use Rattle.ksql_types.specs.declared.value.Value.TheVariants as value
 use Rattle.ksql_grammar.specs.declared.tree.Expr.{Expr}
 use Rattle.ksql_grammar.specs.declared.tree.Expr.TheVariants as e
 use Rattle.ksql_grammar.specs.declared.tree.Select.{Select}
-use Rattle.ksql_grammar.specs.declared.tree.WhenText.{WhenText}
-use Rattle.ksql_expr.specs.declared.typed.AggFun.{AggFun}
-use Rattle.ksql_expr.specs.declared.typed.AggFun.TheVariants.{CountAll, Count}
+use Rattle.ksql_expr.specs.declared.typed.AggFun.TheVariants.{CountAll}
 use Rattle.ksql_expr.specs.declared.typed.Typed.{Typed}
 use Rattle.ksql_expr.specs.declared.typed.TypedNode.{TypedNode, out-TypedNode}
 use Rattle.ksql_expr.specs.declared.typed.TypedNode.TheVariants as n
 use Rattle.ksql_expr.specs.declared.typed.TypedWhen.{TypedWhen}
-use Rattle.ksql_expr.specs.Rules.{type_of, fits, binary_type, sign_type, can_cast, fun_type, agg_type, case_type, is_between_typed, is_in_typed, typed}
+use Rattle.ksql_expr.specs.Rules.{type_of, fits, binary_type, sign_type, can_cast, fun_type, case_type, is_between_typed, is_in_typed, typed}
 use Rattle.ksql_expr.specs.Typing as w
 use Rattle.ksql_expr.specs.Typing.{HasTypes, of, types, results}
 use Rattle.ksql_program.specs.Names.{is_among}
 use Rattle.ksql_scope.specs.declared.scope.Scope.{Scope}
 use Rattle.ksql_scope.specs.declared.scope.ScopeColumn.{ScopeColumn}
-use Rattle.ksql_scope.specs.Functions.{function_of, aggregate_of, is_aggregate}
-use Rattle.ksql_scope.specs.Scope.{Meaning, meanings, is_known_as, column_types, row_time, window_bounds}
+use Rattle.ksql_scope.specs.Functions.{is_aggregate}
+use Rattle.ksql_scope.specs.Scope.{Meaning, meanings, column_types, row_time}
 use Rattle.ksql_scope.specs.Typing.{with_otherwise}
 use Rattle.ksql_scope.proofs.Disjoint.{no-aggregate}
 use Rattle.ksql_typing.specs.Made.{typed_when}
@@ -35,12 +31,13 @@ use Rattle.ksql_typing.proofs.Inversion.{Checks, checks, inner, one-type}
 use Rattle.ksql_typing.proofs.Meanings.{typed-meanings}
 use Rattle.ksql_typing.proofs.Trees.{HaveTypes, results-typed}
 use Rattle.ksql_walks.specs.Parts.{becomes, when_becomes}
-use Rattle.ksql_grouping.specs.Grouping.{late_part, late_column, place_among, regrouped, is_window_bound}
+use Rattle.ksql_grouping.specs.Grouping.{late_part, late_column, place_among, regrouped, is_window_bound, is_aggregate_call, whole_aggregate}
 use Rattle.ksql_walks.proofs.Becoming.{becomes-decided, becomes-Digits, becomes-Text, becomes-Truth, becomes-Null, becomes-Name, becomes-Sign, becomes-Binary, becomes-Not, becomes-IsNull, becomes-Between, becomes-OneOf, becomes-Like, becomes-Cast, becomes-Call, becomes-Case}
-use Rattle.ksql_analyse.specs.Judgement.{late_scope, late_types}
-use Rattle.ksql_analyse.proofs.Meant.{IsMeant, IsColumn, IsTime, IsBound, meant}
+use Rattle.ksql_analyse.specs.Judgement.{late_scope}
+use Rattle.ksql_analyse.proofs.Meant.{IsMeant, meant}
 use Rattle.ksql_analyse.proofs.LateForms as f
-use Rattle.ksql_analyse.proofs.LateNames.{late-means, late-bound, IsLateBound}
+use Rattle.ksql_analyse.proofs.AggregatesIn as within
+use Rattle.ksql_analyse.proofs.LateNames.{late-means, late-bound, late-type-at}
 
 -- the names of times
 abbrev pub time_names : List (List ℕ)
@@ -58,11 +55,6 @@ typed-is (Some u) t k = (u, refl, cc)
 
 retyped : (cs : List (Option SqlType)) (form : TypedNode) (t u : Option SqlType) → t ≡ u → HasTypes cs (w.one (of u form)) → HasTypes cs (w.one (of t form))
 retyped cs form t u same h = subst (λ v. HasTypes cs (w.one (of v form))) (sym same) h
-
-front-at : (ts us : List (Option SqlType)) (i : ℕ) (t : Option SqlType) → slice_get ts i ≡ Some t → slice_get (ts ++ us) i ≡ Some t
-front-at [] us i t h = absurd (cc (h))
-front-at (x ∷ ts) us zero t h = h
-front-at (x ∷ ts) us (suc i) t h = front-at ts us i t h
 
 -- ---- bounds of windows
 
@@ -113,12 +105,18 @@ bound-meant s name form t plain bound means = at (meant s None name form t means
 
 -- ---- trees
 
-module _ (s : Scope) (q : Select) (groups aggs : List Expr) (ts : List (Option SqlType)) where
+module _ (s : Scope) (q : Select) (groups aggs all : List Expr) (ts : List SqlType) where
   -- what stands at a place has the type there
   abbrev IsPlaced : List Expr → ℕ → Type 0
   IsPlaced es first =
       (a : Expr) (x : Typed) (i : ℕ) → place_among es a ≡ Some i → Stands s (st.one a x) → HasTypes (column_types s) (w.one x)
-      → slice_get ts (first + i) ≡ Some x.ty
+      → (t : SqlType) × (slice_get ts (first + i) ≡ Some t) × (x.ty ≡ Some t)
+
+  -- an aggregate that has no column has only NULL's type
+  abbrev IsNulled : Type 0
+  IsNulled =
+      (a : Expr) (x : Typed) → place_among aggs a ≡ None → is_some (place_among all a) ≡ true → Stands s (st.one a x) → HasTypes (column_types s) (w.one x)
+      → x.ty ≡ None
 
   pub record IsGrouping : Type 0 where
     pub windowed : s.windowed ≡ is_some q.window
@@ -126,6 +124,7 @@ module _ (s : Scope) (q : Select) (groups aggs : List Expr) (ts : List (Option S
     pub few : length ts < 2 ^ 64
     pub keys : IsPlaced groups 0
     pub aggregates : IsPlaced aggs (length groups)
+    pub nulled : IsNulled
 
   abbrev behind : Expr → Expr
   behind a = regrouped groups aggs a
@@ -134,7 +133,7 @@ module _ (s : Scope) (q : Select) (groups aggs : List Expr) (ts : List (Option S
   late = late_scope q ts
 
   abbrev cs : List (Option SqlType)
-  cs = late_types q ts
+  cs = column_types (late_scope q ts)
 
   abbrev Late : Expr → Option SqlType → Type 0
   Late a t = (y : Typed) × Stands late (st.one (behind a) y) × HasTypes cs (w.one y) × (y.ty ≡ t)
@@ -149,37 +148,57 @@ module _ (s : Scope) (q : Select) (groups aggs : List Expr) (ts : List (Option S
       × (map (λ v. v.cond.ty) ys ≡ map (λ v. v.cond.ty) xs) × (map (λ v. v.result.ty) ys ≡ map (λ v. v.result.ty) xs)
 
   abbrev pub IsReadyPair : Pair → Type 0
-  IsReadyPair (st.one a x) = f.IsReady groups aggs a
-  IsReadyPair (st.perhaps a x) = f.IsReadyPart groups aggs a
-  IsReadyPair (st.each es xs) = f.AreReady groups aggs es
-  IsReadyPair (st.whens vs xs) = f.AreReadyWhens groups aggs vs
+  IsReadyPair (st.one a x) = f.IsReady groups all a
+  IsReadyPair (st.perhaps a x) = f.IsReadyPart groups all a
+  IsReadyPair (st.each es xs) = f.AreReady groups all es
+  IsReadyPair (st.whens vs xs) = f.AreReadyWhens groups all vs
 
   -- a form of this type that stands for what the expression becomes
   made : (a b : Expr) (t : Option SqlType) (form : TypedNode) → behind a ≡ b → Stands late (st.one b (of t form)) → HasTypes cs (w.one (of t form)) → Late a t
   made a b t form is stands typed = (of t form, subst (λ v. Stands late (st.one v (of t form))) (sym is) stands, typed, refl)
 
   -- a column
-  column_of : (a : Expr) (i : ℕ) (t : Option SqlType) → length ts < 2 ^ 64 → late_part groups aggs a ≡ Some (late_column i) → slice_get ts i ≡ Some t → Late a t
+  column_of : (a : Expr) (i : ℕ) (t : SqlType) → length ts < 2 ^ 64 → late_part groups aggs a ≡ Some (late_column i) → slice_get ts i ≡ Some t → Late a (Some t)
   column_of a i t few is found =
-      made a (late_column i) t (n.Column i) (becomes-decided (late_part groups aggs) a (late_column i) is) (st.name (late-means q ts i t few found))
-      (w.column (front-at ts _ i t found))
+      made a (late_column i) (Some t) (n.Column i) (becomes-decided (late_part groups aggs) a (late_column i) is) (st.name (late-means q ts i t few found))
+      (w.column (late-type-at q ts i t found))
 
-  -- an expression that is a group expression or an aggregate becomes a column; else what is made of its parts
-  at-place : IsGrouping → (a : Expr) (x : Typed) → Stands s (st.one a x) → HasTypes (column_types s) (w.one x)
+  -- NULL
+  null_of : (a : Expr) → late_part groups aggs a ≡ Some e.Null → Late a None
+  null_of a is = made a e.Null None (n.Literal value.Null) (becomes-decided (late_part groups aggs) a e.Null is) st.null (w.literal {x = value.Null})
+
+  -- what becomes a column, and what is left
+  at-column : IsGrouping → (a : Expr) (x : Typed) → Stands s (st.one a x) → HasTypes (column_types s) (w.one x)
       → (place_among groups a ≡ None → place_among aggs a ≡ None → Late a x.ty) → Late a x.ty
-  at-place g a x h k rest = at (place_among groups a) (place_among aggs a) refl refl
+  at-column g a x h k rest = at (place_among groups a) (place_among aggs a) refl refl
     where
       at : (o p : Option ℕ) → place_among groups a ≡ o → place_among aggs a ≡ p → Late a x.ty
       at (Some i) p is is2 =
-          let found : slice_get ts (0 + i) ≡ Some x.ty = g.keys a x i is h k in
+          let t = g.keys a x i is h k in
           let same : 0 + i ≡ i = omega arith in
-          column_of a i x.ty g.few (f.late-group groups aggs a i is) (subst (λ j. slice_get ts j ≡ Some x.ty) same found)
+          subst (Late a) (sym t.2) (column_of a i t.0 g.few (f.late-group groups aggs a i is) (subst (λ j. slice_get ts j ≡ Some t.0) same t.1))
       at None (Some i) is is2 =
-          column_of a (length groups + i) x.ty g.few (f.late-agg groups aggs a i is is2) (g.aggregates a x i is2 h k)
+          let t = g.aggregates a x i is2 h k in
+          subst (Late a) (sym t.2) (column_of a (length groups + i) t.0 g.few (f.late-agg groups aggs a i is is2) t.1)
       at None None is is2 = rest is is2
 
-  none : (a : Expr) → place_among groups a ≡ None → place_among aggs a ≡ None → late_part groups aggs a ≡ None
-  none a h k = f.late-none groups aggs a h k
+  -- an expression that is no aggregate becomes a column where it is a group expression; else what is made of its parts
+  at-place : IsGrouping → (a : Expr) (x : Typed) → whole_aggregate a ≡ None → Stands s (st.one a x) → HasTypes (column_types s) (w.one x)
+      → (place_among groups a ≡ None → late_part groups aggs a ≡ None → Late a x.ty) → Late a x.ty
+  at-place g a x plain h k rest = at-column g a x h k (λ is is2. rest is (f.late-none groups aggs a is is2 (no-call (is_aggregate_call a) plain)))
+    where
+      no-call : (b : Bool) → (if b then Some (a ∷ []) else None) ≡ None → b ≡ false
+      no-call true is = absurd (cc (is))
+      no-call false is = refl
+
+  -- an aggregate
+  at-aggregate : IsGrouping → (name : List ℕ) (star : Bool) (args : List Expr) (x : Typed) → is_aggregate name ≡ true → f.IsReady groups all (e.Call name star args)
+      → Stands s (st.one (e.Call name star args) x) → HasTypes (column_types s) (w.one x) → Late (e.Call name star args) x.ty
+  at-aggregate g name star args x is r h k =
+      let a = e.Call name star args in
+      at-column g a x h k
+      (λ no none. subst (Late a) (sym (g.nulled a x none (f.ready-Aggregate groups all name star args is r) h k))
+      (null_of a (f.late-null groups aggs a no none (within.called-Call name star args ∙ is))))
 
   -- a name that is left is a bound of a window
   late-name : IsGrouping → (p : Option (List ℕ)) (name : List ℕ) (form : TypedNode) (meant : SqlType) (t : Option SqlType) → meanings s p name ≡ (form, meant) ∷ []
@@ -201,110 +220,110 @@ module _ (s : Scope) (q : Select) (groups aggs : List Expr) (ts : List (Option S
   late-tree g (st.digits {number = number} {t = t}) k r =
       let a = e.Digits number in
       let form = n.Literal (digits_value number) in
-      at-place g a (of t form) st.digits k
-      (λ h h2. made a a t form (becomes-Digits (late_part groups aggs) a number refl (none a h h2)) st.digits
+      at-place g a (of t form) (within.whole-Digits number) st.digits k
+      (λ h h2. made a a t form (becomes-Digits (late_part groups aggs) a number refl h2) st.digits
       (retyped cs form t (type_of (digits_value number)) (subst (Checks (column_types s) t) (n.outs-Literal (digits_value number)) (checks k)) w.literal))
   late-tree g (st.text {content = content} {t = t}) k r =
       let a = e.Text content in
       let form = n.Literal (value.Txt content) in
-      at-place g a (of t form) st.text k
-      (λ h h2. made a a t form (becomes-Text (late_part groups aggs) a content refl (none a h h2)) st.text
+      at-place g a (of t form) (within.whole-Text content) st.text k
+      (λ h h2. made a a t form (becomes-Text (late_part groups aggs) a content refl h2) st.text
       (retyped cs form t (Some sql.Text) (subst (Checks (column_types s) t) (n.outs-Literal (value.Txt content)) (checks k)) (w.literal {x = value.Txt content})))
   late-tree g (st.truth {b = b} {t = t}) k r =
       let a = e.Truth b in
       let form = n.Literal (value.Bool b) in
-      at-place g a (of t form) st.truth k
-      (λ h h2. made a a t form (becomes-Truth (late_part groups aggs) a b refl (none a h h2)) st.truth
+      at-place g a (of t form) (within.whole-Truth b) st.truth k
+      (λ h h2. made a a t form (becomes-Truth (late_part groups aggs) a b refl h2) st.truth
       (retyped cs form t (Some sql.Bool) (subst (Checks (column_types s) t) (n.outs-Literal (value.Bool b)) (checks k)) (w.literal {x = value.Bool b})))
   late-tree g (st.null {t = t}) k r =
       let a = e.Null in
       let form = n.Literal value.Null in
-      at-place g a (of t form) st.null k
-      (λ h h2. made a a t form (becomes-Null (late_part groups aggs) a refl (none a h h2)) st.null
+      at-place g a (of t form) within.whole-Null st.null k
+      (λ h h2. made a a t form (becomes-Null (late_part groups aggs) a refl h2) st.null
       (retyped cs form t None (subst (Checks (column_types s) t) (n.outs-Literal value.Null) (checks k)) (w.literal {x = value.Null})))
   late-tree g (st.name {q = p} {found = name} {form = form} {meant = meant} {t = t} means) k r =
       let a = e.Name p name in
-      at-place g a (of t form) (st.name means) k
-      (λ h h2. late-name g p name form meant t means k (f.ready-Name groups aggs p name h r) (becomes-Name (late_part groups aggs) a p name refl (none a h h2)))
+      at-place g a (of t form) (within.whole-Name p name) (st.name means) k
+      (λ h h2. late-name g p name form meant t means k (f.ready-Name groups all p name h r) (becomes-Name (late_part groups aggs) a p name refl h2))
   late-tree g (st.sign {minus = minus} {a = a} {x = x} {t = t} i) k r =
       let b = e.Sign minus a in
       let c = subst (Checks (column_types s) t) (n.outs-Sign minus x) (checks k) in
-      at-place g b (of t (n.Sign minus x)) (st.sign i) k (λ h h2.
-      let y = late-tree g i c.0 (f.ready-Sign groups aggs minus a h r) in
+      at-place g b (of t (n.Sign minus x)) (within.whole-Sign minus a) (st.sign i) k (λ h h2.
+      let y = late-tree g i c.0 (f.ready-Sign groups all minus a h r) in
       let u = typed-is (sign_type x.ty) t c.1 in
       let form = n.Sign minus y.0 in
-      made b (e.Sign minus (behind a)) t form (becomes-Sign (late_part groups aggs) b minus a refl (none b h h2)) (st.sign y.1)
+      made b (e.Sign minus (behind a)) t form (becomes-Sign (late_part groups aggs) b minus a refl h2) (st.sign y.1)
       (retyped cs form t (Some u.0) u.2 (w.sign y.2 (ap sign_type y.3 ∙ u.1))))
   late-tree g (st.binary {o = o} {a = a} {b = a2} {x = x} {y = x2} {t = t} i j) k r =
       let b = e.Binary o a a2 in
       let c = subst (Checks (column_types s) t) (n.outs-Binary o x x2) (checks k) in
-      at-place g b (of t (n.Binary o x x2)) (st.binary i j) k (λ h h2.
-      let ready = f.ready-Binary groups aggs o a a2 h r in
+      at-place g b (of t (n.Binary o x x2)) (within.whole-Binary o a a2) (st.binary i j) k (λ h h2.
+      let ready = f.ready-Binary groups all o a a2 h r in
       let y = late-tree g i c.0 ready.0 in
       let y2 = late-tree g j c.1 ready.1 in
       let u = typed-is (binary_type o x.ty x2.ty) t c.2 in
       let form = n.Binary o y.0 y2.0 in
-      made b (e.Binary o (behind a) (behind a2)) t form (becomes-Binary (late_part groups aggs) b o a a2 refl (none b h h2)) (st.binary y.1 y2.1)
+      made b (e.Binary o (behind a) (behind a2)) t form (becomes-Binary (late_part groups aggs) b o a a2 refl h2) (st.binary y.1 y2.1)
       (retyped cs form t (Some u.0) u.2 (w.binary y.2 y2.2 (ap₂ (binary_type o) y.3 y2.3 ∙ u.1))))
   late-tree g (st.not {a = a} {x = x} {t = t} i) k r =
       let b = e.Not a in
       let c = subst (Checks (column_types s) t) (n.outs-Not x) (checks k) in
-      at-place g b (of t (n.Not x)) (st.not i) k (λ h h2.
-      let y = late-tree g i c.0 (f.ready-Not groups aggs a h r) in
+      at-place g b (of t (n.Not x)) (within.whole-Not a) (st.not i) k (λ h h2.
+      let y = late-tree g i c.0 (f.ready-Not groups all a h r) in
       let form = n.Not y.0 in
-      made b (e.Not (behind a)) t form (becomes-Not (late_part groups aggs) b a refl (none b h h2)) (st.not y.1)
+      made b (e.Not (behind a)) t form (becomes-Not (late_part groups aggs) b a refl h2) (st.not y.1)
       (retyped cs form t (Some sql.Bool) c.2 (w.not y.2 (ap (fits sql.Bool) y.3 ∙ c.1))))
   late-tree g (st.is_null {negated = m} {a = a} {x = x} {t = t} i) k r =
       let b = e.IsNull m a in
       let c = subst (Checks (column_types s) t) (n.outs-IsNull m x) (checks k) in
-      at-place g b (of t (n.IsNull m x)) (st.is_null i) k (λ h h2.
-      let y = late-tree g i c.0 (f.ready-IsNull groups aggs m a h r) in
+      at-place g b (of t (n.IsNull m x)) (within.whole-IsNull m a) (st.is_null i) k (λ h h2.
+      let y = late-tree g i c.0 (f.ready-IsNull groups all m a h r) in
       let form = n.IsNull m y.0 in
-      made b (e.IsNull m (behind a)) t form (becomes-IsNull (late_part groups aggs) b m a refl (none b h h2)) (st.is_null y.1)
+      made b (e.IsNull m (behind a)) t form (becomes-IsNull (late_part groups aggs) b m a refl h2) (st.is_null y.1)
       (retyped cs form t (Some sql.Bool) c.1 (w.is_null y.2)))
   late-tree g (st.between {negated = m} {a = a} {low = a2} {high = a3} {x = x} {y = x2} {z = x3} {t = t} i j l) k r =
       let b = e.Between m a a2 a3 in
       let c = subst (Checks (column_types s) t) (n.outs-Between m x x2 x3) (checks k) in
-      at-place g b (of t (n.Between m x x2 x3)) (st.between i j l) k (λ h h2.
-      let ready = f.ready-Between groups aggs m a a2 a3 h r in
+      at-place g b (of t (n.Between m x x2 x3)) (within.whole-Between m a a2 a3) (st.between i j l) k (λ h h2.
+      let ready = f.ready-Between groups all m a a2 a3 h r in
       let y = late-tree g i c.0 ready.0 in
       let y2 = late-tree g j c.1 ready.1 in
       let y3 = late-tree g l c.2 ready.2 in
       let form = n.Between m y.0 y2.0 y3.0 in
       let fit : is_between_typed y.0.ty y2.0.ty y3.0.ty ≡ true = (λ u. is_between_typed (y.3 u) (y2.3 u) (y3.3 u)) ∙ c.3 in
-      made b (e.Between m (behind a) (behind a2) (behind a3)) t form (becomes-Between (late_part groups aggs) b m a a2 a3 refl (none b h h2)) (st.between y.1 y2.1 y3.1)
+      made b (e.Between m (behind a) (behind a2) (behind a3)) t form (becomes-Between (late_part groups aggs) b m a a2 a3 refl h2) (st.between y.1 y2.1 y3.1)
       (retyped cs form t (Some sql.Bool) c.4 (w.between y.2 y2.2 y3.2 fit)))
   late-tree g (st.one_of {negated = m} {a = a} {es = es} {x = x} {xs = xs} {t = t} i j) k r =
       let b = e.OneOf m a es in
       let c = subst (Checks (column_types s) t) (n.outs-OneOf m x xs) (checks k) in
-      at-place g b (of t (n.OneOf m x xs)) (st.one_of i j) k (λ h h2.
-      let ready = f.ready-OneOf groups aggs m a es h r in
+      at-place g b (of t (n.OneOf m x xs)) (within.whole-OneOf m a es) (st.one_of i j) k (λ h h2.
+      let ready = f.ready-OneOf groups all m a es h r in
       let y = late-tree g i c.0 ready.0 in
       let ys = late-tree g j c.1 ready.1 in
       let form = n.OneOf m y.0 ys.0 in
-      made b (e.OneOf m (behind a) (map behind es)) t form (becomes-OneOf (late_part groups aggs) b m a es refl (none b h h2)) (st.one_of y.1 ys.1)
+      made b (e.OneOf m (behind a) (map behind es)) t form (becomes-OneOf (late_part groups aggs) b m a es refl h2) (st.one_of y.1 ys.1)
       (retyped cs form t (Some sql.Bool) c.3 (w.one_of y.2 ys.2 (ap₂ is_in_typed y.3 ys.3 ∙ c.2))))
   late-tree g (st.like {negated = m} {a = a} {pattern = pattern} {x = x} {t = t} i) k r =
       let b = e.Like m a pattern in
       let c = subst (Checks (column_types s) t) (n.outs-Like m x pattern) (checks k) in
-      at-place g b (of t (n.Like m x pattern)) (st.like i) k (λ h h2.
-      let y = late-tree g i c.0 (f.ready-Like groups aggs m a pattern h r) in
+      at-place g b (of t (n.Like m x pattern)) (within.whole-Like m a pattern) (st.like i) k (λ h h2.
+      let y = late-tree g i c.0 (f.ready-Like groups all m a pattern h r) in
       let form = n.Like m y.0 pattern in
-      made b (e.Like m (behind a) pattern) t form (becomes-Like (late_part groups aggs) b m a pattern refl (none b h h2)) (st.like y.1)
+      made b (e.Like m (behind a) pattern) t form (becomes-Like (late_part groups aggs) b m a pattern refl h2) (st.like y.1)
       (retyped cs form t (Some sql.Bool) c.2 (w.like y.2 (ap (fits sql.Text) y.3 ∙ c.1))))
   late-tree g (st.cast {a = a} {to = to} {x = x} {t = t} i) k r =
       let b = e.Cast a to in
       let c = subst (Checks (column_types s) t) (n.outs-Cast x to) (checks k) in
-      at-place g b (of t (n.Cast x to)) (st.cast i) k (λ h h2.
-      let y = late-tree g i c.0 (f.ready-Cast groups aggs a to h r) in
+      at-place g b (of t (n.Cast x to)) (within.whole-Cast a to) (st.cast i) k (λ h h2.
+      let y = late-tree g i c.0 (f.ready-Cast groups all a to h r) in
       let form = n.Cast y.0 to in
-      made b (e.Cast (behind a) to) t form (becomes-Cast (late_part groups aggs) b a to refl (none b h h2)) (st.cast y.1)
+      made b (e.Cast (behind a) to) t form (becomes-Cast (late_part groups aggs) b a to refl h2) (st.cast y.1)
       (retyped cs form t (Some to) c.2 (w.cast y.2 (ap (λ v. can_cast v to) y.3 ∙ c.1))))
   late-tree g (st.case {operand = a} {otherwise = a2} {ws = vs} {x = x} {z = x2} {ys = xs} {t = t} i j l) k r =
       let b = e.Case a vs a2 in
       let c = subst (Checks (column_types s) t) (n.outs-Case x xs x2) (checks k) in
-      at-place g b (of t (n.Case x xs x2)) (st.case i j l) k (λ h h2.
-      let ready = f.ready-Case groups aggs a vs a2 h r in
+      at-place g b (of t (n.Case x xs x2)) (within.whole-Case a vs a2) (st.case i j l) k (λ h h2.
+      let ready = f.ready-Case groups all a vs a2 h r in
       let y = late-tree g i c.0 ready.0 in
       let ys = late-tree g j c.1 ready.1 in
       let y2 = late-tree g l c.2 ready.2 in
@@ -314,38 +333,34 @@ module _ (s : Scope) (q : Select) (groups aggs : List Expr) (ts : List (Option S
       let fit : case_type (option_map (λ v. v.ty) y.0) (map (λ v. v.cond.ty) ys.0) (types (results ys.0 y2.0)) ≡ Some t =
       (λ u. case_type (y.3 u) (ys.3 u) (outcomes u)) ∙ c.3 in
       made b (e.Case (option_map behind a) (map (when_becomes (late_part groups aggs)) vs) (option_map behind a2)) t form
-      (becomes-Case (late_part groups aggs) b a vs a2 refl (none b h h2)) (st.case y.1 ys.1 y2.1) (w.case y.2 ys.2 y2.2 fit))
+      (becomes-Case (late_part groups aggs) b a vs a2 refl h2) (st.case y.1 ys.1 y2.1) (w.case y.2 ys.2 y2.2 fit))
   late-tree g (st.call {f = name} {args = args} {found = found} {xs = xs} {t = t} is i) k r =
       let b = e.Call name false args in
       let c = subst (Checks (column_types s) t) (n.outs-Call found xs) (checks k) in
       let plain : is_aggregate name ≡ false = ap is_some (no-aggregate name found is) in
-      at-place g b (of t (n.Call found xs)) (st.call is i) k (λ h h2.
-      let ys = late-tree g i c.0 (f.ready-Call groups aggs name false args plain h r) in
+      at-place g b (of t (n.Call found xs)) (within.whole-function name false args plain) (st.call is i) k (λ h h2.
+      let ys = late-tree g i c.0 (f.ready-Call groups all name false args plain h r) in
       let form = n.Call found ys.0 in
-      made b (e.Call name false (map behind args)) t form (becomes-Call (late_part groups aggs) b name false args refl (none b h h2)) (st.call is ys.1)
+      made b (e.Call name false (map behind args)) t form (becomes-Call (late_part groups aggs) b name false args refl h2) (st.call is ys.1)
       (w.call ys.2 (ap (fun_type found) ys.3 ∙ c.1)))
-  late-tree g (st.count_all {f = name} {t = t} is) k r =
-      let b = e.Call name true [] in
-      at-place g b (of t (n.Aggregate CountAll None)) (st.count_all is) k (λ h h2. absurd (f.ready-Aggregate groups aggs name true [] (ap is_some is) h2 r))
+  late-tree g (st.count_all {f = name} {t = t} is) k r = at-aggregate g name true [] (of t (n.Aggregate CountAll None)) (ap is_some is) r (st.count_all is) k
   late-tree g (st.aggregate {f = name} {a = a} {found = found} {x = x} {t = t} is i) k r =
-      let b = e.Call name false (a ∷ []) in
-      at-place g b (of t (n.Aggregate found (Some x))) (st.aggregate is i) k
-      (λ h h2. absurd (f.ready-Aggregate groups aggs name false (a ∷ []) (ap is_some is) h2 r))
+      at-aggregate g name false (a ∷ []) (of t (n.Aggregate found (Some x))) (ap is_some is) r (st.aggregate is i) k
   late-tree g st.left_out k r = (None, st.left_out, w.left_out, refl)
   late-tree g (st.there {a = a} i) k r =
-      let y = late-tree g i (inner k) (f.ready-there groups aggs a r) in
+      let y = late-tree g i (inner k) (f.ready-there groups all a r) in
       (Some y.0, st.there y.1, w.there y.2, ap Some y.3)
   late-tree g st.none k r = ([], st.none, w.none, refl)
   late-tree g (st.more {a = a} {es = es} i j) k r =
       let c = inner k in
-      let ready = f.ready-more groups aggs a es r in
+      let ready = f.ready-more groups all a es r in
       let y = late-tree g i c.0 ready.0 in
       let ys = late-tree g j c.1 ready.1 in
       (y.0 ∷ ys.0, st.more y.1 ys.1, w.more y.2 ys.2, ap₂ (λ v vs. v ∷ vs) y.3 ys.3)
   late-tree g st.no_when k r = ([], st.no_when, w.no_when, refl, refl)
   late-tree g (st.more_whens {w = v} {ws = vs} i j l) k r =
       let c = inner k in
-      let ready = f.ready-whens groups aggs v vs r in
+      let ready = f.ready-whens groups all v vs r in
       let y = late-tree g i c.0 ready.0 in
       let y2 = late-tree g j c.1 ready.1 in
       let ys = late-tree g l c.2 ready.2 in

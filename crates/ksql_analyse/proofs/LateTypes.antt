@@ -41,9 +41,7 @@ use Rattle.ksql_grouping.proofs.Calls as called
 use Rattle.ksql_analyse.proofs.AggregatesIn as within
 use Rattle.ksql_analyse.proofs.Cleanness as clean
 use Rattle.ksql_analyse.proofs.Cleanness.{IsClean}
-use Rattle.ksql_analyse.proofs.Handing.{CallsNone}
-use Rattle.ksql_analyse.proofs.Once.{place-found}
-use Rattle.ksql_analyse.proofs.Regrouping.{IsGroup, IsAggregate, IsNeither, what-becomes, late}
+use Rattle.ksql_analyse.proofs.Regrouping.{IsDecided, IsNeither, what-becomes, late}
 use Rattle.ksql_analyse.proofs.Stood.{Stood, IsOf, stood}
 use Rattle.ksql_analyse.proofs.SoundAggregates.{part-typed}
 use Rattle.ksql_analyse.proofs.Distinct.{or-false}
@@ -105,8 +103,8 @@ case-types : (t t′ : Option SqlType) {u u′ : Option (Option SqlType)} {cs cs
     → u′ ≡ u → cs′ ≡ cs → vs′ ≡ vs → case_type u cs vs ≡ Some t → t′ ≡ t
 case-types t t′ {u = u} {cs = cs} {vs′ = vs′} d k l m r = same_Some t′ t (sym d ∙ ap₂ (λ y z. case_type y z vs′) k l ∙ ap (case_type u cs) m ∙ r)
 
-module _ (s L : Scope) (lt : List (Option SqlType)) (groups aggs : List Expr)
-    (decided : (a : Expr) (t : Option SqlType) → IsGroup groups aggs a ⊎ IsAggregate groups aggs a → Has s (h.one a t) → CallsNone is_unknown a → (x : Typed)
+module _ (s L : Scope) (lt : List (Option SqlType)) (groups aggs all : List Expr)
+    (decided : (a : Expr) (t : Option SqlType) → IsDecided groups aggs a → Has s (h.one a t) → IsClean groups all a → (x : Typed)
     → Stands L (st.one (late groups aggs a) x) → HasTypes lt (w.one x) → x.ty ≡ t)
     (bound : (q : Option (List ℕ)) (name : List ℕ) (t : Option SqlType) → is_window_bound q name ≡ true → Has s (h.one (e.Name q name) t) → (x : Typed)
     → Stands L (st.one (e.Name q name) x) → HasTypes lt (w.one x) → x.ty ≡ t) where
@@ -120,7 +118,7 @@ module _ (s L : Scope) (lt : List (Option SqlType)) (groups aggs : List Expr)
   late_when v = when_becomes (late_part groups aggs) v
 
   abbrev Clean : Expr → Type 0
-  Clean a = IsClean groups aggs a
+  Clean a = IsClean groups all a
 
   -- a tree behind the grouping has this type
   abbrev Has_type : Expr → Option SqlType → Type 0
@@ -136,11 +134,11 @@ module _ (s L : Scope) (lt : List (Option SqlType)) (groups aggs : List Expr)
 
   -- what is decided as a whole has its type; there is left what isn't
   whole : (a : Expr) (t : Option SqlType) → Has s (h.one a t) → (IsNeither groups aggs a → Has_type a t) → Has_type a t
-  whole a t k other c x v ty =
-      elim (what-becomes groups aggs a) [
-        | inl g ↦ decided a t (inl g) k c.known x v ty
-        | inr o ↦ elim o [ inl g ↦ decided a t (inr g) k c.known x v ty | inr g ↦ other g c x v ty ]
-      ]
+  whole a t k other c x v ty = at (what-becomes groups aggs a)
+    where
+      at : IsDecided groups aggs a ⊎ IsNeither groups aggs a → x.ty ≡ t
+      at (inl g) = decided a t g k c x v ty
+      at (inr g) = other g c x v ty
 
   checked : (x : Typed) (form : TypedNode) (layer : TypedNode-F TypedNode Typed TypedWhen) → IsOf x form → out-TypedNode form ≡ layer → HasTypes lt (w.one x) → Checks lt x.ty layer
   checked x form layer k g ty = subst (Checks lt x.ty) (ap (λ y. out-TypedNode y.node) k.1 ∙ g) (checks ty)
@@ -160,7 +158,7 @@ module _ (s L : Scope) (lt : List (Option SqlType)) (groups aggs : List Expr)
   sign-step m a u t k r o c x v ty =
       let g = standing (e.Sign m a) (e.Sign m (behind a)) (Expr-F.Sign m (behind a)) x (made.becomes-Sign decide (e.Sign m a) m a refl o.is) (e.outs-Sign m (behind a)) v in
       let d = checked x (n.Sign m g.0) (TypedNode-F.Sign m g.0) g.2 (n.outs-Sign m g.0) ty in
-      one-type (sign_type g.0.ty) t x.ty d.1 (ap sign_type (k (clean.clean-Sign groups aggs m a o.no_group c) g.0 g.1 d.0) ∙ r)
+      one-type (sign_type g.0.ty) t x.ty d.1 (ap sign_type (k (clean.clean-Sign groups all m a o.no_group c) g.0 g.1 d.0) ∙ r)
 
   binary-step : (o : BinaryOp) (a b : Expr) (u v : Option SqlType) (t : SqlType) → Has_type a u → Has_type b v → binary_type o u v ≡ Some t → IsNeither groups aggs (e.Binary o a b)
       → Has_type (e.Binary o a b) (Some t)
@@ -168,7 +166,7 @@ module _ (s L : Scope) (lt : List (Option SqlType)) (groups aggs : List Expr)
       let g = standing (e.Binary o a b) (e.Binary o (behind a) (behind b)) (Expr-F.Binary o (behind a) (behind b)) x (made.becomes-Binary decide (e.Binary o a b) o a b refl i.is)
       (e.outs-Binary o (behind a) (behind b)) y in
       let d = checked x (n.Binary o g.0 g.1) (TypedNode-F.Binary o g.0 g.1) g.4 (n.outs-Binary o g.0 g.1) ty in
-      let p = clean.clean-Binary groups aggs o a b i.no_group c in
+      let p = clean.clean-Binary groups all o a b i.no_group c in
       one-type (binary_type o g.0.ty g.1.ty) t x.ty d.2 (ap₂ (binary_type o) (k p.0 g.0 g.2 d.0) (l p.1 g.1 g.3 d.1) ∙ r)
 
   not-step : (a : Expr) → IsNeither groups aggs (e.Not a) → Has_type (e.Not a) (Some sql.Bool)
@@ -209,7 +207,7 @@ module _ (s L : Scope) (lt : List (Option SqlType)) (groups aggs : List Expr)
       let g = standing (e.Case a ws b) (e.Case (option_map behind a) (map late_when ws) (option_map behind b)) (Expr-F.Case (option_map behind a) (map late_when ws) (option_map behind b)) x
       (made.becomes-Case decide (e.Case a ws b) a ws b refl i.is) (e.outs-Case (option_map behind a) (map late_when ws) (option_map behind b)) v in
       let d = checked x (n.Case g.0 g.2 g.1) (TypedNode-F.Case g.0 g.2 g.1) g.6 (n.outs-Case g.0 g.2 g.1) ty in
-      let p = clean.clean-Case groups aggs a ws b i.no_group c in
+      let p = clean.clean-Case groups all a ws b i.no_group c in
       let kw = l p.1 g.2 g.4 d.1 in
       case-types t x.ty d.3 (k p.0 g.0 g.3 d.0) kw.0 (results-typed g.2 g.1 rs o kw.1 (j p.2 g.1 g.5 d.2)) r
 
@@ -231,7 +229,7 @@ module _ (s L : Scope) (lt : List (Option SqlType)) (groups aggs : List Expr)
       at (inl d) =
           let m : d.found ≡ found = same_Some d.found found (sym d.named ∙ named) in
           let i = checked x (n.Call d.found d.args) (TypedNode-F.Call d.found d.args) d.is (n.outs-Call d.found d.args) ty in
-          same_Some x.ty t (sym i.1 ∙ ap₂ fun_type m (k (clean.clean-call groups aggs f false es plain o.no_group c) d.args d.stand i.0) ∙ r)
+          same_Some x.ty t (sym i.1 ∙ ap₂ fun_type m (k (clean.clean-call groups all f false es plain o.no_group c) d.args d.stand i.0) ∙ r)
       at (inr (inl d)) = absurd (never Count d.named)
       at (inr (inr d)) = absurd (never d.found d.named)
 
@@ -239,12 +237,11 @@ module _ (s L : Scope) (lt : List (Option SqlType)) (groups aggs : List Expr)
   aggregate-step : (f : List ℕ) (star : Bool) (es : List Expr) (found : AggFun) (t : Option SqlType) → aggregate_of f ≡ Some found → IsNeither groups aggs (e.Call f star es)
       → Has_type (e.Call f star es) t
   aggregate-step f star es found t named o c x v ty =
-      let m = (subst (Each _) (within.of-aggregate f star es (disjoint.is-aggregate f found named)) c.among).0 in
-      absurd (cc (sym o.no_aggregate ∙ (place-found aggs (e.Call f star es) 0 m).1))
+      absurd (cc (sym (disjoint.is-aggregate f found named) ∙ sym (within.called-Call f star es) ∙ o.no_call))
 
   name-step : (q : Option (List ℕ)) (name : List ℕ) (t : Option SqlType) → Has s (h.one (e.Name q name) t) → IsNeither groups aggs (e.Name q name) → Has_type (e.Name q name) t
   name-step q name t k o c x v ty =
-      bound q name t (clean.clean-name groups aggs q name o.no_group c) k x
+      bound q name t (clean.clean-name groups all q name o.no_group c) k x
       (subst (λ y. Stands L (st.one y x)) (made.becomes-Name decide (e.Name q name) q name refl o.is) v) ty
 
   leaf : (a : Expr) (b : Expr) (layer : Expr-F Expr WhenText) (t : Option SqlType) (val : Value) → behind a ≡ b → out-Expr b ≡ layer → (layer_is : (x : Typed) → Stood L layer x → IsOf x (n.Literal val))

@@ -1,10 +1,10 @@
 pub mod AggregateTrees
+pub mod AggregateTypes
 pub mod AggregatesIn
 pub mod Bearing
 pub mod Behind
 pub mod BehindGroups
 pub mod Cleanness
-pub mod ColumnsSmall
 pub mod Distinct
 pub mod GroupedQueries
 pub mod Handing
@@ -12,10 +12,8 @@ pub mod Holding
 pub mod ItemNeeds
 pub mod Kept
 pub mod KeySides
-pub mod KeySmall
 pub mod LateForms
 pub mod LateNames
-pub mod LateSmallness
 pub mod LateTrees
 pub mod LateTypes
 pub mod Meant
@@ -53,4 +51,5 @@ pub mod StoodBy
 pub mod TypedQueries
 pub mod Unique
 pub mod Unwindowed
+pub mod ValuedTrees
 pub mod Widening

@@ -1,9 +1,8 @@
 -- A statement behind some relations is at most one item.
-use Rattle.std.proofs.Common.{◌≡◌, ◌⊎◌, ℕ, Bool, true, false, not, IsTrue, List, [], ◌∷◌, ◌++◌, map, length, Option, Some, None, unwrap_or, refl, ap, ap₂, sym, ◌∙◌, subst, is_some}
+use Rattle.std.proofs.Common.{◌≡◌, ℕ, Bool, true, false, not, IsTrue, List, [], ◌∷◌, map, length, Option, Some, None, refl, ap, ap₂, sym, ◌∙◌, subst}
 use Rattle.std.specs.Prelude.{option_map}
 use Rattle.ksql_types.specs.declared.relation.Column.{Column}
 use Rattle.ksql_types.specs.declared.relation.Relation.{Relation}
-use Rattle.ksql_types.specs.declared.relation.Schema.{Schema}
 use Rattle.ksql_types.specs.declared.value.SqlType.{SqlType}
 use Rattle.ksql_grammar.specs.declared.tree.Expr.{Expr}
 use Rattle.ksql_grammar.specs.declared.tree.Property.{Property}
@@ -22,21 +21,19 @@ use Rattle.ksql_program.specs.declared.program.Item.TheVariants.{Declared, Start
 use Rattle.ksql_program.specs.declared.query.Agg.{Agg}
 use Rattle.ksql_program.specs.declared.query.From.{From}
 use Rattle.ksql_program.specs.declared.query.From.TheVariants as from
-use Rattle.ksql_program.specs.declared.query.JoinKind.{JoinKind}
 use Rattle.ksql_program.specs.declared.query.Query.{Query}
 use Rattle.ksql_program.specs.declared.query.Shape.{Shape}
 use Rattle.ksql_program.specs.declared.query.Shape.TheVariants as shape
-use Rattle.ksql_program.specs.declared.query.Window.{Window}
 use Rattle.ksql_clauses.specs.declared.items.Named.{Named}
 use Rattle.ksql_clauses.specs.declared.sources.Known.{Known}
-use Rattle.ksql_clauses.specs.Sources.{all_known, from_scope}
-use Rattle.ksql_rules.specs.Breaks.{is_grouped}
-use Rattle.ksql_rules.specs.Keys.{join_key}
+use Rattle.ksql_clauses.specs.Resolved.{resolved}
+use Rattle.ksql_clauses.specs.Sources.{all_known, from_scope, item_scope}
+use Rattle.ksql_rules.specs.Breaks.{is_grouped, value_columns}
 use Rattle.ksql_scope.specs.declared.scope.Scope.{Scope}
 use Rattle.ksql_typing.specs.Standing.{IsTypedTree}
 use Rattle.ksql_typing.proofs.OneTyping.{one-tree}
-use Rattle.ksql_analyse.specs.Judgement.{IsFrom, IsTypedPart, AreTypedTrees, IsAgg, AreAggs, IsLateTree, IsLatePart, AreLateTrees, AreLateTypes, late_scope, late_types, IsShape, IsResult, AreColumnsOf, IsQuery, IsItemOf, join_kind}
-use Rattle.ksql_analyse.proofs.OneStanding.{one-standing}
+use Rattle.ksql_analyse.specs.Judgement as aggs
+use Rattle.ksql_analyse.specs.Judgement.{exprs, late, IsFrom, IsTypedPart, AreTypedTrees, AreAggs, AreLateTypes, late_scope, IsShape, IsResult, AreColumnsOf, IsQuery, IsItemOf}
 
 -- ---- lists and options
 
@@ -89,44 +86,31 @@ arg-of : TypedNode-F TypedNode Typed TypedWhen → Option (Option Typed)
 arg-of (TypedNode-F.Aggregate f a) = Some a
 arg-of v = None
 
-one-agg : (s : Scope) (a : Expr) (g h : Agg) → IsAgg s a g → IsAgg s a h → g ≡ h
+one-agg : (s : Scope) (a : Expr) (g h : Agg) (x y : Typed) → IsTypedTree s a x → x.node ≡ n.Aggregate g.fun g.arg → IsTypedTree s a y
+    → y.node ≡ n.Aggregate h.fun h.arg → g ≡ h
 unfolding fun-of arg-of
-one-agg s a g h k l =
-    let is : n.Aggregate g.fun g.arg ≡ n.Aggregate h.fun h.arg = sym k.2 ∙ ap (λ x. x.node) (one-tree s a k.0 l.0 k.1 l.1) ∙ l.2 in
+one-agg s a g h x y k is l same =
+    let alike : n.Aggregate g.fun g.arg ≡ n.Aggregate h.fun h.arg = sym is ∙ ap (λ z. z.node) (one-tree s a x y k l) ∙ same in
     let out : TypedNode-F.Aggregate g.fun g.arg ≡ TypedNode-F.Aggregate h.fun h.arg =
-    sym (n.outs-Aggregate g.fun g.arg) ∙ ap out-TypedNode is ∙ n.outs-Aggregate h.fun h.arg in
+    sym (n.outs-Aggregate g.fun g.arg) ∙ ap out-TypedNode alike ∙ n.outs-Aggregate h.fun h.arg in
     let funs : g.fun ≡ h.fun = one-of-some (ap fun-of out) in
     let args : g.arg ≡ h.arg = one-of-some (ap arg-of out) in
     λ i. record { fun = funs i; arg = args i }
 
-one-aggs : (s : Scope) (es : List Expr) (xs ys : List Agg) → AreAggs s es xs → AreAggs s es ys → xs ≡ ys
-one-aggs s [] [] [] h k = refl
-one-aggs s [] [] (y ∷ ys) h k = absurd k
-one-aggs s [] (x ∷ xs) ys h k = absurd h
-one-aggs s (a ∷ es) [] ys h k = absurd h
-one-aggs s (a ∷ es) (x ∷ xs) [] h k = absurd k
-one-aggs s (a ∷ es) (x ∷ xs) (y ∷ ys) h k = ap₂ (λ z zs. z ∷ zs) (one-agg s a x y h.0 k.0) (one-aggs s es xs ys h.1 k.1)
+-- one tree has no two types
+no-types : {A : Type 0} (s : Scope) (a : Expr) (x y : Typed) (t : SqlType) → IsTypedTree s a x → x.ty ≡ Some t → IsTypedTree s a y → y.ty ≡ None → A
+no-types s a x y t k is l none = let e : Some t ≡ None = sym is ∙ ap (λ z. z.ty) (one-tree s a x y k l) ∙ none in absurd (cc (e))
 
--- ---- behind a grouping
-
-one-late : (q : Select) (types : List (Option SqlType)) (a : Expr) (x y : Typed) → IsLateTree q types a x → IsLateTree q types a y → x ≡ y
-one-late q types a x y h k = one-standing (late_types q types) (late_scope q types) a x y h.0 k.0 h.1 k.1
-
-one-late-part : (q : Select) (types : List (Option SqlType)) (o : Option Expr) (x y : Option Typed) → IsLatePart q types o x → IsLatePart q types o y → x ≡ y
-one-late-part q types None None None h k = refl
-one-late-part q types None None (Some y) h k = absurd k
-one-late-part q types None (Some x) y h k = absurd h
-one-late-part q types (Some a) None y h k = absurd h
-one-late-part q types (Some a) (Some x) None h k = absurd k
-one-late-part q types (Some a) (Some x) (Some y) h k = ap Some (one-late q types a x y h k)
-
-one-late-trees : (q : Select) (types : List (Option SqlType)) (es : List Expr) (xs ys : List Typed) → AreLateTrees q types es xs → AreLateTrees q types es ys → xs ≡ ys
-one-late-trees q types [] [] [] h k = refl
-one-late-trees q types [] [] (y ∷ ys) h k = absurd k
-one-late-trees q types [] (x ∷ xs) ys h k = absurd h
-one-late-trees q types (a ∷ es) [] ys h k = absurd h
-one-late-trees q types (a ∷ es) (x ∷ xs) [] h k = absurd k
-one-late-trees q types (a ∷ es) (x ∷ xs) (y ∷ ys) h k = ap₂ (λ z zs. z ∷ zs) (one-late q types a x y h.0 k.0) (one-late-trees q types es xs ys h.1 k.1)
+one-aggs : (s : Scope) {es ks ls : List Expr} {xs ys : List Agg} → AreAggs s es ks xs → AreAggs s es ls ys → (ks ≡ ls) × (xs ≡ ys)
+one-aggs s aggs.none aggs.none = (refl, refl)
+one-aggs s (aggs.kept {a = a} {g = g} t ty is node typed h) (aggs.kept {g = o} u uy at form same k) =
+    let r = one-aggs s h k in
+    (ap (λ es. a ∷ es) r.0, ap₂ (λ z zs. z ∷ zs) (one-agg s a g o t u is node at form) r.1)
+one-aggs s (aggs.kept {a = a} t ty is node typed h) (aggs.null u at form same k) = no-types s a t u ty is typed at same
+one-aggs s (aggs.null {a = a} t is node typed h) (aggs.kept u uy at form same k) = no-types s a u t uy at same is typed
+one-aggs s (aggs.null {a = a} {g = g} t is node typed h) (aggs.null {g = o} u at form same k) =
+    let r = one-aggs s h k in
+    (r.0, ap₂ (λ z zs. z ∷ zs) (one-agg s a g o t u is node at form) r.1)
 
 -- ---- what a query reads
 
@@ -150,6 +134,9 @@ not-both : {A : Type 0} (b : Bool) → IsTrue (not b) → IsTrue b → A
 not-both true h k = absurd (cc (h))
 not-both false h k = absurd (cc (k))
 
+moved : {A B : Type 0} (P : A → B → Type 0) (a c : A) (b d : B) → a ≡ c → b ≡ d → P a b → P c d
+moved {A} {B} P a c b d h k p = subst (λ (y : B). P c y) k (subst (λ (x : A). P x b) h p)
+
 one-shape : (q : Select) (ks : List Known) (x y : Shape) → IsShape q ks x → IsShape q ks y → x ≡ y
 one-shape q ks (shape.Plain keys values) (shape.Plain keys2 values2) h k =
     ap₂ shape.Plain (one-trees _ _ keys keys2 h.1 k.1) (one-trees _ _ values values2 h.2 k.2)
@@ -157,11 +144,15 @@ one-shape q ks (shape.Plain keys values) (shape.Group keys2 w2 aggs2 having2 val
 one-shape q ks (shape.Group keys2 w2 aggs2 having2 values2) (shape.Plain keys values) h k = not-both (is_grouped q) k.0 h.0
 one-shape q ks (shape.Group keys window aggs having values) (shape.Group keys2 window2 aggs2 having2 values2) h k =
     let same-keys : keys ≡ keys2 = one-trees _ _ keys keys2 h.2 k.2 in
-    let same-aggs : aggs ≡ aggs2 = one-aggs _ _ aggs aggs2 h.3 k.3 in
-    let is-late = subst (λ gs. AreLateTypes keys2 gs h.4.0) same-aggs (subst (λ xs. AreLateTypes xs aggs h.4.0) same-keys h.4.1) in
-    let same-types : h.4.0 ≡ k.4.0 = all-some h.4.0 k.4.0 (sym is-late ∙ k.4.1) in
-    let same-having : having ≡ having2 = one-late-part q k.4.0 _ having having2 (subst (λ ts. IsLatePart q ts _ having) same-types h.4.2) k.4.2 in
-    let same-values : values ≡ values2 = one-late-trees q k.4.0 _ values values2 (subst (λ ts. AreLateTrees q ts _ values) same-types h.4.3) k.4.3 in
+    let found = one-aggs (item_scope q ks) h.3.1 k.3.1 in
+    let same-aggs : aggs ≡ aggs2 = found.1 in
+    let is-late = subst (λ gs. AreLateTypes keys2 gs h.3.2) same-aggs (subst (λ xs. AreLateTypes xs aggs h.3.2) same-keys h.3.3) in
+    let same-types : h.3.2 ≡ k.3.2 = all-some h.3.2 k.3.2 (sym is-late ∙ k.3.3) in
+    let here : List Expr → List SqlType → Type 0 =
+    λ es ts. IsTypedPart (late_scope q ts) (option_map (λ a. late q ks es (resolved (item_scope q ks) a)) q.having) having in
+    let there : List Expr → List SqlType → Type 0 = λ es ts. AreTypedTrees (late_scope q ts) (map (late q ks es) (exprs (value_columns q ks))) values in
+    let same-having : having ≡ having2 = one-part _ _ having having2 (moved here h.3.0 k.3.0 h.3.2 k.3.2 found.0 same-types h.3.4) k.3.4 in
+    let same-values : values ≡ values2 = one-trees _ _ values values2 (moved there h.3.0 k.3.0 h.3.2 k.3.2 found.0 same-types h.3.5) k.3.5 in
     λ i. shape.Group (same-keys i) ((h.1 ∙ sym k.1) i) (same-aggs i) (same-having i) (same-values i)
 
 -- ---- the relation of a query

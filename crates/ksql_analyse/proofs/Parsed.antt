@@ -103,7 +103,7 @@ truth_small : (b : Bool) → IsSmall (e.Truth b)
 unfolding is_small
 truth_small b = f.fold-Truth Bool Bool small_step (λ w. w.cond && w.result) b
 
-null_small : IsSmall e.Null
+pub null_small : IsSmall e.Null
 unfolding is_small
 null_small = f.fold-Null Bool Bool small_step (λ w. w.cond && w.result)
 

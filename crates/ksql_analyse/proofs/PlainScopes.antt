@@ -1,6 +1,6 @@
 -- No column that a query can name has the name of a time.
-use Rattle.std.proofs.Common.{◌≡◌, ℕ, Bool, true, false, not, ◌||◌, if◌then◌else◌, List, [], ◌∷◌, ◌++◌, map, take, Option, Some, None, refl, ap, sym, ◌∙◌, subst, IsTrue}
-use Rattle.std.specs.Prelude.{slice_get, codes, bytes_eq}
+use Rattle.std.proofs.Common.{◌≡◌, ℕ, Bool, true, false, not, if◌then◌else◌, List, [], ◌∷◌, ◌++◌, map, take, Option, Some, None, refl, IsTrue}
+use Rattle.std.specs.Prelude.{codes, bytes_eq}
 use Rattle.std.specs.List.{All, flat_map, AllByRecursion as Each}
 use Rattle.std.proofs.lemmas.List.Elements.{recursion_from_All}
 use Rattle.ksql_types.specs.Catalog.{find_named, has_name}

@@ -10,10 +10,11 @@ use Rattle.ksql_grammar.specs.declared.tree.Property.{Property}
 use Rattle.ksql_grammar.specs.declared.tree.Select.{Select}
 use Rattle.ksql_scope.specs.declared.scope.Scope.{Scope}
 use Rattle.ksql_scope.specs.Functions.{is_unknown}
-use Rattle.ksql_scope.specs.Uses.{calls, has_unknown_function}
+use Rattle.ksql_scope.specs.Uses.{calls}
 use Rattle.ksql_scope.specs.Typing.{CanAgree}
 use Rattle.ksql_scope.proofs.Equations as equation
 use Rattle.ksql_scope.proofs.NameFlags.{none-of}
+use Rattle.ksql_typing.proofs.TypeLaws as laws
 use Rattle.ksql_clauses.specs.declared.sources.Known.{Known}
 use Rattle.ksql_clauses.specs.Items.{is_join}
 use Rattle.ksql_clauses.specs.Sources.{all_known, from_scope, item_scope, on_exprs, joined_streams}
@@ -37,8 +38,8 @@ both-typable s on x y is h agree =
     let k = subst (IfThere (CanAgree s)) is agree in
     let small = on-small on x y is h.small in
     let called : calls on ≡ calls x ++ calls y = ap calls (equation-is on x y is) ∙ equation.calls-Binary op.Eq x y in
-    let known = none-of is_unknown (calls x) (calls y) (ap (list_any is_unknown) (sym called) ∙ h.known) in
-    (record { small = small.0; known = known.0; typed = (k.0, k.2) }, record { small = small.1; known = known.1; typed = (k.1, k.3) })
+    let known = none-of is_unknown (calls x) (calls y) (ap (list_any is_unknown) (sym called) ∙ laws.known s on h.tree h.is) in
+    (typing.typable s x small.0 known.0 (k.0, k.2), typing.typable s y small.1 known.1 (k.1, k.3))
 
 is-there : {A : Type 0} (o : Option A) → is_some o ≡ true → (a : A) × (o ≡ Some a)
 is-there None h = absurd (cc (h))

@@ -22,7 +22,6 @@ use Rattle.ksql_expr.specs.declared.typed.TypedNode.{out-TypedNode}
 use Rattle.ksql_expr.specs.declared.typed.TypedNode.TheVariants as n
 use Rattle.ksql_expr.specs.declared.typed.TypedNode.TheOpen.{TypedNode-F}
 use Rattle.ksql_expr.specs.Aggregates.{holds}
-use Rattle.ksql_expr.specs.Rules.{agg_type}
 use Rattle.ksql_expr.specs.Typing as w
 use Rattle.ksql_expr.specs.Typing.{HasTypes, of}
 use Rattle.ksql_program.specs.declared.query.Agg.{Agg}
@@ -42,7 +41,6 @@ use Rattle.ksql_walks.specs.Parts.{any_of}
 use Rattle.ksql_grouping.specs.Grouping.{has_aggregate, has_nested_aggregate, is_aggregate_call, ordered_aggregates}
 use Rattle.ksql_grouping.proofs.Calls as called
 use Rattle.ksql_grouping.proofs.Calls.{calls_one}
-use Rattle.ksql_analyse.specs.Judgement.{IsAgg}
 use Rattle.ksql_analyse.proofs.Bearing.{reach, bears, no-aggregate-held, short-texts-held, AreNear}
 use Rattle.ksql_analyse.proofs.Handing.{IsFlat, CallsNone, nested-Call}
 use Rattle.ksql_analyse.proofs.Meant.{IsMeant, meant, same-column}
@@ -163,12 +161,9 @@ same-aggregate f g x y h =
     let z : TypedNode-F.Aggregate f x ≡ TypedNode-F.Aggregate g y = sym (n.outs-Aggregate f x) ∙ ap out-TypedNode h ∙ n.outs-Aggregate g y in
     (cc (z), cc (z))
 
-pub record IsSoundAgg (over : Kind) (s : Scope) (a : Expr) (g : Agg) : Type 0 where
-  pub tree : Typed
-  pub is : IsTypedTree s a tree
+pub record IsSoundAgg (over : Kind) (s : Scope) (g : Agg) : Type 0 where
   pub over_kind : IsAggOver over g.fun
   pub argument : IsArgument (map typed_column s.columns) g.arg
-  pub typed : agg_type g.fun (argument_type g.arg) ≡ Some tree.ty
 
 pub of-argument : (x : Option Typed) → argument_type x ≡ option_map (λ e. e.ty) x
 of-argument None = refl
@@ -178,8 +173,8 @@ arguments-plain : (args : List Expr) → list_any has_aggregate args ≡ false �
 arguments-plain args h a is = (or-false (has_aggregate a) false (ap (list_any has_aggregate) (sym is) ∙ h)).0
 
 pub agg-sound : (over : Kind) (stream : Bool) (s : Scope) (a : Expr) (g : Agg) → (if stream then kind.Stream else kind.Table) ≡ over → IsAlone a → IsSmall a
-    → (stream ≡ false → CallsNone (is_among ordered_aggregates) a) → IsAgg s a g → IsSoundAgg over s a g
-agg-sound over stream s a g kinds alone short free h = at (stood s a h.0 (Expr-F.Call alone.name alone.star alone.args) (ap out-Expr alone.is ∙ e.outs-Call alone.name alone.star alone.args) h.1.0)
+    → (stream ≡ false → CallsNone (is_among ordered_aggregates) a) → (x : Typed) → IsTypedTree s a x → x.node ≡ n.Aggregate g.fun g.arg → IsSoundAgg over s g
+agg-sound over stream s a g kinds alone short free x h node = at (stood s a x (Expr-F.Call alone.name alone.star alone.args) (ap out-Expr alone.is ∙ e.outs-Call alone.name alone.star alone.args) h.0)
   where
     fit : (found : AggFun) → aggregate_of alone.name ≡ Some found → (stream ≡ false → IsOverTable found)
     fit found named m =
@@ -187,36 +182,24 @@ agg-sound over stream s a g kinds alone short free h = at (stood s a h.0 (Expr-F
         (sym (called.calls-Call (is_among ordered_aggregates) a alone.name alone.star alone.args alone.is) ∙ free m) in
         free-aggregate alone.name found named k.0
 
-    -- the type of an aggregate is that of its tree
-    typed-as : agg_type g.fun (argument_type g.arg) ≡ Some h.0.ty
-    typed-as =
-        let checked = subst (Checks (column_types s) h.0.ty) (ap out-TypedNode h.2 ∙ n.outs-Aggregate g.fun g.arg) (checks h.1.1) in
-        ap (agg_type g.fun) (of-argument g.arg) ∙ checked.1
-
     small-argument : (b : Expr) → alone.args ≡ b ∷ [] → IsSmall b
     small-argument b k =
         let all = subst (λ es. are_small es ≡ true) k (small.small-Call a short alone.name alone.star alone.args alone.is) in
         (both-true (is_small b) true all).0
 
-    at : Stood s (Expr-F.Call alone.name alone.star alone.args) h.0 → IsSoundAgg over s a g
-    at (inl c) = absurd (cc (sym h.2 ∙ ap (λ y. y.node) c.is.1))
+    at : Stood s (Expr-F.Call alone.name alone.star alone.args) x → IsSoundAgg over s g
+    at (inl c) = absurd (cc (sym node ∙ ap (λ y. y.node) c.is.1))
     at (inr (inl c)) =
-        let same = same-aggregate g.fun CountAll g.arg None (sym h.2 ∙ ap (λ y. y.node) c.is.1) in
+        let same = same-aggregate g.fun CountAll g.arg None (sym node ∙ ap (λ y. y.node) c.is.1) in
         record {
-          tree = h.0;
-          is = h.1;
           over_kind = over-kind g.fun stream over kinds (λ m. subst IsOverTable (sym same.0) tt);
           argument = subst (IsArgument (map typed_column s.columns)) (sym same.1) tt;
-          typed = typed-as;
         }
     at (inr (inr c)) =
-        let same = same-aggregate g.fun c.found g.arg (Some c.tree) (sym h.2 ∙ ap (λ y. y.node) c.is.1) in
-        let checked = subst (Checks (column_types s) h.0.ty) (ap out-TypedNode (ap (λ y. y.node) c.is.1) ∙ n.outs-Aggregate c.found (Some c.tree)) (checks h.1.1) in
+        let same = same-aggregate g.fun c.found g.arg (Some c.tree) (sym node ∙ ap (λ y. y.node) c.is.1) in
+        let checked = subst (Checks (column_types s) x.ty) (ap out-TypedNode (ap (λ y. y.node) c.is.1) ∙ n.outs-Aggregate c.found (Some c.tree)) (checks h.1) in
         record {
-          tree = h.0;
-          is = h.1;
           over_kind = over-kind g.fun stream over kinds (λ m. subst IsOverTable (sym same.0) (fit c.found c.named m));
           argument = subst (IsArgument (map typed_column s.columns)) (sym same.1)
               (argument-sound s c.arg c.tree (arguments-plain alone.args alone.flat c.arg c.alone, small-argument c.arg c.alone) c.stands (part-typed checked.0));
-          typed = typed-as;
         }

@@ -3,8 +3,6 @@ use Rattle.std.proofs.Common.{◌≡◌, ℕ, suc, ◌*◌, ◌^◌, ◌≤◌, 
 use Rattle.std.specs.Prelude.{option_map}
 use Rattle.std.specs.List.{list_any, flat_map, AllByRecursion as Each}
 use Rattle.std.proofs.lemmas.Bool.{false≢true, ltb-false, lt-ltb}
-use Rattle.std.proofs.lemmas.Option.{same_Some}
-use Rattle.ksql_types.specs.declared.relation.Column.{Column}
 use Rattle.ksql_types.specs.declared.relation.Kind.{Kind}
 use Rattle.ksql_types.specs.declared.relation.Kind.TheVariants as kind
 use Rattle.ksql_types.specs.declared.value.SqlType.{SqlType}
@@ -16,13 +14,11 @@ use Rattle.ksql_grammar.specs.declared.tree.SelectItem.TheVariants.{Star, StarOf
 use Rattle.ksql_grammar.specs.declared.tree.SpanText.{SpanText}
 use Rattle.ksql_grammar.specs.declared.tree.WindowText.{WindowText}
 use Rattle.ksql_grammar.specs.declared.tree.WindowText.TheVariants.{Tumbling, Hopping}
-use Rattle.ksql_expr.specs.declared.typed.Typed.{Typed}
-use Rattle.ksql_expr.specs.Rules.{agg_type}
 use Rattle.ksql_program.specs.declared.query.Agg.{Agg}
 use Rattle.ksql_program.specs.declared.query.Window.{Window}
 use Rattle.ksql_program.specs.Names.{is_among}
 use Rattle.ksql_program.specs.Sound as sound
-use Rattle.ksql_program.specs.Sound.{IsSoundWindow, IsWindowed, Aggregates, AreColumns, IsSoundOver, argument_type, window_types, grouped_kind}
+use Rattle.ksql_program.specs.Sound.{IsSoundWindow, Aggregates}
 use Rattle.ksql_scope.specs.declared.scope.Scope.{Scope}
 use Rattle.ksql_scope.specs.Functions.{is_aggregate}
 use Rattle.ksql_scope.specs.Uses.{IsSmall}
@@ -36,9 +32,11 @@ use Rattle.ksql_clauses.specs.Sources.{item_scope, late_exprs, item_exprs, there
 use Rattle.ksql_clauses.specs.Windows.{window_of, is_bad, is_too_large, millis, grace_millis, spans, perhaps, keeps_too_little}
 use Rattle.ksql_clauses.proofs.Naming as naming
 use Rattle.ksql_rules.specs.Breaks.{shown_exprs}
-use Rattle.ksql_analyse.specs.Judgement.{AreAggs, AreLateTrees, IsLateTree, late_types, late_scope, aggregate_exprs}
+use Rattle.ksql_analyse.specs.Judgement as aggs
+use Rattle.ksql_analyse.specs.Judgement.{AreAggs, agg_types, aggregate_exprs}
+use Rattle.ksql_analyse.proofs.AggregateTypes.{agg-typed, types-kept, types-null}
 use Rattle.ksql_analyse.proofs.AggregatesIn.{aggregates-inherit, aggregates-seen, Kept}
-use Rattle.ksql_analyse.proofs.Bearing.{no-aggregate-held, short-texts-held, some, some-append}
+use Rattle.ksql_analyse.proofs.Bearing.{some, some-append}
 use Rattle.ksql_analyse.proofs.Handing.{IsFlat, CallsNone, flat-inherits, small-inherits, calls-inherit, nested-Name, nested-resolved}
 use Rattle.ksql_analyse.proofs.Once.{IsAmong, once-has, once-each, once-some, each-flat-of}
 use Rattle.ksql_analyse.proofs.Regrouping.{late-none, late-small}
@@ -222,59 +220,28 @@ module _ (q : Select) (ks : List Known) (few : nat_lt 64 (length (result_columns
       flat [] k = tt
       flat (a ∷ es) k = each-append (IsFit stream) (aggregates_of a) (flat_map aggregates_of es) (fit-aggregates stream a k.0) (flat es k.1)
 
--- ---- the types behind a grouping
+-- ---- behind a grouping
 
--- the keys' types come first
-pub types-split : (keys : List Typed) (os : List (Option (Option SqlType))) (types : List (Option SqlType)) → map (λ x. Some x.ty) keys ++ os ≡ map Some types
-    → (ats : List (Option SqlType)) × (types ≡ map (λ x. x.ty) keys ++ ats) × (os ≡ map Some ats)
-types-split [] os types h = (types, refl, h)
-types-split (x ∷ keys) os [] h = absurd (cc (h))
-types-split (x ∷ keys) os (t ∷ types) h =
-    let first : Some x.ty ≡ Some t = cc (h) in
-    let rest : map (λ y. Some y.ty) keys ++ os ≡ map Some types = cc (h) in
-    let r = types-split keys os types rest in
-    (r.0, ap₂ (λ y ys. y ∷ ys) (sym (same_Some x.ty t first)) r.1, r.2)
+-- there are as many of a program as of its query
+pub aggs-length : {s : Scope} {es typed : List Expr} {gs : List Agg} → AreAggs s es typed gs → some es ≡ true → 1 ≤ length gs
+aggs-length aggs.none k = absurd (cc (k))
+aggs-length (aggs.kept t ty is node same rest) k = omega arith
+aggs-length (aggs.null t is node same rest) k = omega arith
 
 -- aggregates with their types
 pub aggs-sound : (over : Kind) (stream : Bool) (s : Scope) (types : List (Option SqlType)) → map typed_column s.columns ≡ types → (if stream then kind.Stream else kind.Table) ≡ over
-    → (es : List Expr) (gs : List Agg) (ats : List (Option SqlType)) → Each (IsFit stream) es → AreAggs s es gs
-    → map (λ g. agg_type g.fun (argument_type g.arg)) gs ≡ map Some ats → Aggregates over types gs ats
-aggs-sound over stream s types same kinds [] [] [] f h e = sound.none
-aggs-sound over stream s types same kinds [] [] (t ∷ ats) f h e = absurd (cc (e))
-aggs-sound over stream s types same kinds [] (g ∷ gs) ats f h e = absurd h
-aggs-sound over stream s types same kinds (a ∷ es) [] ats f h e = absurd h
-aggs-sound over stream s types same kinds (a ∷ es) (g ∷ gs) [] f h e = absurd (cc (e))
-aggs-sound over stream s types same kinds (a ∷ es) (g ∷ gs) (t ∷ ats) f h e =
-    let k = agg-sound over stream s a g kinds f.0.0 f.0.1 f.0.2 h.0 in
-    let first : agg_type g.fun (argument_type g.arg) ≡ Some t = cc (e) in
-    let rest : map (λ o. agg_type o.fun (argument_type o.arg)) gs ≡ map Some ats = cc (e) in
-    sound.more k.over_kind (subst (λ ts. sound.IsArgument ts g.arg) same k.argument) first (aggs-sound over stream s types same kinds es gs ats f.1 h.1 rest)
+    → {es typed : List Expr} {gs : List Agg} → AreAggs s es typed gs → Each (IsFit stream) es → Aggregates over types gs (map (λ t. Some t) (agg_types gs))
+aggs-sound over stream s types same kinds aggs.none f = sound.none
+aggs-sound over stream s types same kinds (aggs.kept {a = a} {g = g} {gs = gs} x ty is node typed h) f =
+    let k = agg-sound over stream s a g kinds f.0.0 f.0.1 f.0.2 x is node in
+    subst (λ ts. Aggregates over types (g ∷ gs) (map (λ t. Some t) ts)) (sym (types-kept g gs x ty is node typed))
+    (sound.more k.over_kind (subst (λ ts. sound.IsArgument ts g.arg) same k.argument) (agg-typed g x is node ∙ ap Some typed)
+    (aggs-sound over stream s types same kinds h f.1))
+aggs-sound over stream s types same kinds (aggs.null {a = a} {g = g} {gs = gs} x is node typed h) f =
+    let k = agg-sound over stream s a g kinds f.0.0 f.0.1 f.0.2 x is node in
+    subst (λ ts. Aggregates over types (g ∷ gs) (map (λ t. Some t) ts)) (sym (types-null g gs x is node typed))
+    (sound.untyped k.over_kind (subst (λ ts. sound.IsArgument ts g.arg) same k.argument) (agg-typed g x is node ∙ ap Some typed)
+    (aggs-sound over stream s types same kinds h f.1))
 
-pub aggs-length : (s : Scope) (es : List Expr) (gs : List Agg) → AreAggs s es gs → some es ≡ true → 1 ≤ length gs
-aggs-length s [] gs h k = absurd (cc (k))
-aggs-length s (a ∷ es) [] h k = absurd h
-aggs-length s (a ∷ es) (g ∷ gs) h k = omega arith
-
--- ---- trees behind a grouping
-
-abbrev pub IsLateFit : List Expr → Expr → Type 0
-IsLateFit aggs a = Each (IsAmong aggs) (aggregates_of a) × IsSmall a
-
-pub late-plain : (groups aggs : List Expr) (a : Expr) → IsLateFit aggs a → IsPlain (regrouped groups aggs a)
-late-plain groups aggs a h = (late-none groups aggs a h.0, late-small groups aggs a h.1)
-
-pub late-sound : (q : Select) (types : List (Option SqlType)) (a : Expr) (x : Typed) → IsPlain a → IsLateTree q types a x → IsSoundOver (late_types q types) x
-late-sound q types a x p h =
-    record { typed = h.1; plain = no-aggregate-held (late_scope q types) a x h.0 p.0; short = short-texts-held (late_scope q types) a x h.0 p.1 }
-
-pub late-columns : (q : Select) (types all : List (Option SqlType)) → late_types q types ≡ all → (es : List Expr) (xs : List Typed) (cs : List Column) → Each IsPlain es
-    → AreLateTrees q types es xs → map (λ c. Some c.ty) cs ≡ map (λ x. x.ty) xs → AreColumns all xs cs
-late-columns q types all same [] [] [] k h e = tt
-late-columns q types all same [] [] (c ∷ cs) k h e = absurd (cc (e))
-late-columns q types all same [] (x ∷ xs) cs k h e = absurd h
-late-columns q types all same (a ∷ es) [] cs k h e = absurd h
-late-columns q types all same (a ∷ es) (x ∷ xs) [] k h e = absurd (cc (e))
-late-columns q types all same (a ∷ es) (x ∷ xs) (c ∷ cs) k h e =
-    let first : Some c.ty ≡ x.ty = cc (e) in
-    let rest : map (λ d. Some d.ty) cs ≡ map (λ y. y.ty) xs = cc (e) in
-    (subst (λ t. IsSoundOver t x) same (late-sound q types a x k.0 h.0), sym first, late-columns q types all same es xs cs k.1 h.1 rest)
+pub late-plain : (groups aggs : List Expr) (a : Expr) → IsSmall a → IsPlain (regrouped groups aggs a)
+late-plain groups aggs a h = (late-none groups aggs a, late-small groups aggs a h)

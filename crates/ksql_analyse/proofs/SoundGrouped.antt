@@ -16,7 +16,7 @@ use Rattle.ksql_grammar.specs.declared.tree.Select.{Select}
 use Rattle.ksql_grammar.specs.declared.tree.StatementBody.TheVariants.{Query}
 use Rattle.ksql_grammar.specs.declared.tree.WindowText.{WindowText}
 use Rattle.ksql_expr.specs.declared.typed.Typed.{Typed}
-use Rattle.ksql_expr.specs.Rules.{fits, agg_type}
+use Rattle.ksql_expr.specs.Rules.{fits}
 use Rattle.ksql_program.specs.declared.program.Item.{Item}
 use Rattle.ksql_program.specs.declared.query.Agg.{Agg}
 use Rattle.ksql_program.specs.declared.query.From.{From}
@@ -26,6 +26,7 @@ use Rattle.ksql_program.specs.Names.{is_among}
 use Rattle.ksql_program.specs.Sound as sound
 use Rattle.ksql_program.specs.Sound.{IsWindowed, IsCondition, IsSoundOver, Makes, window_types, grouped_kind}
 use Rattle.ksql_scope.specs.declared.scope.Scope.{Scope}
+use Rattle.ksql_scope.specs.Scope.{column_types}
 use Rattle.ksql_scope.specs.Functions.{is_unknown}
 use Rattle.ksql_scope.specs.Uses.{IsSmall, calls, has_unknown_function}
 use Rattle.ksql_scope.specs.Typing.{CanBeTrue}
@@ -38,18 +39,19 @@ use Rattle.ksql_clauses.specs.Sources.{from_scope, item_scope, from_columns, rea
 use Rattle.ksql_clauses.specs.Windows.{window_of, is_bad}
 use Rattle.ksql_rules.specs.Breaks.{is_grouped, group_exprs, shown_exprs, is_bad_window, has_large_window, value_columns, IfThere}
 use Rattle.ksql_rules.specs.Limits.{IsQueryWithin}
-use Rattle.ksql_analyse.specs.Judgement.{IsShape, IsResult, IsLatePart, late_types, aggregate_exprs, exprs, late}
+use Rattle.ksql_analyse.specs.Judgement.{IsShape, IsResult, IsTypedPart, AreAggs, AreLateTypes, agg_types, late_scope, aggregate_exprs, exprs, late}
 use Rattle.ksql_analyse.proofs.Cleanness.{IsClean}
 use Rattle.ksql_analyse.proofs.Handing.{IsFlat, CallsNone}
+use Rattle.ksql_analyse.proofs.LateNames.{columns-typed}
 use Rattle.ksql_analyse.proofs.Once.{IsAmong}
 use Rattle.ksql_analyse.proofs.Refusals.{KeepsQuery, stated, not-not, or-three}
 use Rattle.ksql_analyse.proofs.Resolution.{calls-resolved}
 use Rattle.ksql_analyse.proofs.ResolvedTypes.{resolved-type}
-use Rattle.ksql_analyse.proofs.SoundGroup.{window-sound, shown-hold, shown-name, shown-resolved, some-aggregates, shown-among, aggregates-fit, types-split, aggs-sound, aggs-length, late-plain, late-sound, late-columns, IsShown, IsLateFit}
+use Rattle.ksql_analyse.proofs.SoundGroup.{window-sound, shown-hold, shown-name, shown-resolved, some-aggregates, shown-among, aggregates-fit, aggs-length, aggs-sound, late-plain, IsShown}
 use Rattle.ksql_analyse.proofs.SoundHaving.{AreSound, late-type, reserved-nowhere, trees-length}
 use Rattle.ksql_analyse.proofs.SoundPlain.{plain-resolved}
 use Rattle.ksql_analyse.proofs.SoundQuery.{IsRead, early-plain, group-part, having-part, values-hold}
-use Rattle.ksql_analyse.proofs.SoundTrees.{IsPlain, stable, columns-sound, each-false, each-both, each-front, each-behind}
+use Rattle.ksql_analyse.proofs.SoundTrees.{IsPlain, stable, tree-sound, columns-sound, each-false, each-front, each-behind}
 use Rattle.ksql_analyse.proofs.SoundPlain.{typed_column}
 use Rattle.ksql_analyse.proofs.Distinct.{and-false}
 use Rattle.ksql_analyse.proofs.SoundColumns.{each-map, each-of-map, each-weaker}
@@ -67,8 +69,8 @@ module _ (before : List Item) (catalog : List Relation) (table : Bool) (name : L
   abbrev aggs : List Expr
   aggs = aggregate_exprs q ks
 
-  abbrev behind : Expr → Expr
-  behind a = late q ks a
+  abbrev behind : List Expr → Expr → Expr
+  behind typed a = late q ks typed a
 
   parts : (not (list_any has_aggregate (late_exprs q)) ≡ false) × (is_some q.partition ≡ false) × (list_any (has_bare_column (group_exprs q ks)) (shown_exprs q ks) ≡ false)
   parts = or-three (not (list_any has_aggregate (late_exprs q))) (is_some q.partition) (list_any (has_bare_column (group_exprs q ks)) (shown_exprs q ks))
@@ -83,20 +85,21 @@ module _ (before : List Item) (catalog : List Relation) (table : Bool) (name : L
       (λ m. each-false (λ a. list_any (is_among ordered_aggregates) (calls a)) (late_exprs q)
       (and-false (not (reads_stream ks)) (list_any (λ a. list_any (is_among ordered_aggregates) (calls a)) (late_exprs q)) (ap not m) keeps.over_table)))
 
-  fit : Each (IsLateFit aggs) (shown_exprs q ks)
-  fit =
-      each-both (λ a. Each (IsAmong aggs) (aggregates_of a)) IsSmall (shown_exprs q ks) (shown-among q ks keeps.few)
-      (each-weaker (IsShown (reads_stream ks)) IsSmall (λ a k. k.1) (shown_exprs q ks) shown)
+  among : Each (λ a. Each (IsAmong aggs) (aggregates_of a)) (shown_exprs q ks)
+  among = shown-among q ks keeps.few
+
+  small : Each IsSmall (shown_exprs q ks)
+  small = each-weaker (IsShown (reads_stream ks)) IsSmall (λ a k. k.1) (shown_exprs q ks) shown
 
   of-having : (P : Expr → Type 0) → Each P (shown_exprs q ks) → Each P (there (option_map (resolved s) q.having))
   of-having P h = each-behind P (map (λ (c : Named). c.expr) (result_columns q ks)) (there (option_map (resolved s) q.having)) h
 
-  values-fit : Each IsPlain (map behind (exprs (value_columns q ks)))
-  values-fit =
-      each-map IsPlain behind (exprs (value_columns q ks))
-      (each-weaker (IsLateFit aggs) (λ a. IsPlain (behind a)) (λ a k. late-plain (group_exprs q ks) aggs a k) (exprs (value_columns q ks))
-      (values-hold (IsLateFit aggs) q ks (each-of-map (IsLateFit aggs) (λ (c : Named). c.expr) (result_columns q ks)
-      (each-front (IsLateFit aggs) (map (λ (c : Named). c.expr) (result_columns q ks)) (there (option_map (resolved s) q.having)) fit))))
+  values-plain : (typed : List Expr) → Each IsPlain (map (behind typed) (exprs (value_columns q ks)))
+  values-plain typed =
+      each-map IsPlain (behind typed) (exprs (value_columns q ks))
+      (each-weaker IsSmall (λ a. IsPlain (behind typed a)) (late-plain (group_exprs q ks) typed) (exprs (value_columns q ks))
+      (values-hold IsSmall q ks (each-of-map IsSmall (λ (c : Named). c.expr) (result_columns q ks)
+      (each-front IsSmall (map (λ (c : Named). c.expr) (result_columns q ks)) (there (option_map (resolved s) q.having)) small))))
 
   -- the window
   windowed : (o : Option WindowText) → q.window ≡ o → (over : Kind) → (if reads_stream ks then kind.Stream else kind.Table) ≡ over → IsWindowed over (option_map window_of o)
@@ -118,12 +121,12 @@ module _ (before : List Item) (catalog : List Relation) (table : Bool) (name : L
       → IsShape q ks (shape.Group keys window gs having values) → IsResult number (stated table name (Query ps q)) ps q ks (shape.Group keys window gs having values) out
       → Makes read.left read.types (shape.Group keys window gs having values) out
   makes-grouped f keys values window gs having number out read h r =
-      let types = h.4.0 in
-      let split = types-split keys (map (λ (a : Agg). agg_type a.fun (sound.argument_type a.arg)) gs) types h.4.1 in
-      let ats = split.0 in
+      let typed = h.3.0 in
+      let types = h.3.2 in
+      let ats : List (Option SqlType) = map (λ t. Some t) (agg_types gs) in
       let row : map typed_column (from_columns q ks) ≡ read.types = sym (append-nil (map typed_column (from_columns q ks))) ∙ read.scoped in
-      let all : late_types q types ≡ map (λ (x : Typed). x.ty) keys ++ ats ++ window_types window =
-      ap₂ (λ x y. x ++ y) split.1 (window-added q.window ∙ ap window_types (sym h.1)) in
+      let all : column_types (late_scope q types) ≡ map (λ (x : Typed). x.ty) keys ++ ats ++ window_types window =
+      ap₂ (λ x y. x ++ y) (columns-typed 0 types ∙ sym h.3.3) (window-added q.window ∙ ap window_types (sym h.1)) in
       let groups = trees-length (from_scope q ks) (group_exprs q ks) keys h.2 in
       let some-groups : 0 < length q.group = ltb-true 0 (length q.group) g in
       let few-groups : length q.group ≤ 8 = ltb-false 8 (length q.group) keeps.few_groups in
@@ -133,34 +136,35 @@ module _ (before : List Item) (catalog : List Relation) (table : Bool) (name : L
       (each-map IsPlain (resolved (from_scope q ks)) q.group
       (each-weaker IsPlain (λ a. IsPlain (resolved (from_scope q ks) a)) (plain-resolved (from_scope q ks)) q.group
       (group-part IsPlain q (early-plain q keeps.early_plain within)))) h.2 r.keyed.1)
-      (aggs-length s aggs gs h.3 (some-aggregates q ks keeps.few (not-not (list_any has_aggregate (late_exprs q)) parts.0)))
-      (aggs-sound read.left.kind (reads_stream ks) s read.types row read.kinded aggs gs ats (aggregates-fit q ks keeps.few (reads_stream ks) shown) h.3 split.2)
+      (aggs-length h.3.1 (some-aggregates q ks keeps.few (not-not (list_any has_aggregate (late_exprs q)) parts.0)))
+      (aggs-sound read.left.kind (reads_stream ks) s read.types row read.kinded h.3.1 (aggregates-fit q ks keeps.few (reads_stream ks) shown))
       (subst (IsWindowed read.left.kind) (sym h.1) (windowed q.window refl read.left.kind read.kinded))
-      (condition types ats split.1 split.2 (map (λ (x : Typed). x.ty) keys ++ ats ++ window_types window) all q.having refl having h.4.2)
-      (late-columns q types (map (λ (x : Typed). x.ty) keys ++ ats ++ window_types window) all (map behind (exprs (value_columns q ks))) values out.schema.values values-fit h.4.3 r.valued.1)
+      (condition typed types h.3.1 h.3.3 (map (λ (x : Typed). x.ty) keys ++ ats ++ window_types window) all q.having refl having h.3.4)
+      (columns-sound (late_scope q types) (map (λ (x : Typed). x.ty) keys ++ ats ++ window_types window) all (map (behind typed) (exprs (value_columns q ks))) values out.schema.values
+      (values-plain typed) h.3.5 r.valued.1)
       (r.kinded ∙ ap (λ (b : Bool). if b then (if is_some q.window then kind.Windowed else kind.Table) else if reads_stream ks then kind.Stream else kind.Table) g
       ∙ kind-added q.window ∙ ap grouped_kind (sym h.1))
     where
-      condition : (types ats : List (Option SqlType)) → types ≡ map (λ (x : Typed). x.ty) keys ++ ats
-          → map (λ (a : Agg). agg_type a.fun (sound.argument_type a.arg)) gs ≡ map Some ats
-          → (all : List (Option SqlType)) → late_types q types ≡ all → (o : Option Expr) → q.having ≡ o → (x : Option Typed)
-          → IsLatePart q types (option_map (λ a. behind (resolved s a)) o) x → IsCondition all x
-      condition types ats split agg_types all same None e None v = tt
-      condition types ats split agg_types all same None e (Some x) v = absurd v
-      condition types ats split agg_types all same (Some a) e None v = absurd v
-      condition types ats split agg_types all same (Some a) e (Some x) v =
+      condition : (typed : List Expr) (types : List SqlType) → AreAggs s aggs typed gs → AreLateTypes keys gs types
+          → (all : List (Option SqlType)) → column_types (late_scope q types) ≡ all → (o : Option Expr) → q.having ≡ o → (x : Option Typed)
+          → IsTypedPart (late_scope q types) (option_map (λ a. behind typed (resolved s a)) o) x → IsCondition all x
+      condition typed types are_aggs are_types all same None e None v = tt
+      condition typed types are_aggs are_types all same None e (Some x) v = absurd v
+      condition typed types are_aggs are_types all same (Some a) e None v = absurd v
+      condition typed types are_aggs are_types all same (Some a) e (Some x) v =
           let here : there (option_map (resolved s) q.having) ≡ resolved s a ∷ [] = ap (λ o. there (option_map (resolved s) o)) e in
-          let mine = (subst (Each (IsLateFit aggs)) here (of-having (IsLateFit aggs) fit)).0 in
+          let short = (subst (Each IsSmall) here (of-having IsSmall small)).0 in
+          let mine = (subst (Each (λ z. Each (IsAmong aggs) (aggregates_of z))) here (of-having (λ z. Each (IsAmong aggs) (aggregates_of z)) among)).0 in
           let bare = (subst (Each (λ z. has_bare_column (group_exprs q ks) z ≡ false)) here
           (of-having (λ z. has_bare_column (group_exprs q ks) z ≡ false) (each-false (has_bare_column (group_exprs q ks)) (shown_exprs q ks) parts.2))).0 in
           let known = (subst (Each (λ z. has_unknown_function z ≡ false)) (ap there e)
           (having-part (λ z. has_unknown_function z ≡ false) q (each-false has_unknown_function (late_exprs q) keeps.late_known))).0 in
           let clean : IsClean (group_exprs q ks) aggs (resolved s a) =
-          record { known = ap (list_any is_unknown) (calls-resolved s a) ∙ known; bound = bare; among = mine.0 } in
+          record { known = ap (list_any is_unknown) (calls-resolved s a) ∙ known; bound = bare; among = mine } in
           let no-time = reserved-nowhere q ks (codes "ROWTIME") refl refl relations in (
-            subst (λ t. IsSoundOver t x) same (late-sound q types (behind (resolved s a)) x (late-plain (group_exprs q ks) aggs (resolved s a) mine) v),
+            subst (λ t. IsSoundOver t x) same (tree-sound (late_scope q types) (behind typed (resolved s a)) x (late-plain (group_exprs q ks) typed (resolved s a) short) v),
             stable (fits sql.Bool x.ty) (λ never. keeps.typed (λ t.
                 let can : CanBeTrue s a = subst (IfThere (CanBeTrue s)) e t.having_true in
-                never (ap (fits sql.Bool) (late-type q ks keys gs types ats h.2 h.3 split agg_types relations (resolved s a) can.0 (resolved-type s no-time a can.0 can.1) clean x v.0 v.1)
+                never (ap (fits sql.Bool) (late-type q ks keys gs typed types h.2 are_aggs are_types relations (resolved s a) can.0 (resolved-type s no-time a can.0 can.1) clean x v.0 v.1)
                 ∙ can.2))),
           )

@@ -1,6 +1,6 @@
 -- HAVING is true or false of a row behind a grouping, as it is of one before it.
 use Rattle.std.proofs.Common.{◌≡◌, ℕ, zero, suc, ◌+◌, ◌<◌, ◌==◌, ◌/◌, ◌%◌, arith, Bool, true, false, not, ◌&&◌, ◌||◌, if◌then◌else◌, nat_lt, List, [], ◌∷◌, ◌++◌, length, map, Option, Some, None, is_some, refl, ap, ap₂, sym, ◌∙◌, subst, inl, inr}
-use Rattle.std.specs.Prelude.{◌⊎◌, slice_get, option_map, bytes_eq, codes, take}
+use Rattle.std.specs.Prelude.{slice_get, bytes_eq, codes, take}
 use Rattle.std.specs.List.{list_all, flat_map, AllByRecursion as Each}
 use Rattle.std.specs.Fmt.{decimal, digits, digits_onto, digit_glyph}
 use Rattle.std.proofs.lemmas.Bool.{false≢true, lt-ltb}
@@ -11,23 +11,22 @@ use Rattle.ksql_types.specs.declared.relation.Column.{Column}
 use Rattle.ksql_types.specs.declared.relation.Relation.{Relation}
 use Rattle.ksql_types.specs.declared.value.SqlType.{SqlType}
 use Rattle.ksql_types.specs.declared.value.SqlType.TheVariants as sql
+use Rattle.ksql_types.specs.declared.value.Value.TheVariants as value
 use Rattle.ksql_grammar.specs.declared.tree.Expr.{Expr, out-Expr}
 use Rattle.ksql_grammar.specs.declared.tree.Expr.TheVariants as e
+use Rattle.ksql_grammar.specs.declared.tree.Expr.TheOpen.{Expr-F}
 use Rattle.ksql_grammar.specs.declared.tree.Select.{Select}
-use Rattle.ksql_expr.specs.declared.typed.AggFun.{AggFun}
 use Rattle.ksql_expr.specs.declared.typed.Typed.{Typed}
 use Rattle.ksql_expr.specs.declared.typed.TypedNode.{TypedNode, out-TypedNode}
 use Rattle.ksql_expr.specs.declared.typed.TypedNode.TheVariants as n
-use Rattle.ksql_expr.specs.Rules.{agg_type}
 use Rattle.ksql_expr.specs.Typing as w
 use Rattle.ksql_expr.specs.Typing.{HasTypes}
 use Rattle.ksql_program.specs.declared.query.Agg.{Agg}
 use Rattle.ksql_program.specs.Names.{is_among, are_distinct, reserved_columns}
-use Rattle.ksql_program.specs.Sound.{IsSoundRelation, argument_type, columns}
+use Rattle.ksql_program.specs.Sound.{IsSoundRelation, columns}
 use Rattle.ksql_scope.specs.declared.scope.Scope.{Scope}
 use Rattle.ksql_scope.specs.declared.scope.ScopeColumn.{ScopeColumn}
-use Rattle.ksql_scope.specs.Functions.{is_unknown}
-use Rattle.ksql_scope.specs.Scope.{is_known_as, is_qualified}
+use Rattle.ksql_scope.specs.Scope.{column_types, is_known_as, is_qualified}
 use Rattle.ksql_scope.specs.Typing as h
 use Rattle.ksql_scope.specs.Typing.{Has, HasType}
 use Rattle.ksql_scope.proofs.Having.{clear}
@@ -36,26 +35,26 @@ use Rattle.ksql_typing.specs.Standing as st
 use Rattle.ksql_typing.specs.Standing.{Stands, IsTypedTree}
 use Rattle.ksql_typing.proofs.Inversion.{Checks, checks}
 use Rattle.ksql_typing.proofs.OneTyping.{tree-made}
-use Rattle.ksql_grouping.specs.Grouping.{late_column, late_part, is_window_bound}
+use Rattle.ksql_grouping.specs.Grouping.{late_column, late_part, is_window_bound, whole_aggregate}
 use Rattle.ksql_walks.proofs.Becoming as made
+use Rattle.ksql_grouping.proofs.Gives.{gives-decided}
 use Rattle.ksql_clauses.specs.declared.sources.Known.{Known}
 use Rattle.ksql_clauses.specs.Sources.{from_scope, item_scope, from_columns, scope_column, scope_columns, rowkey, rowkey_of, is_full}
 use Rattle.ksql_rules.specs.Breaks.{group_exprs}
-use Rattle.ksql_analyse.specs.Judgement.{AreTypedTrees, AreAggs, IsAgg, late_scope, late_types, late_columns, name_in, aggregate_exprs}
+use Rattle.ksql_analyse.specs.Judgement.{AreTypedTrees, AreAggs, AreLateTypes, late_scope, late_columns, name_in, aggregate_exprs, agg_types}
+use Rattle.ksql_analyse.proofs.AggregateTypes.{agg-at, agg-type-at, key-type, nulled-at}
 use Rattle.ksql_analyse.proofs.Cleanness.{IsClean}
-use Rattle.ksql_analyse.proofs.Handing.{CallsNone}
 use Rattle.ksql_analyse.proofs.KeySides.{IsNamed, named-out}
 use Rattle.ksql_analyse.proofs.LateTypes as late-types
 use Rattle.ksql_analyse.proofs.Meant.{IsMeant, meant, meant-known}
-use Rattle.ksql_analyse.proofs.Once.{place-at}
-use Rattle.ksql_analyse.proofs.Regrouping.{IsGroup, IsAggregate, late}
+use Rattle.ksql_analyse.proofs.LateNames.{late-type-at}
+use Rattle.ksql_analyse.proofs.Once.{IsAmong, place-at}
+use Rattle.ksql_analyse.proofs.Regrouping.{IsGroup, IsAggregate, IsNulled, IsDecided, late}
 use Rattle.ksql_analyse.proofs.ResolvedTypes.{HasNo}
-use Rattle.ksql_analyse.proofs.SoundAggregates.{of-argument}
 use Rattle.ksql_analyse.proofs.SoundTrees.{type-is}
-use Rattle.ksql_analyse.proofs.Stood.{stood-name}
+use Rattle.ksql_analyse.proofs.Stood.{stood, stood-name}
 use Rattle.ksql_analyse.proofs.Unwindowed.{unwindowed}
 use Rattle.ksql_analyse.proofs.SoundColumns.{each-append}
-use Rattle.ksql_analyse.proofs.SoundPlain.{front-at}
 use Rattle.ksql_analyse.proofs.SoundJoin.{behind-at}
 
 -- ---- the name of a late column is digits
@@ -93,7 +92,7 @@ late-name number = ap name_in (e.outs-Name (Some []) (decimal number))
 
 -- ---- late columns
 
-late-at : (first : ℕ) (types : List (Option SqlType)) (j : ℕ) (u : Option SqlType) → slice_get types j ≡ Some u
+late-at : (first : ℕ) (types : List SqlType) (j : ℕ) (u : SqlType) → slice_get types j ≡ Some u
     → (c : ScopeColumn) × (slice_get (late_columns first types) j ≡ Some c) × (c.alias ≡ Some []) × (c.column.name ≡ decimal (first + j))
 unfolding late_columns
 late-at first [] j u h = absurd (cc (h))
@@ -105,7 +104,7 @@ late-at first (t ∷ types) (suc j) u h =
     let z : suc first + j ≡ first + suc j = omega arith in
     (r.0, r.1, r.2, r.3 ∙ ap decimal z)
 
-late-named : (first : ℕ) (types : List (Option SqlType)) (j : ℕ) (c : ScopeColumn) → slice_get (late_columns first types) j ≡ Some c → c.column.name ≡ decimal (first + j)
+late-named : (first : ℕ) (types : List SqlType) (j : ℕ) (c : ScopeColumn) → slice_get (late_columns first types) j ≡ Some c → c.column.name ≡ decimal (first + j)
 unfolding late_columns
 late-named first [] j c h = absurd (cc (h))
 late-named first (t ∷ types) zero c h =
@@ -115,18 +114,13 @@ late-named first (t ∷ types) (suc j) c h =
     let z : suc first + j ≡ first + suc j = omega arith in
     late-named (suc first) types j c h ∙ ap decimal z
 
-late-length : (first : ℕ) (types : List (Option SqlType)) → length (late_columns first types) ≡ length types
-unfolding late_columns
-late-length first [] = refl
-late-length first (t ∷ types) = ap suc (late-length (suc first) types)
-
 -- a tree that is a column
 column-checked : (lt : List (Option SqlType)) (x : Typed) (i : ℕ) → x.node ≡ n.Column i → HasTypes lt (w.one x) → slice_get lt i ≡ Some x.ty
 column-checked lt x i h k = subst (Checks lt x.ty) (ap out-TypedNode h ∙ n.outs-Column i) (checks k)
 
 -- the type of a late column
-late-column-type : (q : Select) (types : List (Option SqlType)) (number : ℕ) (u : Option SqlType) → slice_get types number ≡ Some u → (x : Typed)
-    → Stands (late_scope q types) (st.one (late_column number) x) → HasTypes (late_types q types) (w.one x) → x.ty ≡ u
+late-column-type : (q : Select) (types : List SqlType) (number : ℕ) (u : SqlType) → slice_get types number ≡ Some u → (x : Typed)
+    → Stands (late_scope q types) (st.one (late_column number) x) → HasTypes (column_types (late_scope q types)) (w.one x) → x.ty ≡ Some u
 late-column-type q types number u at x v ty =
     let g = stood-name (late_scope q types) (late_column number) x (Some []) (decimal number) refl v in
     let c = late-at 0 types number u at in
@@ -134,8 +128,8 @@ late-column-type q types number u at x v ty =
     let known : is_known_as (Some []) (decimal number) c.0 ≡ true =
     ap₂ (λ a b. is_qualified (Some []) a && bytes_eq b (decimal number)) c.2 (c.3 ∙ ap decimal z) ∙ (bytes_eq-Decides (decimal number) (decimal number)).1 refl in
     let m = meant-known (late_scope q types) (Some []) (decimal number) g.0 g.1 g.2 number c.0 c.1 known in
-    let found = column-checked (late_types q types) x number (ap (λ y. y.node) g.3.1 ∙ m.0) ty in
-    same_Some x.ty u (sym found ∙ front-at types (if is_some q.window then Some sql.Big ∷ Some sql.Big ∷ [] else []) number u at)
+    let found = column-checked (column_types (late_scope q types)) x number (ap (λ y. y.node) g.3.1 ∙ m.0) ty in
+    same_Some x.ty (Some u) (sym found ∙ late-type-at q types number u at)
 
 -- ---- reserved names are no columns
 
@@ -192,28 +186,6 @@ trees-at s (b ∷ es) [] h j a at = absurd h
 trees-at s (b ∷ es) (x ∷ xs) h zero a at = (x, refl, subst (λ z. IsTypedTree s z x) (same_Some b a at) h.0)
 trees-at s (b ∷ es) (x ∷ xs) h (suc j) a at = trees-at s es xs h.1 j a at
 
-aggs-at : (s : Scope) (es : List Expr) (gs : List Agg) → AreAggs s es gs → (j : ℕ) (a : Expr) → slice_get es j ≡ Some a → (g : Agg) × (slice_get gs j ≡ Some g) × IsAgg s a g
-aggs-at s [] gs h j a at = absurd (cc (at))
-aggs-at s (b ∷ es) [] h j a at = absurd h
-aggs-at s (b ∷ es) (g ∷ gs) h zero a at = (g, refl, subst (λ z. IsAgg s z g) (same_Some b a at) h.0)
-aggs-at s (b ∷ es) (g ∷ gs) h (suc j) a at = aggs-at s es gs h.1 j a at
-
-mapped-at : {A B : Type 0} (f : A → B) (xs : List A) (j : ℕ) (x : A) → slice_get xs j ≡ Some x → slice_get (map f xs) j ≡ Some (f x)
-mapped-at f [] j x h = absurd (cc (h))
-mapped-at f (y ∷ xs) zero x h = ap (option_map f) h
-mapped-at f (y ∷ xs) (suc j) x h = mapped-at f xs j x h
-
-types-at : (gs : List Agg) (ats : List (Option SqlType)) → map (λ g. agg_type g.fun (argument_type g.arg)) gs ≡ map Some ats → (j : ℕ) (g : Agg) → slice_get gs j ≡ Some g
-    → (u : Option SqlType) × (slice_get ats j ≡ Some u) × (agg_type g.fun (argument_type g.arg) ≡ Some u)
-types-at [] ats h j g at = absurd (cc (at))
-types-at (o ∷ gs) [] h j g at = absurd (cc (h))
-types-at (o ∷ gs) (t ∷ ats) h zero g at =
-    let first : agg_type o.fun (argument_type o.arg) ≡ Some t = cc (h) in
-    (t, refl, ap (λ z. agg_type z.fun (argument_type z.arg)) (sym (same_Some o g at)) ∙ first)
-types-at (o ∷ gs) (t ∷ ats) h (suc j) g at =
-    let rest : map (λ z. agg_type z.fun (argument_type z.arg)) gs ≡ map Some ats = cc (h) in
-    types-at gs ats rest j g at
-
 pub trees-length : (s : Scope) (es : List Expr) (xs : List Typed) → AreTypedTrees s es xs → length es ≡ length xs
 trees-length s [] [] h = refl
 trees-length s [] (x ∷ xs) h = absurd h
@@ -222,58 +194,62 @@ trees-length s (a ∷ es) (x ∷ xs) h = ap suc (trees-length s es xs h.1)
 
 -- ---- what is decided
 
--- an aggregate of an argument of the same type has the same type
-agg-types : (f : AggFun) (t u : Option SqlType) {a b : Option (Option SqlType)} → agg_type f a ≡ Some t → a ≡ b → agg_type f b ≡ Some u → t ≡ u
-agg-types f t u k l m = same_Some t u (sym k ∙ ap (agg_type f) l ∙ m)
-
-module _ (q : Select) (ks : List Known) (keys : List Typed) (gs : List Agg) (types ats : List (Option SqlType)) (are_keys : AreTypedTrees (from_scope q ks) (group_exprs q ks) keys)
-    (are_aggs : AreAggs (item_scope q ks) (aggregate_exprs q ks) gs) (split : types ≡ map (λ x. x.ty) keys ++ ats)
-    (agg_types : map (λ g. agg_type g.fun (argument_type g.arg)) gs ≡ map Some ats) (sound : AreSound ks) where
+module _ (q : Select) (ks : List Known) (keys : List Typed) (gs : List Agg) (typed : List Expr) (types : List SqlType)
+    (are_keys : AreTypedTrees (from_scope q ks) (group_exprs q ks) keys) (are_aggs : AreAggs (item_scope q ks) (aggregate_exprs q ks) typed gs)
+    (are_types : AreLateTypes keys gs types) (sound : AreSound ks) where
   abbrev s : Scope
   s = item_scope q ks
 
   abbrev behind : Expr → Expr
-  behind a = late (group_exprs q ks) (aggregate_exprs q ks) a
+  behind a = late (group_exprs q ks) typed a
 
-  late-tree : (a : Expr) (number : ℕ) (x : Typed) → late_part (group_exprs q ks) (aggregate_exprs q ks) a ≡ Some (late_column number) → Stands (late_scope q types) (st.one (behind a) x)
-      → Stands (late_scope q types) (st.one (late_column number) x)
-  late-tree a number x is v =
-      subst (λ z. Stands (late_scope q types) (st.one z x)) (made.becomes-decided (late_part (group_exprs q ks) (aggregate_exprs q ks)) a (late_column number) is) v
+  late-tree : (a b : Expr) (x : Typed) → late_part (group_exprs q ks) typed a ≡ Some b → Stands (late_scope q types) (st.one (behind a) x) → Stands (late_scope q types) (st.one b x)
+  late-tree a b x is v = subst (λ z. Stands (late_scope q types) (st.one z x)) (made.becomes-decided (late_part (group_exprs q ks) typed) a b is) v
 
   -- a group expression
-  group-type : (a : Expr) (t : Option SqlType) → IsGroup (group_exprs q ks) (aggregate_exprs q ks) a → Has s (h.one a t) → (x : Typed)
-      → Stands (late_scope q types) (st.one (behind a) x) → HasTypes (late_types q types) (w.one x) → x.ty ≡ t
+  group-type : (a : Expr) (t : Option SqlType) → IsGroup (group_exprs q ks) typed a → Has s (h.one a t) → (x : Typed)
+      → Stands (late_scope q types) (st.one (behind a) x) → HasTypes (column_types (late_scope q types)) (w.one x) → x.ty ≡ t
   group-type a t g k x v ty =
       let place = place-at (group_exprs q ks) a 0 g.number g.placed in
       let here : slice_get (group_exprs q ks) g.number ≡ Some a = (let z : g.number ≡ place.0 = omega (arith, place.1) in ap (slice_get (group_exprs q ks)) z ∙ place.2) in
       let key = trees-at (from_scope q ks) (group_exprs q ks) keys are_keys g.number a here in
       let stay = clear (λ i. i == 0) refl (tree-made (from_scope q ks) a key.0 key.2).2 in
       let plain = unwindowed k stay in
-      let at : slice_get types g.number ≡ Some key.0.ty =
-      ap (λ ts. slice_get ts g.number) split ∙ front-at (map (λ y. y.ty) keys) ats g.number key.0.ty (mapped-at (λ (y : Typed). y.ty) keys g.number key.0 key.1) in
-      late-column-type q types g.number key.0.ty at x (late-tree a g.number x g.is v) ty ∙ type-is (from_scope q ks) a key.0 t key.2 plain
+      let at = key-type keys (agg_types gs) types g.number key.0 are_types key.1 in
+      late-column-type q types g.number at.0 at.1 x (late-tree a (late_column g.number) x g.is v) ty ∙ sym at.2 ∙ type-is (from_scope q ks) a key.0 t key.2 plain
 
-  -- an aggregate
-  aggregate-type : (a : Expr) (t : Option SqlType) → IsAggregate (group_exprs q ks) (aggregate_exprs q ks) a → Has s (h.one a t) → (x : Typed)
-      → Stands (late_scope q types) (st.one (behind a) x) → HasTypes (late_types q types) (w.one x) → x.ty ≡ t
+  -- an aggregate that has a type
+  aggregate-type : (a : Expr) (t : Option SqlType) → IsAggregate (group_exprs q ks) typed a → Has s (h.one a t) → (x : Typed)
+      → Stands (late_scope q types) (st.one (behind a) x) → HasTypes (column_types (late_scope q types)) (w.one x) → x.ty ≡ t
   aggregate-type a t g k x v ty =
-      let place = place-at (aggregate_exprs q ks) a 0 g.number g.placed in
-      let here : slice_get (aggregate_exprs q ks) g.number ≡ Some a = (let z : g.number ≡ place.0 = omega (arith, place.1) in ap (slice_get (aggregate_exprs q ks)) z ∙ place.2) in
-      let agg = aggs-at s (aggregate_exprs q ks) gs are_aggs g.number a here in
-      let typed = types-at gs ats agg_types g.number agg.0 agg.1 in
-      let checked = subst (Checks _ agg.2.0.ty) (ap out-TypedNode agg.2.2 ∙ n.outs-Aggregate agg.0.fun agg.0.arg) (checks agg.2.1.1) in
-      let same : typed.0 ≡ agg.2.0.ty = agg-types agg.0.fun typed.0 agg.2.0.ty typed.2 (of-argument agg.0.arg) checked.1 in
-      let front : length (group_exprs q ks) ≡ length (map (λ (y : Typed). y.ty) keys) =
-      trees-length (from_scope q ks) (group_exprs q ks) keys are_keys ∙ sym (length-map keys (λ (y : Typed). y.ty)) in
-      let at : slice_get types (length (group_exprs q ks) + g.number) ≡ Some typed.0 =
-      ap₂ (λ ts i. slice_get ts (i + g.number)) split front ∙ behind-at (map (λ (y : Typed). y.ty) keys) ats g.number ∙ typed.1 in
-      late-column-type q types (length (group_exprs q ks) + g.number) typed.0 at x (late-tree a (length (group_exprs q ks) + g.number) x g.is v) ty
-      ∙ same ∙ type-is s a agg.2.0 t agg.2.1 k
+      let place = place-at typed a 0 g.number g.placed in
+      let here : slice_get typed g.number ≡ Some a = (let z : g.number ≡ place.0 = omega (arith, place.1) in ap (slice_get typed) z ∙ place.2) in
+      let agg = agg-at are_aggs g.number a here in
+      let front = trees-length (from_scope q ks) (group_exprs q ks) keys are_keys in
+      let number : ℕ = length (group_exprs q ks) + g.number in
+      let behind-keys : number ≡ length keys + g.number = omega arith in
+      let at = agg-type-at keys (agg_types gs) types g.number agg.1 are_types agg.4 number behind-keys in
+      late-column-type q types number agg.1 at x (late-tree a (late_column number) x g.is v) ty ∙ sym agg.3 ∙ type-is s a agg.0 t agg.2 k
 
-  decided : (a : Expr) (t : Option SqlType) → IsGroup (group_exprs q ks) (aggregate_exprs q ks) a ⊎ IsAggregate (group_exprs q ks) (aggregate_exprs q ks) a → Has s (h.one a t)
-      → CallsNone is_unknown a → (x : Typed) → Stands (late_scope q types) (st.one (behind a) x) → HasTypes (late_types q types) (w.one x) → x.ty ≡ t
+  -- one that has only NULL's
+  nulled-type : (a : Expr) (t : Option SqlType) → IsNulled (group_exprs q ks) typed a → Has s (h.one a t) → IsClean (group_exprs q ks) (aggregate_exprs q ks) a → (x : Typed)
+      → Stands (late_scope q types) (st.one (behind a) x) → HasTypes (column_types (late_scope q types)) (w.one x) → x.ty ≡ t
+  nulled-type a t g k c x v ty =
+      let alone : whole_aggregate a ≡ Some (a ∷ []) = ap (λ b. if b then Some (a ∷ []) else None) g.call in
+      let among = (subst (Each (IsAmong (aggregate_exprs q ks))) (gives-decided whole_aggregate a (a ∷ []) alone) c.among).0 in
+      let tree = nulled-at are_aggs a 0 among g.no_column in
+      null-type x (late-tree a e.Null x g.is v) ty ∙ sym tree.2 ∙ type-is s a tree.0 t tree.1 k
+    where
+      null-type : (y : Typed) → Stands (late_scope q types) (st.one e.Null y) → HasTypes (column_types (late_scope q types)) (w.one y) → y.ty ≡ None
+      null-type y stands typed =
+          let is = stood (late_scope q types) e.Null y Expr-F.Null e.outs-Null stands in
+          subst (Checks (column_types (late_scope q types)) y.ty) (ap out-TypedNode (ap (λ z. z.node) is.1) ∙ n.outs-Literal value.Null) (checks typed)
+
+  decided : (a : Expr) (t : Option SqlType) → IsDecided (group_exprs q ks) typed a → Has s (h.one a t) → IsClean (group_exprs q ks) (aggregate_exprs q ks) a → (x : Typed)
+      → Stands (late_scope q types) (st.one (behind a) x) → HasTypes (column_types (late_scope q types)) (w.one x) → x.ty ≡ t
   decided a t (inl g) k c x v ty = group-type a t g k x v ty
-  decided a t (inr g) k c x v ty = aggregate-type a t g k x v ty
+  decided a t (inr (inl g)) k c x v ty = aggregate-type a t g k x v ty
+  decided a t (inr (inr g)) k c x v ty = nulled-type a t g k c x v ty
 
   -- ---- the bounds of a window
 
@@ -311,7 +287,7 @@ module _ (q : Select) (ks : List Known) (keys : List Typed) (gs : List Agg) (typ
 
   -- and behind it
   bound-behind : (name : List ℕ) → is_window_bound None name ≡ true → (x : Typed) → Stands (late_scope q types) (st.one (e.Name None name) x)
-      → HasTypes (late_types q types) (w.one x) → x.ty ≡ Some sql.Big
+      → HasTypes (column_types (late_scope q types)) (w.one x) → x.ty ≡ Some sql.Big
   bound-behind name is x v ty =
       let g = stood-name (late_scope q types) (e.Name None name) x None name refl v in
       at g.0 g.1 (ap (λ y. y.node) g.3.1) (meant (late_scope q types) None name g.0 g.1 g.2)
@@ -331,18 +307,19 @@ module _ (q : Select) (ks : List Known) (keys : List Typed) (gs : List Agg) (typ
           absurd (no-digits (0 + m.index) name (bound-names name is).2 (sym (ap (λ z. bytes_eq z name) name-is) ∙ m.known))
       at form u node (inr (inl m)) = absurd (cc (m.alone))
       at form u node (inr (inr m)) =
-          let count = late-length 0 types in
-          let z : length (late_columns 0 types) + m.behind ≡ length types + m.behind = omega arith in
-          same_Some x.ty (Some sql.Big) (sym (column-checked (late_types q types) x (length (late_columns 0 types) + m.behind) (node ∙ m.is) ty)
-          ∙ ap (slice_get (late_types q types)) z ∙ big-at types (is_some q.window) m.behind m.windowed m.two)
+          let front = map (λ (c : ScopeColumn). Some c.column.ty) (late_columns 0 types) in
+          let count : length front ≡ length (late_columns 0 types) = length-map (late_columns 0 types) (λ (c : ScopeColumn). Some c.column.ty) in
+          let z : length (late_columns 0 types) + m.behind ≡ length front + m.behind = omega arith in
+          same_Some x.ty (Some sql.Big) (sym (column-checked (column_types (late_scope q types)) x (length (late_columns 0 types) + m.behind) (node ∙ m.is) ty)
+          ∙ ap (slice_get (column_types (late_scope q types))) z ∙ big-at front (is_some q.window) m.behind m.windowed m.two)
 
   bound : (p : Option (List ℕ)) (name : List ℕ) (t : Option SqlType) → is_window_bound p name ≡ true → Has s (h.one (e.Name p name) t) → (x : Typed)
-      → Stands (late_scope q types) (st.one (e.Name p name) x) → HasTypes (late_types q types) (w.one x) → x.ty ≡ t
+      → Stands (late_scope q types) (st.one (e.Name p name) x) → HasTypes (column_types (late_scope q types)) (w.one x) → x.ty ≡ t
   bound (Some p) name t is k x v ty = absurd (cc (is))
   bound None name t is k x v ty = bound-behind name is x v ty ∙ sym (bound-before name t is k)
 
   -- the type of an expression behind the grouping
   pub late-type : (a : Expr) (t : Option SqlType) → HasType s a t → IsClean (group_exprs q ks) (aggregate_exprs q ks) a → (x : Typed)
-      → Stands (late_scope q types) (st.one (behind a) x) → HasTypes (late_types q types) (w.one x) → x.ty ≡ t
+      → Stands (late_scope q types) (st.one (behind a) x) → HasTypes (column_types (late_scope q types)) (w.one x) → x.ty ≡ t
   late-type a t k c x v ty =
-      late-types.same s (late_scope q types) (late_types q types) (group_exprs q ks) (aggregate_exprs q ks) decided bound k c x v ty
+      late-types.same s (late_scope q types) (column_types (late_scope q types)) (group_exprs q ks) typed (aggregate_exprs q ks) decided bound k c x v ty

@@ -16,7 +16,7 @@ use Rattle.ksql_expr.specs.declared.typed.Typed.{Typed}
 use Rattle.ksql_expr.specs.Aggregates.{holds, is_aggregate}
 use Rattle.ksql_expr.specs.Rules.{same_type}
 use Rattle.ksql_expr.specs.Typing as w
-use Rattle.ksql_expr.specs.Typing.{HasTypes, of, IsTyped}
+use Rattle.ksql_expr.specs.Typing.{HasTypes, of}
 use Rattle.ksql_program.specs.declared.query.JoinKind.{JoinKind}
 use Rattle.ksql_program.specs.declared.query.JoinKind.TheVariants as join
 use Rattle.ksql_program.specs.Sound as sound

@@ -31,7 +31,7 @@ use Rattle.ksql_scope.specs.Functions.{is_aggregate}
 use Rattle.ksql_scope.proofs.Equations as equation
 use Rattle.ksql_scope.proofs.Sets.{and-true}
 use Rattle.ksql_typing.specs.Standing as st
-use Rattle.ksql_typing.specs.Standing.{Stands, IsTypedTree}
+use Rattle.ksql_typing.specs.Standing.{Stands}
 use Rattle.ksql_grouping.specs.Same.{same_expr}
 use Rattle.ksql_clauses.specs.declared.items.Named.{Named}
 use Rattle.ksql_clauses.specs.declared.sources.Known.{Known}

@@ -1,6 +1,5 @@
 -- What stands for an expression of each form.
 use Rattle.std.proofs.Common.{◌≡◌, ◌⊎◌, ℕ, Bool, true, false, List, [], ◌∷◌, Option, Some, None, refl, sym, subst, inl, inr}
-use Rattle.ksql_types.specs.declared.operator.BinaryOp.{BinaryOp}
 use Rattle.ksql_types.specs.declared.value.SqlType.{SqlType}
 use Rattle.ksql_types.specs.declared.value.Value.TheVariants as value
 use Rattle.ksql_grammar.specs.declared.tree.Expr.{Expr, out-Expr}

@@ -1,32 +1,28 @@
 -- The expressions of an accepted query have typed trees.
-use Rattle.std.proofs.Common.{◌≡◌, ◌⊎◌, ◌↔◌, ℕ, Bool, true, false, not, ◌&&◌, ◌||◌, if◌then◌else◌, nat_lt, List, [], ◌∷◌, ◌++◌, map, length, Option, Some, None, is_some, refl, ap, sym, ◌∙◌, subst, IsTrue, inl, inr}
+use Rattle.std.proofs.Common.{◌≡◌, ◌↔◌, ℕ, Bool, true, false, List, [], ◌∷◌, Option, Some, None, is_some, refl, ap, ◌∙◌, IsTrue}
 use Rattle.std.specs.Prelude.{option_map}
-use Rattle.std.specs.List.{All, list_any, flat_map, AllByRecursion as Each}
+use Rattle.std.specs.List.{list_any, flat_map, AllByRecursion as Each}
 use Rattle.std.proofs.lemmas.List.Elements.{recursion_from_All}
 use Rattle.ksql_types.specs.declared.relation.Relation.{Relation}
-use Rattle.ksql_types.specs.declared.value.SqlType.{SqlType}
 use Rattle.ksql_grammar.specs.declared.tree.Expr.{Expr}
 use Rattle.ksql_grammar.specs.declared.tree.Expr.TheVariants as e
 use Rattle.ksql_grammar.specs.declared.tree.Property.{Property}
 use Rattle.ksql_grammar.specs.declared.tree.Select.{Select}
-use Rattle.ksql_expr.specs.declared.typed.Typed.{Typed}
 use Rattle.ksql_scope.specs.declared.scope.Scope.{Scope}
 use Rattle.ksql_scope.specs.Decisions as decided
 use Rattle.ksql_scope.specs.Possible.{is_some_in}
-use Rattle.ksql_scope.specs.Typing.{HasType, HasSomeType, HasValue, CanBeTrue, CanAgree}
-use Rattle.ksql_scope.specs.Uses.{IsSmall, is_small, has_unknown_function, calls}
+use Rattle.ksql_scope.specs.Typing.{HasSomeType, HasValue, CanBeTrue, CanAgree}
+use Rattle.ksql_scope.specs.Uses.{IsSmall, has_unknown_function}
 use Rattle.ksql_scope.specs.Functions.{is_unknown}
 use Rattle.ksql_scope.proofs.Equations as equation
 use Rattle.ksql_typing.specs.Judged.{judged}
-use Rattle.ksql_typing.specs.Standing.{IsTypedTree}
-use Rattle.ksql_typing.proofs.OneTyping.{one-tree}
 use Rattle.ksql_typing.proofs.TypeLaws.{accepted, tree_type, known, some_type, value, truth, agreement}
 use Rattle.ksql_clauses.specs.declared.items.Named.{Named}
 use Rattle.ksql_clauses.specs.declared.sources.Known.{Known}
 use Rattle.ksql_clauses.specs.Items.{result_columns}
 use Rattle.ksql_clauses.specs.Resolved.{resolved}
-use Rattle.ksql_clauses.specs.Sources.{from_scope, item_scope, early_exprs, late_exprs, item_exprs, there, on_exprs}
-use Rattle.ksql_grouping.specs.Grouping.{aggregates_of, once_from}
+use Rattle.ksql_clauses.specs.Sources.{from_scope, item_scope, early_exprs, late_exprs, there, on_exprs}
+use Rattle.ksql_grouping.specs.Grouping.{aggregates_of}
 use Rattle.ksql_rules.specs.Breaks as rules
 use Rattle.ksql_rules.specs.Breaks.{IsQueryTyped, IfThere, group_exprs, shown_exprs}
 use Rattle.ksql_rules.specs.Keys.{on_sides}
@@ -40,10 +36,10 @@ use Rattle.ksql_analyse.proofs.Once.{once-each}
 use Rattle.ksql_analyse.proofs.Refusals.{KeepsQuery}
 use Rattle.ksql_analyse.proofs.Resolution.{calls-resolved, small-resolved}
 use Rattle.ksql_analyse.proofs.NamesTyped.{resolved-typed}
-use Rattle.ksql_analyse.proofs.SoundColumns.{each-append, each-map, each-of-map, each-weaker}
+use Rattle.ksql_analyse.proofs.SoundColumns.{each-append, each-map, each-weaker}
 use Rattle.ksql_analyse.proofs.SoundPlain.{exprs-hold}
-use Rattle.ksql_analyse.proofs.SoundQuery.{filter-part, group-part, on-part, items-part, having-part}
-use Rattle.ksql_analyse.proofs.SoundTrees.{each-both, each-false}
+use Rattle.ksql_analyse.proofs.SoundQuery.{filter-part, group-part, items-part, having-part}
+use Rattle.ksql_analyse.proofs.SoundTrees.{each-false}
 
 -- ---- what is decided holds where it isn't false that it holds
 
@@ -92,42 +88,22 @@ each-of : {A : Type 0} (P : A → Type 0) (xs : List A) → rules.Each P xs → 
 each-of P [] h = tt
 each-of P (x ∷ xs) h = (h.0, each-of P xs h.1)
 
+pub typable : (s : Scope) (a : Expr) → IsSmall a → has_unknown_function a ≡ false → HasSomeType s a → IsTypable s a
+typable s a h k l = let r = accepted s a l.0 k l.1 in record { small = h; tree = r.0; is = r.1 }
+
 all-typable : (s : Scope) (es : List Expr) → Each IsSmall es → Each (λ a. has_unknown_function a ≡ false) es → Each (HasSomeType s) es → Each (IsTypable s) es
 all-typable s [] h k l = tt
-all-typable s (a ∷ es) h k l = (record { small = h.0; known = k.0; typed = l.0 }, all-typable s es h.1 k.1 l.1)
+all-typable s (a ∷ es) h k l = (typable s a h.0 k.0 l.0, all-typable s es h.1 k.1 l.1)
 
 resolved-typable : (s : Scope) → HasPlainColumns s → (a : Expr) → IsTypable s a → IsTypable s (resolved s a)
-resolved-typable s plain a h = record {
-  small = small-resolved s a ∙ h.small;
-  known = ap (list_any is_unknown) (calls-resolved s a) ∙ h.known;
-  typed = (h.typed.0, resolved-typed s plain a h.typed.0 h.typed.1);
-}
-
--- its typed tree
-pub tree-of : (s : Scope) (a : Expr) → IsTypable s a → (x : Typed) × IsTypedTree s a x
-tree-of s a h = let r = accepted s a h.typed.0 h.known h.typed.1 in (r.0, r.1)
-
--- the tree of a value has a type
-pub tree-valued : (s : Scope) (a : Expr) (x : Typed) → IsValued s a → IsTypedTree s a x → (t : SqlType) × (x.ty ≡ Some t)
-tree-valued s a x h k =
-    let r = accepted s a (Some h.value.0) h.typable.known h.value.1 in
-    (h.value.0, ap (λ y. y.ty) (one-tree s a x r.0 k r.1) ∙ r.2)
-
-part-of : (P : Expr → Type 0) (o : Option Expr) → Each P (there o) → IfThere P o
-part-of P None h = tt
-part-of P (Some a) h = h.0
-
-pub of-part : (P : Expr → Type 0) (o : Option Expr) → IfThere P o → Each P (there o)
-of-part P None h = tt
-of-part P (Some a) h = (h, tt)
+resolved-typable s plain a h =
+    typable s (resolved s a) (small-resolved s a ∙ h.small) (ap (list_any is_unknown) (calls-resolved s a) ∙ known s a h.tree h.is)
+    (h.tree.ty, resolved-typed s plain a h.tree.ty (tree_type s a h.tree h.is))
 
 aggregables-of : (s : Scope) (a : Expr) → IsTypable s a → Each (IsAggregable s) (aggregates_of a)
 aggregables-of s a h =
-    let x = tree-of s a h in
-    each-weaker (IsFine s) (IsAggregable s) (λ b f. record {
-      typable = record { small = f.1; known = known s b f.0.0 f.0.1; typed = (f.0.0.ty, tree_type s b f.0.0 f.0.1) };
-      aggregate = λ y k. (f.0.2.0, f.0.2.1, ap (λ z. z.node) (one-tree s b y f.0.0 k f.0.1) ∙ f.0.2.2);
-    }) (aggregates_of a) (aggregates-fine s x.1.0 x.1.1 h.small)
+    each-weaker (IsFine s) (IsAggregable s) (λ b f. record { typable = record { small = f.1; tree = f.0.0; is = f.0.1 }; aggregate = f.0.2 }) (aggregates_of a)
+    (aggregates-fine s h.is.0 h.is.1 h.small)
 
 each-aggregable : (s : Scope) (es : List Expr) → Each (IsTypable s) es → Each (IsAggregable s) (flat_map aggregates_of es)
 each-aggregable s [] h = tt
@@ -175,7 +151,7 @@ module _ (catalog : List Relation) (table : Bool) (name : List ℕ) (ps : List P
   columns-small =
       exprs-hold IsKnownSmall q ks (λ alias n. name-small (Some alias) n)
       (λ a h. (small-resolved items a ∙ h.0, ap (list_any is_unknown) (calls-resolved items a) ∙ h.1)) keeps.few
-      (items-part IsKnownSmall q (each-weaker (IsTypable items) IsKnownSmall (λ a h. (h.small, h.known)) (late_exprs q) late))
+      (items-part IsKnownSmall q (each-weaker (IsTypable items) IsKnownSmall (λ a h. (h.small, known items a h.tree h.is)) (late_exprs q) late))
 
   pub columns-valued : Each (λ c. IsValued items c.expr) (result_columns q ks)
   columns-valued = all (result_columns q ks) columns-small (each-of (λ c. HasValue items c.expr) (result_columns q ks) typed.valued)
@@ -183,7 +159,8 @@ module _ (catalog : List Relation) (table : Bool) (name : List ℕ) (ps : List P
       all : (cs : List Named) → Each (λ c. IsKnownSmall c.expr) cs → Each (λ c. HasValue items c.expr) cs → Each (λ c. IsValued items c.expr) cs
       all [] h k = tt
       all (c ∷ cs) h k =
-          (record { typable = record { small = h.0.0; known = h.0.1; typed = (Some k.0.0, k.0.1) }; value = k.0 }, all cs h.1 k.1)
+          let r = accepted items c.expr (Some k.0.0) h.0.1 k.0.1 in
+          (record { typable = record { small = h.0.0; tree = r.0; is = r.1 }; value = ap is_some r.2 }, all cs h.1 k.1)
 
   pub having-typable : Each (IsTypable items) (there (option_map (resolved items) q.having))
   having-typable = at q.having (having-part (IsTypable items) q late)

@@ -6,7 +6,7 @@ use Rattle.ksql_scope.specs.declared.scope.Scope.{Scope}
 use Rattle.ksql_scope.specs.Functions.{is_aggregate}
 use Rattle.ksql_scope.specs.Scope.{Meaning, meanings, inside, columns_known_as, row_time, window_bounds}
 use Rattle.ksql_scope.specs.Typing as h
-use Rattle.ksql_scope.specs.Typing.{Has, HasType, Typing, one, perhaps, each, whens}
+use Rattle.ksql_scope.specs.Typing.{Has, Typing, one, perhaps, each, whens}
 use Rattle.ksql_scope.specs.Uses.{Use, names, all_of, in_aggregate}
 use Rattle.ksql_scope.specs.Uses as uses
 use Rattle.ksql_scope.proofs.Disjoint.{no-aggregate, unknown-none}

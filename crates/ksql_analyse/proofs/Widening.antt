@@ -1,17 +1,16 @@
 -- A typed tree has its types where there are more columns behind, and a tree that can name the bounds of windows is that
 -- of the expression without them.
-use Rattle.std.proofs.Common.{◌≡◌, ℕ, suc, zero, Bool, true, false, ◌&&◌, if◌then◌else◌, List, [], ◌∷◌, ◌++◌, map, Option, Some, None, refl, ap, sym, ◌∙◌, subst}
+use Rattle.std.proofs.Common.{◌≡◌, ℕ, suc, zero, Bool, false, if◌then◌else◌, List, [], ◌∷◌, ◌++◌, map, Option, Some, None, ap, sym, ◌∙◌, subst}
 use Rattle.std.specs.Prelude.{slice_get}
 use Rattle.std.proofs.lemmas.List.{append-nil}
 use Rattle.ksql_types.specs.declared.value.SqlType.{SqlType}
 use Rattle.ksql_types.specs.declared.value.SqlType.TheVariants as sql
 use Rattle.ksql_grammar.specs.declared.tree.Expr.{Expr}
 use Rattle.ksql_expr.specs.declared.typed.Typed.{Typed}
-use Rattle.ksql_expr.specs.declared.typed.TypedNode.{TypedNode}
 use Rattle.ksql_expr.specs.Typing as w
 use Rattle.ksql_expr.specs.Typing.{HasTypes, Part}
 use Rattle.ksql_scope.specs.declared.scope.Scope.{Scope}
-use Rattle.ksql_scope.specs.Scope.{Meaning, meanings, columns_known_as, row_time, window_bounds, seen, inside, column_types}
+use Rattle.ksql_scope.specs.Scope.{Meaning, meanings, columns_known_as, row_time, window_bounds, seen, inside}
 use Rattle.ksql_typing.specs.Standing.{IsTypedTree}
 use Rattle.ksql_analyse.proofs.OneStanding.{Agree, agree-itself, alike}
 

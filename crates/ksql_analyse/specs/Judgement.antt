@@ -1,5 +1,5 @@
 -- The judgement of statements: the program that they are, or their first refusal.
-use Rattle.std.specs.Prelude.{Result, Ok, Err, ◌≡◌, ℕ, suc, ◌+◌, ◌*◌, Bool, true, false, ◌⊎◌, if◌then◌else◌, List, [], ◌∷◌, ◌++◌, length, map, filter, not, Option, Some, None, is_some, unwrap_or, option_map, slice_get, IsTrue}
+use Rattle.std.specs.Prelude.{Result, Ok, Err, ◌≡◌, ℕ, suc, ◌+◌, Bool, true, false, if◌then◌else◌, List, [], ◌∷◌, ◌++◌, length, map, filter, filter_map, not, Option, Some, None, is_some, unwrap_or, option_map, IsTrue}
 use Rattle.std.specs.List.{flat_map}
 use Rattle.ksql_types.specs.declared.relation.Column.{Column}
 use Rattle.ksql_types.specs.declared.relation.Format.TheVariants.{Json}
@@ -7,7 +7,6 @@ use Rattle.ksql_types.specs.declared.relation.Kind.{Kind}
 use Rattle.ksql_types.specs.declared.relation.Kind.TheVariants as kind
 use Rattle.ksql_types.specs.declared.relation.Relation.{Relation}
 use Rattle.ksql_types.specs.declared.value.SqlType.{SqlType}
-use Rattle.ksql_types.specs.declared.value.SqlType.TheVariants as sql
 use Rattle.ksql_grammar.specs.declared.tree.ColumnText.{ColumnText}
 use Rattle.ksql_grammar.specs.declared.tree.Expr.{Expr, out-Expr}
 use Rattle.ksql_grammar.specs.declared.tree.Expr.TheOpen.{Expr-F}
@@ -34,9 +33,8 @@ use Rattle.ksql_program.specs.declared.query.JoinKind.TheVariants as join
 use Rattle.ksql_program.specs.declared.query.Query.{Query}
 use Rattle.ksql_program.specs.declared.query.Shape.{Shape}
 use Rattle.ksql_program.specs.declared.query.Shape.TheVariants as shape
-use Rattle.ksql_program.specs.declared.query.Window.{Window}
 use Rattle.ksql_expr.specs.Rules.{agg_type}
-use Rattle.ksql_program.specs.Program.{relation_of, relations}
+use Rattle.ksql_program.specs.Program.{relations}
 use Rattle.ksql_program.specs.Sound.{argument_type}
 use Rattle.ksql_scope.specs.declared.scope.Scope.{Scope}
 use Rattle.ksql_scope.specs.declared.scope.ScopeColumn.{ScopeColumn}
@@ -49,8 +47,7 @@ use Rattle.ksql_clauses.specs.Properties.{topic_in, partitions_in, format_in}
 use Rattle.ksql_clauses.specs.Resolved.{resolved}
 use Rattle.ksql_clauses.specs.declared.sources.Known.{Known}
 use Rattle.ksql_clauses.specs.Sources.{all_known, from_scope, item_scope, reads_stream}
-use Rattle.ksql_expr.specs.Typing.{IsTyped}
-use Rattle.ksql_typing.specs.Standing.{Stands, one, IsTypedTree}
+use Rattle.ksql_typing.specs.Standing.{IsTypedTree}
 use Rattle.ksql_clauses.specs.Windows.{window_of}
 use Rattle.ksql_analyse.specs.declared.fault.AnalyseFault.{AnalyseFault}
 use Rattle.ksql_analyse.specs.declared.fault.AnalyseFault.TheVariants.{Refused, OutOfMemory}
@@ -110,55 +107,45 @@ exprs cs = map (λ c. c.expr) cs
 abbrev pub aggregate_exprs : Select → List Known → List Expr
 aggregate_exprs q ks = once_from [] (flat_map aggregates_of (shown_exprs q ks))
 
--- an aggregate, as a typed tree
-abbrev pub IsAgg : Scope → Expr → Agg → Type 0
-IsAgg s a g = (t : Typed) × IsTypedTree s a t × (t.node ≡ n.Aggregate g.fun g.arg)
-
-abbrev pub AreAggs : Scope → List Expr → List Agg → Type 0
-AreAggs s [] [] = Unit {0}
-AreAggs s (a ∷ es) (g ∷ gs) = IsAgg s a g × AreAggs s es gs
-AreAggs s _ _ = ⊥
+-- the aggregates of a query, those of them that have a type, and what all are in its program; one that has only NULL's has
+-- no column behind the grouping, where it is NULL
+pub data AreAggs (s : Scope) : List Expr → List Expr → List Agg → Type 0 where
+  none : AreAggs s [] [] []
+  kept : {a : Expr} {es typed : List Expr} {g : Agg} {gs : List Agg} (t : Typed) (ty : SqlType) → IsTypedTree s a t
+      → t.node ≡ n.Aggregate g.fun g.arg → t.ty ≡ Some ty → AreAggs s es typed gs → AreAggs s (a ∷ es) (a ∷ typed) (g ∷ gs)
+  null : {a : Expr} {es typed : List Expr} {g : Agg} {gs : List Agg} (t : Typed) → IsTypedTree s a t
+      → t.node ≡ n.Aggregate g.fun g.arg → t.ty ≡ None → AreAggs s es typed gs → AreAggs s (a ∷ es) typed (g ∷ gs)
 
 -- the columns of a row behind a grouping have no names that a script can write; their types are said beside
 abbrev pub name_in : {A B : Type 0} → Expr-F A B → List ℕ
 name_in (Expr-F.Name q name) = name
 name_in form = []
 
-unfoldable pub late_columns : ℕ → List (Option SqlType) → List ScopeColumn
+unfoldable pub late_columns : ℕ → List SqlType → List ScopeColumn
 late_columns number [] = []
 late_columns number (t ∷ ts) =
-    record { alias = Some []; column = record { name = name_in (out-Expr (late_column number)); ty = unwrap_or t sql.Bool } } ∷ late_columns (suc number) ts
+    record { alias = Some []; column = record { name = name_in (out-Expr (late_column number)); ty = t } } ∷ late_columns (suc number) ts
 
--- what HAVING and the items can name behind a grouping: the keys, the aggregates and, where there is a window, its start
--- and end
-abbrev pub late_scope : Select → List (Option SqlType) → Scope
+-- what HAVING and the items can name behind a grouping: the keys, the aggregates that have a type and, where there is a
+-- window, its start and end
+abbrev pub late_scope : Select → List SqlType → Scope
 late_scope q types = record { columns = late_columns 0 types; stream = false; windowed = is_some q.window }
 
--- the types of a row behind a grouping
-abbrev pub late_types : Select → List (Option SqlType) → List (Option SqlType)
-late_types q types = types ++ (if is_some q.window then Some sql.Big ∷ Some sql.Big ∷ [] else [])
+-- an expression behind a grouping with these aggregates
+abbrev pub late : Select → List Known → List Expr → Expr → Expr
+late q ks aggs a = regrouped (group_exprs q ks) aggs a
 
--- the typed tree of an expression behind a grouping
-abbrev pub IsLateTree : Select → List (Option SqlType) → Expr → Typed → Type 0
-IsLateTree q types a x = Stands (late_scope q types) (one a x) × IsTyped (late_types q types) x
+-- the type of an aggregate, where it has one
+abbrev pub own_type : Agg → Option SqlType
+own_type g = unwrap_or (agg_type g.fun (argument_type g.arg)) None
 
-abbrev pub IsLatePart : Select → List (Option SqlType) → Option Expr → Option Typed → Type 0
-IsLatePart q types None None = Unit {0}
-IsLatePart q types (Some a) (Some x) = IsLateTree q types a x
-IsLatePart q types _ _ = ⊥
+-- the types of those aggregates that have one
+abbrev pub agg_types : List Agg → List SqlType
+agg_types aggs = filter_map own_type aggs
 
-abbrev pub AreLateTrees : Select → List (Option SqlType) → List Expr → List Typed → Type 0
-AreLateTrees q types [] [] = Unit {0}
-AreLateTrees q types (a ∷ es) (x ∷ xs) = IsLateTree q types a x × AreLateTrees q types es xs
-AreLateTrees q types _ _ = ⊥
-
--- an expression behind a grouping
-abbrev pub late : Select → List Known → Expr → Expr
-late q ks a = regrouped (group_exprs q ks) (aggregate_exprs q ks) a
-
--- the types of the group expressions and of the aggregates
-abbrev pub AreLateTypes : List Typed → List Agg → List (Option SqlType) → Type 0
-AreLateTypes keys aggs types = map (λ x. Some x.ty) keys ++ map (λ g. agg_type g.fun (argument_type g.arg)) aggs ≡ map Some types
+-- the types of the group expressions, and of those aggregates that have one
+abbrev pub AreLateTypes : List Typed → List Agg → List SqlType → Type 0
+AreLateTypes keys aggs types = map (λ x. x.ty) keys ++ map (λ t. Some t) (agg_types aggs) ≡ map (λ t. Some t) types
 
 -- what is made of the rows
 abbrev pub IsShape : Select → List Known → Shape → Type 0
@@ -167,10 +154,10 @@ IsShape q ks (shape.Plain keys values) =
     × AreTypedTrees (item_scope q ks) (exprs (value_columns q ks)) values
 IsShape q ks (shape.Group keys window aggs having values) =
     IsTrue (is_grouped q) × (window ≡ option_map window_of q.window) × AreTypedTrees (from_scope q ks) (group_exprs q ks) keys
-    × AreAggs (item_scope q ks) (aggregate_exprs q ks) aggs
-    × ((types : List (Option SqlType)) × AreLateTypes keys aggs types
-    × IsLatePart q types (option_map (λ h. late q ks (resolved (item_scope q ks) h)) q.having) having
-    × AreLateTrees q types (map (late q ks) (exprs (value_columns q ks))) values)
+    × ((typed : List Expr) × AreAggs (item_scope q ks) (aggregate_exprs q ks) typed aggs
+    × (types : List SqlType) × AreLateTypes keys aggs types
+    × IsTypedPart (late_scope q types) (option_map (λ h. late q ks typed (resolved (item_scope q ks) h)) q.having) having
+    × AreTypedTrees (late_scope q types) (map (late q ks typed) (exprs (value_columns q ks))) values)
 
 -- ---- the relation of a query
 

@@ -1,5 +1,5 @@
 -- What the relations of accepted statements keep beside their limits.
-use Rattle.std.specs.Prelude.{not, IsTrue, All, ⊤}
+use Rattle.std.specs.Prelude.{not, IsTrue, All}
 use Rattle.ksql_types.specs.declared.relation.Relation.{Relation}
 use Rattle.ksql_program.specs.Names.{is_among, reserved_columns}
 use Rattle.ksql_program.specs.Sound.{columns}

@@ -1,5 +1,5 @@
 -- What a query reads, as far as it needs to be known: one source, or two with a join whose left side has a key.
-use Rattle.std.specs.Prelude.{◌≡◌, List, [], ◌∷◌, Option, Some, None}
+use Rattle.std.specs.Prelude.{◌≡◌, List, [], ◌∷◌, Some, None}
 use Rattle.ksql_grammar.specs.declared.tree.Expr.{Expr}
 use Rattle.ksql_grammar.specs.declared.tree.JoinText.{JoinText}
 use Rattle.ksql_grammar.specs.declared.tree.Select.{Select}

@@ -1,31 +1,74 @@
--- Which expressions have typed trees, as far as the typing of an expression needs to know.
-use Rattle.std.specs.Prelude.{◌≡◌, false, Option}
+-- Which expressions have typed trees, and that all of an accepted query have them.
+use Rattle.std.specs.Prelude.{◌≡◌, ◌≤◌, ◌-◌, ◌^◌, All, IsTrue, is_some, List, length, Option, option_map, true}
+use Rattle.ksql_types.specs.declared.value.SqlType.{SqlType}
 use Rattle.ksql_grammar.specs.declared.tree.Expr.{Expr}
+use Rattle.ksql_grammar.specs.declared.tree.Select.{Select}
 use Rattle.ksql_expr.specs.declared.typed.AggFun.{AggFun}
 use Rattle.ksql_expr.specs.declared.typed.Typed.{Typed}
 use Rattle.ksql_expr.specs.declared.typed.TypedNode.{TypedNode}
 use Rattle.ksql_expr.specs.declared.typed.TypedNode.TheVariants as n
+use Rattle.ksql_program.specs.declared.query.Agg.{Agg}
 use Rattle.ksql_scope.specs.declared.scope.Scope.{Scope}
-use Rattle.ksql_scope.specs.Typing.{HasSomeType, HasValue}
-use Rattle.ksql_scope.specs.Uses.{IsSmall, has_unknown_function}
+use Rattle.ksql_scope.specs.Uses.{IsSmall}
 use Rattle.ksql_typing.specs.Standing.{IsTypedTree}
+use Rattle.ksql_clauses.specs.declared.items.Named.{Named}
+use Rattle.ksql_clauses.specs.declared.sources.Known.{Known}
+use Rattle.ksql_clauses.specs.Items.{result_columns}
+use Rattle.ksql_clauses.specs.Resolved.{resolved}
+use Rattle.ksql_clauses.specs.Sources.{from_scope, item_scope, there}
+use Rattle.ksql_grouping.specs.Grouping.{regrouped}
+use Rattle.ksql_rules.specs.Breaks.{group_exprs, is_grouped, key_columns, value_columns}
+use Rattle.ksql_analyse.specs.Judgement.{AreAggs, AreLateTypes, AreTypedTrees, aggregate_exprs, late_scope}
 
--- an expression whose literals keep their limits, whose functions are known, and that has a type
+-- ---- expressions
+
+-- an expression whose literals keep their limits, and that has a typed tree
 pub record IsTypable (s : Scope) (a : Expr) : Type 0 where
   pub small : IsSmall a
-  pub known : has_unknown_function a ≡ false
-  pub typed : HasSomeType s a
+  pub tree : Typed
+  pub is : IsTypedTree s a tree
 
--- and that has a type other than that of NULL alone
+-- a tree that has a type other than that of NULL alone
+abbrev pub IsValue : Typed → Type 0
+IsValue x = IsTrue (is_some x.ty)
+
+-- an expression whose typed tree has such a type
 pub record IsValued (s : Scope) (a : Expr) : Type 0 where
   pub typable : IsTypable s a
-  pub value : HasValue s a
+  pub value : IsValue typable.tree
 
 -- an aggregate, as a form of typed trees
 abbrev pub IsAggregateNode : TypedNode → Type 0
 IsAggregateNode form = (f : AggFun) × (arg : Option Typed) × (form ≡ n.Aggregate f arg)
 
--- and whose typed tree is an aggregate
+-- an expression whose typed tree is an aggregate
 pub record IsAggregable (s : Scope) (a : Expr) : Type 0 where
   pub typable : IsTypable s a
-  pub aggregate : (x : Typed) → IsTypedTree s a x → IsAggregateNode x.node
+  pub aggregate : IsAggregateNode typable.tree.node
+
+-- ---- queries
+
+-- the trees of some columns: one for each, and each has a type
+pub record AreColumnTrees (cs : List Named) (xs : List Typed) : Type 0 where
+  pub counted : length cs ≡ length xs
+  pub values : All IsValue xs
+
+-- HAVING and columns have typed trees behind a grouping with these group expressions and aggregates
+pub record IsLateTypable (s : Scope) (groups aggs : List Expr) (h : Option Expr) (cs : List Named) : Type 0 where
+  pub having : All (IsTypable s) (there (option_map (regrouped groups aggs) h))
+  pub columns : All (λ c. IsValued s (regrouped groups aggs c.expr)) cs
+
+-- a grouped query whose expressions have typed trees
+pub record IsGroupTypable (q : Select) (ks : List Known) : Type 0 where
+  pub keyed : length (key_columns q ks) ≡ length (group_exprs q ks)
+  pub keys : All (IsValued (from_scope q ks)) (group_exprs q ks)
+  pub aggregates : All (IsAggregable (item_scope q ks)) (aggregate_exprs q ks)
+  pub late : (keys : List Typed) (typed : List Expr) (aggs : List Agg) (types : List SqlType) → AreTypedTrees (from_scope q ks) (group_exprs q ks) keys
+      → AreAggs (item_scope q ks) (aggregate_exprs q ks) typed aggs → AreLateTypes keys aggs types → length types ≤ 2 ^ 32 - 2
+      → IsLateTypable (late_scope q types) (group_exprs q ks) typed (option_map (resolved (item_scope q ks)) q.having) (value_columns q ks)
+
+-- a query whose expressions have typed trees
+pub record IsQueryTypable (q : Select) (ks : List Known) : Type 0 where
+  pub filter : All (IsTypable (from_scope q ks)) (there q.filter)
+  pub columns : All (λ c. IsValued (item_scope q ks) c.expr) (result_columns q ks)
+  pub grouped : is_grouped q ≡ true → IsGroupTypable q ks

@@ -1,9 +1,9 @@
 //! What a query reads, as a part of its program.
 
-ghost use Rattle.std.specs.Prelude.{◌≡◌, ◌≤◌, ◌-◌, ◌^◌, ◌∷◌, [], All, IfOk, length};
+ghost use Rattle.std.specs.Prelude.{◌≡◌, ◌≤◌, ◌-◌, ◌^◌, ◌∷◌, [], IfOk, length};
 ghost use Rattle.ksql_clauses.specs.Sources as sources;
-ghost use Rattle.ksql_scope.specs.Uses.{IsSmall};
 ghost use Rattle.ksql_analyse.specs.Judgement as spec;
+ghost use Rattle.ksql_analyse.specs.Readable.{IsReadable};
 
 use crate::trees::tree_of;
 use ksql_clauses::Known;
@@ -13,8 +13,7 @@ use ksql_rules::join_key;
 use ksql_scope::Scope;
 use std::alloc::{AllocError, Global};
 
-/// What a query reads: one relation, or two that are joined. An error says that memory is short, or that there is no
-/// such query.
+/// What a query reads: one relation, or two that are joined. The only error is want of memory.
 pub(crate) fn from_of(
     alloc: Global,
     scope: &Scope,
@@ -22,7 +21,7 @@ pub(crate) fn from_of(
     known: &[Known],
 ) -> Result<From, AllocError>
     requires of_from { scope.now ≡ sources.from_scope select.now known.now }
-    requires small { All IsSmall (sources.early_exprs select.now) }
+    requires readable { IsReadable select.now known.now }
     requires columns { length scope.now.columns ≤ 2 ^ 32 - 2 }
     ensures { IfOk result (λ from. spec.IsFrom select.now known.now from) }
 {
@@ -31,11 +30,11 @@ pub(crate) fn from_of(
             relation: one.relation.number,
         }),
         [left, right] => joined(alloc, scope, select, known, left, right),
-        _ => Err(AllocError),
+        _ => unreachable!(),
     }
 }
 
-/// A join of two relations.
+/// A join of two relations. The only error is want of memory.
 fn joined(
     alloc: Global,
     scope: &Scope,
@@ -46,15 +45,15 @@ fn joined(
 ) -> Result<From, AllocError>
     requires of_from { scope.now ≡ sources.from_scope select.now known.now }
     requires two { known.now ≡ left.now ∷ right.now ∷ [] }
-    requires small { All IsSmall (sources.early_exprs select.now) }
+    requires readable { IsReadable select.now known.now }
     requires columns { length scope.now.columns ≤ 2 ^ 32 - 2 }
     ensures { IfOk result (λ from. spec.IsFrom select.now known.now from) }
 {
     let Some(join) = &select.join else {
-        return Err(AllocError);
+        unreachable!()
     };
     let Some(key) = join_key(alloc, scope, select, known)? else {
-        return Err(AllocError);
+        unreachable!()
     };
     Ok(From::Join {
         kind: join_kind(join.kind),

@@ -1,16 +1,15 @@
 //! What a grouped query makes of its rows.
 
-ghost use Rattle.std.specs.Prelude.{◌≡◌, ◌≤◌, ◌<◌, ◌-◌, ◌^◌, ◌++◌, ◌∷◌, [], All, IfOk, Some, false, decimal, length, map, option_map};
+ghost use Rattle.std.specs.Prelude.{◌≡◌, ◌≤◌, ◌<◌, ◌-◌, ◌^◌, ◌++◌, ◌∷◌, [], All, IfOk, Some, false, decimal, length, map, option_map, option_to_list};
 ghost use Rattle.std.specs.List.{flat_map};
 ghost use Rattle.ksql_clauses.specs.Resolved.{resolved as resolved_in};
 ghost use Rattle.ksql_clauses.specs.Sources.{there};
 ghost use Rattle.ksql_grouping.specs.Grouping as groups;
 ghost use Rattle.ksql_grouping.specs.Grouping.{regrouped as regrouped_by};
-ghost use Rattle.ksql_expr.specs.Rules.{agg_type};
-ghost use Rattle.ksql_program.specs.Sound.{argument_type};
-ghost use Rattle.ksql_scope.specs.Uses.{IsSmall};
+ghost use Rattle.ksql_expr.specs.declared.typed.TypedNode.TheVariants as node;
 ghost use Rattle.ksql_typing.specs.Standing.{IsTypedTree};
 ghost use Rattle.ksql_analyse.specs.Judgement as spec;
+ghost use Rattle.ksql_analyse.specs.Typable.{IsAggregable, IsAggregateNode, IsTypable, IsValue};
 
 use crate::trees::tree_of;
 use ksql_clauses::{Named, resolved};
@@ -80,31 +79,62 @@ fn push_all(all: &mut Vec<Expr>, more: Vec<Expr>) -> Result<(), AllocError>
     Ok(())
 }
 
-/// The aggregates of these expressions. An error says that memory is short, or that one is no aggregate.
-pub(crate) fn aggs_of(alloc: Global, scope: &Scope, exprs: &[Expr]) -> Result<Vec<Agg>, AllocError>
-    requires small { All IsSmall exprs.now }
-    requires columns { length scope.now.columns ≤ 2 ^ 32 - 2 }
-    ensures { IfOk result (λ aggs. spec.AreAggs scope.now exprs.now aggs.items) }
-{
-    let mut aggs = Vec::new(alloc);
-    for expr in exprs {
-        aggs.push(agg_of(alloc, scope, expr)?)?;
-    }
-    Ok(aggs)
+/// The aggregates of a query that have a type, and what all of its aggregates are in its program.
+#[derive(Drop)]
+pub(crate) struct Aggregates {
+    pub typed: Vec<Expr>,
+    pub aggs: Vec<Agg>,
 }
 
-fn agg_of(alloc: Global, scope: &Scope, expr: &Expr) -> Result<Agg, AllocError>
-    requires small { IsSmall expr.now }
+/// What the aggregates of a query are in its program, and those that have a type. The only error is want of memory.
+pub(crate) fn aggs_of(
+    alloc: Global,
+    scope: &Scope,
+    exprs: &[Expr],
+) -> Result<Aggregates, AllocError>
+    requires aggregable { All (IsAggregable scope.now) exprs.now }
     requires columns { length scope.now.columns ≤ 2 ^ 32 - 2 }
-    ensures { IfOk result (λ agg. spec.IsAgg scope.now expr.now agg) }
+    ensures { IfOk result (λ found. spec.AreAggs scope.now exprs.now found.typed.items found.aggs.items) }
 {
-    let tree = tree_of(alloc, scope, expr)?;
+    let mut typed = Vec::new(alloc);
+    let mut aggs = Vec::new(alloc);
+    for expr in exprs {
+        let tree = tree_of(alloc, scope, expr)?;
+        push_typed(alloc, &mut typed, expr, &tree)?;
+        aggs.push(agg_in(tree))?;
+    }
+    Ok(Aggregates { typed, aggs })
+}
+
+/// Puts an expression behind others, if its tree has a type. The only error is want of memory.
+fn push_typed(
+    alloc: Global,
+    typed: &mut Vec<Expr>,
+    expr: &Expr,
+    tree: &Typed,
+) -> Result<(), AllocError>
+    ensures { IfOk result (λ _. typed.new.items ≡ typed.old.items ++ option_to_list (option_map (λ _. expr.now) tree.now.ty)) }
+{
+    match tree.ty {
+        Some(_) => {
+            typed.push(expr.copy(alloc)?)?;
+            Ok(())
+        }
+        None => Ok(()),
+    }
+}
+
+/// The aggregate that a tree is.
+fn agg_in(tree: Typed) -> Agg
+    requires { IsAggregateNode tree.node }
+    ensures { tree.node ≡ node.Aggregate result.fun result.arg }
+{
     match tree.node {
-        TypedNode::Aggregate { fun, arg } => Ok(Agg {
+        TypedNode::Aggregate { fun, arg } => Agg {
             fun,
             arg: unboxed(arg),
-        }),
-        _ => Err(AllocError),
+        },
+        _ => unreachable!(),
     }
 }
 
@@ -117,48 +147,71 @@ fn unboxed(part: Option<Boxed<Typed>>) -> Option<Typed>
     }
 }
 
-/// The types of the rows behind a grouping: those of the keys and of the aggregates. An error says that memory is short,
-/// or that one has no type but that of NULL.
+/// The types of the rows behind a grouping: those of the keys, and of the aggregates that have one. The only error is want
+/// of memory.
 pub(crate) fn late_types(
     alloc: Global,
     keys: &[Typed],
     aggs: &[Agg],
 ) -> Result<Vec<SqlType>, AllocError>
-    ensures { IfOk result (λ types. spec.AreLateTypes keys.now aggs.now (map (λ t. Some t) types.items)) }
+    requires keys { All IsValue keys.now }
+    ensures { IfOk result (λ types. spec.AreLateTypes keys.now aggs.now types.items) }
 {
-    let mut types = Vec::new(alloc);
-    for key in keys {
-        types.push(type_or_fault(key.ty)?)?;
-    }
+    let mut types = key_types(alloc, keys)?;
     for agg in aggs {
-        types.push(agg_type_of(agg)?)?;
+        push_type(&mut types, own_type(agg))?;
     }
     Ok(types)
 }
 
-fn type_or_fault(ty: Option<SqlType>) -> Result<SqlType, AllocError>
-    ensures { IfOk result (λ found. ty ≡ Some found) }
+/// Puts a type behind others, where there is one. The only error is want of memory.
+fn push_type(types: &mut Vec<SqlType>, ty: Option<SqlType>) -> Result<(), AllocError>
+    ensures { IfOk result (λ _. types.new.items ≡ types.old.items ++ option_to_list ty) }
 {
     match ty {
-        Some(ty) => Ok(ty),
-        None => Err(AllocError),
+        Some(ty) => {
+            types.push(ty)?;
+            Ok(())
+        }
+        None => Ok(()),
     }
 }
 
-fn agg_type_of(agg: &Agg) -> Result<SqlType, AllocError>
-    ensures { IfOk result (λ found. agg_type agg.now.fun (argument_type agg.now.arg) ≡ Some (Some found)) }
+/// The types of trees that have one. The only error is want of memory.
+fn key_types(alloc: Global, keys: &[Typed]) -> Result<Vec<SqlType>, AllocError>
+    requires { All IsValue keys.now }
+    ensures { IfOk result (λ types. map (λ x. x.ty) keys.now ≡ map (λ t. Some t) types.items) }
+{
+    let mut types = Vec::new(alloc);
+    for key in keys {
+        types.push(type_in(key))?;
+    }
+    Ok(types)
+}
+
+/// The type of a tree that has one.
+fn type_in(tree: &Typed) -> SqlType
+    requires { IsValue tree.now }
+    ensures { tree.now.ty ≡ Some result }
+{
+    match tree.ty {
+        Some(ty) => ty,
+        None => unreachable!(),
+    }
+}
+
+/// The type of an aggregate, where it has one.
+fn own_type(agg: &Agg) -> Option<SqlType>
+    ensures { result ≡ spec.own_type agg.now }
 {
     let arg = match &agg.arg {
         Some(arg) => Some(arg.ty),
         None => None,
     };
-    match ksql_expr::agg_type(agg.fun, arg) {
-        Some(Some(ty)) => Ok(ty),
-        _ => Err(AllocError),
-    }
+    ksql_expr::agg_type(agg.fun, arg).unwrap_or(None)
 }
 
-/// What HAVING and the items can name behind a grouping whose rows have these types.
+/// What HAVING and the items can name behind a grouping whose rows have these types. The only error is want of memory.
 #[tactic(auto, unfolding(ksql_types::specs::Text::longest_text))]
 pub(crate) fn late_scope(
     alloc: Global,
@@ -166,7 +219,7 @@ pub(crate) fn late_scope(
     types: &[SqlType],
 ) -> Result<Scope, AllocError>
     ensures { IfOk result (λ scope. scope ≡ record {
-      columns = spec.late_columns 0 (map (λ t. Some t) types.now);
+      columns = spec.late_columns 0 types.now;
       stream = false;
       windowed = windowed;
     }) }
@@ -194,7 +247,7 @@ fn late_column_of(alloc: Global, number: usize, ty: SqlType) -> Result<ScopeColu
     })
 }
 
-/// The typed tree of an expression behind a grouping.
+/// The typed tree of an expression behind a grouping. The only error is want of memory.
 pub(crate) fn late_tree(
     alloc: Global,
     scope: &Scope,
@@ -202,7 +255,7 @@ pub(crate) fn late_tree(
     aggs: &[Expr],
     expr: &Expr,
 ) -> Result<Typed, AllocError>
-    requires small { IsSmall expr.now }
+    requires typable { IsTypable scope.now (regrouped_by groups.now aggs.now expr.now) }
     requires columns { length scope.now.columns ≤ 2 ^ 32 - 2 }
     ensures { IfOk result (λ tree. IsTypedTree scope.now (regrouped_by groups.now aggs.now expr.now) tree) }
 {

@@ -1,14 +1,15 @@
 //! The query of a statement.
 
-ghost use Rattle.std.specs.Prelude.{◌≡◌, ◌≤◌, ◌<◌, ◌-◌, ◌^◌, All, IfOk, Some, length, map, unwrap_or, false};
+ghost use Rattle.std.specs.Prelude.{◌≡◌, ◌≤◌, ◌<◌, ◌-◌, ◌^◌, All, IfOk, Some, codes, is_some, length, map, true, unwrap_or, false};
 ghost use Rattle.ksql_grammar.specs.declared.tree.StatementBody.TheVariants as body;
 ghost use Rattle.ksql_clauses.specs.Items as items;
 ghost use Rattle.ksql_clauses.specs.Properties as properties;
 ghost use Rattle.ksql_clauses.specs.Sources as sources;
 ghost use Rattle.ksql_rules.specs.Breaks as breaks;
 ghost use Rattle.ksql_rules.specs.Keys as keys;
-ghost use Rattle.ksql_scope.specs.Uses.{IsSmall};
 ghost use Rattle.ksql_analyse.specs.Judgement as spec;
+ghost use Rattle.ksql_analyse.specs.Readable.{IsReadable};
+ghost use Rattle.ksql_analyse.specs.Typable.{AreColumnTrees, IsQueryTypable};
 
 use crate::from::from_of;
 use crate::reading::{Reading, read};
@@ -22,7 +23,7 @@ use ksql_rules::{key_columns, value_columns};
 use ksql_types::{Catalog, CopyOf, Relation, Schema};
 use std::alloc::{AllocError, Global};
 
-/// The query of a statement. An error says that memory is short, or that there is none.
+/// The query of a statement. The only error is want of memory.
 pub(crate) fn query_of(
     alloc: Global,
     catalog: &Catalog,
@@ -36,8 +37,9 @@ pub(crate) fn query_of(
     requires window { breaks.has_large_window select.now.window ≡ false }
     requires short_relations { All items.HasShortNames (sources.all_known catalog.now select.now) }
     requires short_items { All items.IsShortItem select.now.items }
-    requires early { All IsSmall (sources.early_exprs select.now) }
-    requires late { All IsSmall (sources.late_exprs select.now) }
+    requires readable { IsReadable select.now (sources.all_known catalog.now select.now) }
+    requires typable { IsQueryTypable select.now (sources.all_known catalog.now select.now) }
+    requires topic { is_some (properties.value_of (codes "KAFKA_TOPIC") props.now) ≡ true → is_some (properties.topic_in props.now) ≡ true }
     requires few { length (sources.from_columns select.now (sources.all_known catalog.now select.now)) ≤ 2 ^ 32 - 2 }
     ensures { IfOk result (λ query. spec.IsQuery (length catalog.now) statement.now props.now select.now
         (sources.all_known catalog.now select.now) query) }
@@ -72,6 +74,7 @@ fn made_of(
     reading: &Reading,
 ) -> Result<Made, AllocError>
     requires body { statement.now.body ≡ body.Query props.now select.now }
+    requires topic { is_some (properties.value_of (codes "KAFKA_TOPIC") props.now) ≡ true → is_some (properties.topic_in props.now) ≡ true }
     requires partitions { unwrap_or (properties.partitions_in props.now) 1 < 2 ^ 32 }
     requires window { breaks.has_large_window select.now.window ≡ false }
     requires of_from { reading.now.from ≡ sources.from_scope select.now reading.now.known.items }
@@ -79,8 +82,7 @@ fn made_of(
     requires columns { reading.now.columns.items ≡ items.result_columns select.now reading.now.known.items }
     requires places { reading.now.places.items ≡ keys.key_places select.now reading.now.known.items }
     requires few { length (sources.from_columns select.now reading.now.known.items) ≤ 2 ^ 32 - 2 }
-    requires early { All IsSmall (sources.early_exprs select.now) }
-    requires late { All IsSmall (sources.late_exprs select.now) }
+    requires typable { IsQueryTypable select.now reading.now.known.items }
     ensures shape { IfOk result (λ made. spec.IsShape select.now reading.now.known.items made.shape) }
     ensures result { IfOk result (λ made. spec.IsResult number statement.now props.now select.now reading.now.known.items made.shape made.out) }
 {
@@ -109,14 +111,14 @@ fn made_with(
     values: &[&Named],
 ) -> Result<Made, AllocError>
     requires body { statement.now.body ≡ body.Query props.now select.now }
+    requires topic { is_some (properties.value_of (codes "KAFKA_TOPIC") props.now) ≡ true → is_some (properties.topic_in props.now) ≡ true }
     requires partitions { unwrap_or (properties.partitions_in props.now) 1 < 2 ^ 32 }
     requires window { breaks.has_large_window select.now.window ≡ false }
     requires of_from { reading.now.from ≡ sources.from_scope select.now reading.now.known.items }
     requires of_items { reading.now.late ≡ sources.item_scope select.now reading.now.known.items }
     requires columns { reading.now.columns.items ≡ items.result_columns select.now reading.now.known.items }
     requires few { length (sources.from_columns select.now reading.now.known.items) ≤ 2 ^ 32 - 2 }
-    requires early { All IsSmall (sources.early_exprs select.now) }
-    requires late { All IsSmall (sources.late_exprs select.now) }
+    requires typable { IsQueryTypable select.now reading.now.known.items }
     requires keys { map (λ c. c.now) keys.now ≡ breaks.key_columns select.now reading.now.known.items }
     requires values { map (λ c. c.now) values.now ≡ breaks.value_columns select.now reading.now.known.items }
     ensures shape { IfOk result (λ made. spec.IsShape select.now reading.now.known.items made.shape) }
@@ -140,11 +142,12 @@ fn shape_of(
     requires of_items { reading.now.late ≡ sources.item_scope select.now reading.now.known.items }
     requires columns { reading.now.columns.items ≡ items.result_columns select.now reading.now.known.items }
     requires few { length (sources.from_columns select.now reading.now.known.items) ≤ 2 ^ 32 - 2 }
-    requires early { All IsSmall (sources.early_exprs select.now) }
-    requires late { All IsSmall (sources.late_exprs select.now) }
+    requires typable { IsQueryTypable select.now reading.now.known.items }
     requires keys { map (λ c. c.now) keys.now ≡ breaks.key_columns select.now reading.now.known.items }
     requires values { map (λ c. c.now) values.now ≡ breaks.value_columns select.now reading.now.known.items }
-    ensures { IfOk result (λ made. spec.IsShape select.now reading.now.known.items made) }
+    ensures shape { IfOk result (λ made. spec.IsShape select.now reading.now.known.items made) }
+    ensures keyed { IfOk result (λ made. AreColumnTrees (map (λ c. c.now) keys.now) (spec.shape_keys made)) }
+    ensures valued { IfOk result (λ made. AreColumnTrees (map (λ c. c.now) values.now) (spec.shape_values made)) }
 {
     if select.group.items().is_empty() {
         plain_shape(alloc, reading, select, keys, values)
@@ -153,13 +156,15 @@ fn shape_of(
     }
 }
 
-/// The columns of a result of this shape.
+/// The columns of a result of this shape. The only error is want of memory.
 fn schema_of(
     alloc: Global,
     keys: &[&Named],
     values: &[&Named],
     shape: &Shape,
 ) -> Result<Schema, AllocError>
+    requires keys { AreColumnTrees (map (λ c. c.now) keys.now) (spec.shape_keys shape.now) }
+    requires values { AreColumnTrees (map (λ c. c.now) values.now) (spec.shape_values shape.now) }
     ensures keyed { IfOk result (λ s. spec.AreColumnsOf (map (λ c. c.now) keys.now) (spec.shape_keys shape.now) s.keys) }
     ensures valued { IfOk result (λ s. spec.AreColumnsOf (map (λ c. c.now) values.now) (spec.shape_values shape.now) s.values) }
 {
@@ -189,6 +194,7 @@ fn relation_of(
     schema: Schema,
 ) -> Result<Relation, AllocError>
     requires body { statement.now.body ≡ body.Query props.now select.now }
+    requires topic { is_some (properties.value_of (codes "KAFKA_TOPIC") props.now) ≡ true → is_some (properties.topic_in props.now) ≡ true }
     requires partitions { unwrap_or (properties.partitions_in props.now) 1 < 2 ^ 32 }
     ensures numbered { IfOk result (λ r. r.number ≡ number) }
     ensures named { IfOk result (λ r. r.name ≡ statement.now.name) }

@@ -1,9 +1,10 @@
 //! The relation of a query's result.
 
-ghost use Rattle.std.specs.Prelude.{◌≡◌, ◌<◌, ◌^◌, IfOk, Some, codes, if◌then◌else◌, is_some, map, unwrap_or};
+ghost use Rattle.std.specs.Prelude.{◌≡◌, ◌<◌, ◌^◌, IfOk, Some, codes, if◌then◌else◌, is_some, map, true, unwrap_or};
 ghost use Rattle.ksql_clauses.specs.Properties as properties;
 ghost use Rattle.ksql_rules.specs.Breaks as breaks;
 ghost use Rattle.ksql_analyse.specs.Judgement as spec;
+ghost use Rattle.ksql_analyse.specs.Typable.{AreColumnTrees, IsValue};
 
 use ksql_clauses::{Known, Named, format_in, has_topic, partitions_in, reads_stream, topic_in};
 use ksql_expr::Typed;
@@ -11,17 +12,15 @@ use ksql_grammar::{Property, Select};
 use ksql_types::{Chars, Column, Columns, CopyOf, Format, Items, Kind, Relation, Schema};
 use std::alloc::{AllocError, Global};
 
-/// The columns of these names and of these types. An error says that memory is short, or that one has no type.
+/// The columns of these names and of these types. The only error is want of memory.
 pub(crate) fn columns_of(
     alloc: Global,
     named: &[&Named],
     trees: &[Typed],
 ) -> Result<Columns, AllocError>
+    requires { AreColumnTrees (map (λ c. c.now) named.now) trees.now }
     ensures { IfOk result (λ columns. spec.AreColumnsOf (map (λ c. c.now) named.now) trees.now columns) }
 {
-    if named.len() != trees.len() {
-        return Err(AllocError);
-    }
     let mut columns = Vec::new(alloc);
     for (index, column) in named.iter().enumerate() {
         columns.push(column_of(alloc, &column.name, &trees[index])?)?;
@@ -30,6 +29,7 @@ pub(crate) fn columns_of(
 }
 
 fn column_of(alloc: Global, name: &Chars, tree: &Typed) -> Result<Column, AllocError>
+    requires { IsValue tree.now }
     ensures named { IfOk result (λ c. c.name ≡ name.now) }
     ensures typed { IfOk result (λ c. Some c.ty ≡ tree.now.ty) }
 {
@@ -38,7 +38,7 @@ fn column_of(alloc: Global, name: &Chars, tree: &Typed) -> Result<Column, AllocE
             name: name.copy(alloc)?,
             ty,
         }),
-        None => Err(AllocError),
+        None => unreachable!(),
     }
 }
 
@@ -56,12 +56,13 @@ pub(crate) fn result_kind(select: &Select, known: &[Known]) -> Kind
     Kind::Stream
 }
 
-/// The topic of a query's result. An error says that memory is short, or that it has none.
+/// The topic of a query's result. The only error is want of memory.
 pub(crate) fn result_topic(
     alloc: Global,
     name: &Chars,
     props: &[Property],
 ) -> Result<Chars, AllocError>
+    requires { is_some (properties.value_of (codes "KAFKA_TOPIC") props.now) ≡ true → is_some (properties.topic_in props.now) ≡ true }
     ensures { IfOk result (λ topic. Some topic ≡ (if is_some (properties.value_of (codes "KAFKA_TOPIC") props.now) then properties.topic_in props.now else Some name.now)) }
 {
     if !has_topic(props) {
@@ -69,7 +70,7 @@ pub(crate) fn result_topic(
     }
     match topic_in(props) {
         Some(topic) => topic.copy(alloc),
-        None => Err(AllocError),
+        None => unreachable!(),
     }
 }
 

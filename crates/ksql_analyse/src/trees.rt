@@ -1,39 +1,44 @@
 //! The typed trees of a query's expressions.
 
-ghost use Rattle.std.specs.Prelude.{◌≡◌, ◌≤◌, ◌-◌, ◌^◌, All, length, map, IfOk};
-ghost use Rattle.ksql_scope.specs.Uses.{IsSmall};
+ghost use Rattle.std.specs.Prelude.{◌≤◌, ◌-◌, ◌^◌, All, length, map, IfOk};
 ghost use Rattle.ksql_typing.specs.Standing.{IsTypedTree};
 ghost use Rattle.ksql_clauses.specs.Sources.{there};
 ghost use Rattle.ksql_analyse.specs.Judgement.{AreTypedTrees, IsTypedPart, exprs};
+ghost use Rattle.ksql_analyse.specs.Typable.{AreColumnTrees, IsTypable, IsValue, IsValued};
 
 use ksql_clauses::Named;
 use ksql_expr::Typed;
 use ksql_grammar::Expr;
 use ksql_scope::Scope;
-use ksql_typing::typed;
+use ksql_typing::{TypeFault, typed};
 use std::alloc::{AllocError, Global};
 
-/// The typed tree of an expression. An error says that memory is short, or that there is none.
+/// The typed tree of an expression. The only error is want of memory.
 pub(crate) fn tree_of(alloc: Global, scope: &Scope, expr: &Expr) -> Result<Typed, AllocError>
-    requires small { IsSmall expr.now }
+    requires typable { IsTypable scope.now expr.now }
     requires columns { length scope.now.columns ≤ 2 ^ 32 - 2 }
     ensures { IfOk result (λ tree. IsTypedTree scope.now expr.now tree) }
 {
     match typed(alloc, expr, scope) {
         Ok(tree) => Ok(tree),
-        Err(_) => Err(AllocError),
+        Err(TypeFault::OutOfMemory) => Err(AllocError),
+        Err(TypeFault::UnknownColumn)
+        | Err(TypeFault::AmbiguousColumn)
+        | Err(TypeFault::TypeMismatch)
+        | Err(TypeFault::Unsupported) => unreachable!(),
     }
 }
 
-/// The typed trees of expressions.
+/// The typed trees of expressions that have a type. The only error is want of memory.
 pub(crate) fn trees_of(
     alloc: Global,
     scope: &Scope,
     exprs: &[Expr],
 ) -> Result<Vec<Typed>, AllocError>
-    requires small { All IsSmall exprs.now }
+    requires valued { All (IsValued scope.now) exprs.now }
     requires columns { length scope.now.columns ≤ 2 ^ 32 - 2 }
-    ensures { IfOk result (λ trees. AreTypedTrees scope.now exprs.now trees.items) }
+    ensures trees { IfOk result (λ trees. AreTypedTrees scope.now exprs.now trees.items) }
+    ensures values { IfOk result (λ trees. All IsValue trees.items) }
 {
     let mut trees = Vec::new(alloc);
     for expr in exprs {
@@ -42,15 +47,16 @@ pub(crate) fn trees_of(
     Ok(trees)
 }
 
-/// The typed trees of the expressions of columns.
+/// The typed trees of the expressions of columns. The only error is want of memory.
 pub(crate) fn column_trees(
     alloc: Global,
     scope: &Scope,
     columns: &[&Named],
 ) -> Result<Vec<Typed>, AllocError>
-    requires small { All (λ c. IsSmall c.now.expr) columns.now }
+    requires valued { All (λ c. IsValued scope.now c.now.expr) columns.now }
     requires columns { length scope.now.columns ≤ 2 ^ 32 - 2 }
-    ensures { IfOk result (λ trees. AreTypedTrees scope.now (exprs (map (λ c. c.now) columns.now)) trees.items) }
+    ensures trees { IfOk result (λ trees. AreTypedTrees scope.now (exprs (map (λ c. c.now) columns.now)) trees.items) }
+    ensures values { IfOk result (λ trees. AreColumnTrees (map (λ c. c.now) columns.now) trees.items) }
 {
     let mut trees = Vec::new(alloc);
     for column in columns {
@@ -59,13 +65,13 @@ pub(crate) fn column_trees(
     Ok(trees)
 }
 
-/// The typed tree of a part that may be left out.
+/// The typed tree of a part that may be left out. The only error is want of memory.
 pub(crate) fn part_tree(
     alloc: Global,
     scope: &Scope,
     part: &Option<Expr>,
 ) -> Result<Option<Typed>, AllocError>
-    requires small { All IsSmall (there part.now) }
+    requires typable { All (IsTypable scope.now) (there part.now) }
     requires columns { length scope.now.columns ≤ 2 ^ 32 - 2 }
     ensures { IfOk result (λ tree. IsTypedPart scope.now part.now tree) }
 {

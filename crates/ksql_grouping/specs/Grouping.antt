@@ -99,15 +99,15 @@ place_among es a = place_from 0 es a
 abbrev pub late_column : ℕ → Expr
 late_column number = e.Name (Some []) (decimal number)
 
--- an expression behind a grouping: an aggregate becomes its column, and outside aggregates each largest part that is a
--- group expression becomes the column of the first such
+-- an expression behind a grouping: outside aggregates each largest part that is a group expression becomes the column of
+-- the first such, an aggregate becomes its column, and one that has none is NULL
 abbrev pub late_part : List Expr → List Expr → Expr → Option Expr
 late_part groups aggs a = of (place_among groups a) (place_among aggs a)
   where
     of : Option ℕ → Option ℕ → Option Expr
     of (Some group) agg = Some (late_column group)
     of None (Some agg) = Some (late_column (length groups + agg))
-    of None None = None
+    of None None = if is_aggregate_call a then Some e.Null else None
 
 abbrev pub regrouped : List Expr → List Expr → Expr → Expr
 regrouped groups aggs a = becomes (late_part groups aggs) a

@@ -89,7 +89,8 @@ pub fn has_unknown_function(expr: &Expr) -> bool
     calls_one(Called::Unknown, expr)
 }
 
-fn is_aggregate_call(expr: &Expr) -> bool
+/// Whether an expression is an aggregate.
+pub fn is_aggregate_call(expr: &Expr) -> bool
     ensures { result ≡ spec.is_aggregate_call expr.now }
 {
     match expr {

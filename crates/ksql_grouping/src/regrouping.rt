@@ -3,6 +3,7 @@
 ghost use Rattle.std.specs.Prelude.{◌≡◌, IfOk};
 ghost use Rattle.ksql_grouping.specs.Grouping as spec;
 
+use crate::aggregates::is_aggregate_call;
 use crate::columns::place_among;
 use ksql_grammar::Expr;
 use ksql_types::Chars;
@@ -27,7 +28,8 @@ struct Replaced<'a> {
     aggs: &'a [Expr],
 }
 
-/// The column that an expression becomes behind a grouping, where it is a group expression or an aggregate.
+/// What an expression becomes behind a grouping as a whole: a group expression or an aggregate its column, and an
+/// aggregate that has none NULL.
 fn late_part(alloc: Global, replaced: Replaced<'_>, expr: &Expr) -> Result<Option<Expr>, AllocError>
     ensures { IfOk result (λ part. part ≡ spec.replacement replaced.entry expr.now) }
 {
@@ -36,6 +38,9 @@ fn late_part(alloc: Global, replaced: Replaced<'_>, expr: &Expr) -> Result<Optio
     }
     if let Some(agg) = place_among(replaced.aggs, expr) {
         return Ok(Some(late_column(alloc, replaced.groups.len() + agg)?));
+    }
+    if is_aggregate_call(expr) {
+        return Ok(Some(Expr::Null));
     }
     Ok(None)
 }
@@ -48,8 +53,8 @@ impl Replaces for Replaced<'_> {
     }
 }
 
-/// An expression behind a grouping: an aggregate becomes its column, and outside aggregates each largest part that is a
-/// group expression becomes the column of the first such. The only error is want of memory.
+/// An expression behind a grouping: outside aggregates each largest part that is a group expression becomes the column of
+/// the first such, an aggregate becomes its column, and one that has none is NULL. The only error is want of memory.
 pub fn regrouped(
     alloc: Global,
     groups: &[Expr],

@@ -101,6 +101,7 @@ fn part(alloc: Global, word: &str, stack: &mut Vec<Expr>) -> Result<Expr, Fail> 
         "NOT" => negation(alloc, stack),
         "IN" => one_of(alloc, stack),
         "CASE" => case(alloc, stack),
+        "NULL" => Ok(Expr::Null),
         _ => column(alloc, word),
     }
 }
@@ -199,6 +200,16 @@ fn what_an_expression_becomes(rt: HostRuntime) -> Result<(), Fail> {
         assert!(rt; becomes(rt.alloc(), groups, text, want)?, "{text}");
     }
     assert!(rt; !becomes(rt.alloc(), "A", "A 1 +", "1 #0 +")?);
+    Ok(())
+}
+
+#[test]
+fn an_aggregate_without_a_column_is_null(rt: HostRuntime) -> Result<(), Fail> {
+    let alloc = rt.alloc();
+    let groups = read_all(alloc, "A")?;
+    let expr = read(alloc, "A B MAX() +")?;
+    let found = regrouped(alloc, &groups, &[], &expr)?;
+    assert!(rt; same_expr(&found, &read(alloc, "#0 NULL +")?));
     Ok(())
 }
 

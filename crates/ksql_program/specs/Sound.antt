@@ -149,11 +149,14 @@ abbrev pub argument_type : Option Typed → Option (Option SqlType)
 argument_type None = None
 argument_type (Some e) = Some e.ty
 
--- aggregates over rows of these columns, and their types
+-- aggregates over rows of these columns, and the types of the columns that they have behind a grouping; one that has only
+-- NULL's type has no column there
 pub data Aggregates (over : Kind) (types : List (Option SqlType)) : List Agg → List (Option SqlType) → Type 0 where
   none : Aggregates over types [] []
-  more : {a : Agg} {gs : List Agg} {t : Option SqlType} {ts : List (Option SqlType)} → IsAggOver over a.fun → IsArgument types a.arg
-      → agg_type a.fun (argument_type a.arg) ≡ Some t → Aggregates over types gs ts → Aggregates over types (a ∷ gs) (t ∷ ts)
+  more : {a : Agg} {gs : List Agg} {t : SqlType} {ts : List (Option SqlType)} → IsAggOver over a.fun → IsArgument types a.arg
+      → agg_type a.fun (argument_type a.arg) ≡ Some (Some t) → Aggregates over types gs ts → Aggregates over types (a ∷ gs) (Some t ∷ ts)
+  untyped : {a : Agg} {gs : List Agg} {ts : List (Option SqlType)} → IsAggOver over a.fun → IsArgument types a.arg
+      → agg_type a.fun (argument_type a.arg) ≡ Some None → Aggregates over types gs ts → Aggregates over types (a ∷ gs) ts
 
 -- a window: it has a size, moves on, by no more than its size, and a time has at most 64 of them
 pub record IsSoundWindow (w : Window) : Type 0 where

@@ -1,5 +1,4 @@
-use Rattle.std.proofs.Common.{◌≡◌, arith, rules}
-use Rattle.ksql_types.specs.declared.value.SqlType.TheVariants as sql
+use Rattle.std.proofs.Common.{arith, rules}
 use Rattle.ksql_analyse.specs.Judgement.{late_columns}
 use Rattle.ksql_analyse.proofs.BehindGroups.{columns-next}
 use Rattle.ksql_analyse.proofs.grouped.late_scope.Goals as goal

@@ -1,6 +1,6 @@
-use Rattle.std.proofs.Common.{◌≡◌, map, take, Some}
+use Rattle.std.proofs.Common.{◌≡◌, take}
 use Rattle.ksql_analyse.specs.Judgement.{late_columns}
 use Rattle.ksql_analyse.proofs.grouped.late_scope.Given as goal
 
 abbrev pub invariant-loop-number : goal.invariant-loop-number
-invariant-loop-number l = l.columns.items ≡ late_columns 0 (map (λ t. Some t) (take l.number l.types))
+invariant-loop-number l = l.columns.items ≡ late_columns 0 (take l.number l.types)

@@ -1,8 +1,8 @@
-use Rattle.std.proofs.Common.{◌<◌, ◌^◌, List, subst, sym}
-use Rattle.std.specs.Prelude.{unwrap_or}
+use Rattle.std.proofs.Common.{◌≡◌, ◌<◌, ◌^◌, true, is_some, List, subst, sym}
+use Rattle.std.specs.Prelude.{codes, unwrap_or}
 use Rattle.ksql_grammar.specs.declared.tree.Property.{Property}
-use Rattle.ksql_clauses.specs.Properties.{partitions_in}
-use Rattle.ksql_analyse.proofs.ItemNeeds.{few-partitions, few-read, kept, short-names}
+use Rattle.ksql_clauses.specs.Properties.{partitions_in, topic_in, value_of}
+use Rattle.ksql_analyse.proofs.ItemNeeds.{few-partitions, few-read, kept, readable, short-names, topic-there, typable}
 use Rattle.ksql_analyse.proofs.item.item_of.Goals as goal
 
 pub query_of-requires-clause-partitions : goal.query_of-requires-clause-partitions
@@ -21,3 +21,16 @@ query_of-requires-clause-short_relations c =
 pub query_of-requires-clause-few : goal.query_of-requires-clause-few
 query_of-requires-clause-few c =
     few-read c.args.catalog.now c.args.statement.now c.in-Query.props c.in-Query.select c.in-Query.is c.requires.relations c.requires.limits
+
+pub query_of-requires-clause-readable : goal.query_of-requires-clause-readable
+query_of-requires-clause-readable c =
+    readable c.args.catalog.now c.args.statement.now c.in-Query.props c.in-Query.select c.in-Query.is c.requires.accepted c.requires.limits c.requires.plain
+
+pub query_of-requires-clause-typable : goal.query_of-requires-clause-typable
+query_of-requires-clause-typable c =
+    typable c.args.catalog.now c.args.statement.now c.in-Query.props c.in-Query.select c.in-Query.is c.requires.accepted c.requires.limits c.requires.plain
+
+pub query_of-requires-clause-topic : goal.query_of-requires-clause-topic
+query_of-requires-clause-topic c =
+    subst (λ (ps : List Property). is_some (value_of (codes "KAFKA_TOPIC") ps) ≡ true → is_some (topic_in ps) ≡ true) (sym c.items-in-Query.ensures)
+    (topic-there c.args.catalog.now c.args.statement.now c.in-Query.props c.in-Query.select c.in-Query.is c.requires.accepted)

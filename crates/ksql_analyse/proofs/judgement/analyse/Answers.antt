@@ -1,9 +1,7 @@
-use Rattle.std.proofs.Common.{◌≡◌, ◌+◌, ◌<◌, [], length, refl, ap, sym, ◌∙◌, subst, arith}
+use Rattle.std.proofs.Common.{◌+◌, [], ap, sym, ◌∙◌, subst}
 use Rattle.std.proofs.lemmas.Result.{err_from_is_err_and}
 use Rattle.std.specs.Prelude.{Ok, Err}
 use Rattle.ksql_rules.specs.Limits.{IsWithinLimits}
-use Rattle.ksql_program.specs.Program.{relation_of}
-use Rattle.ksql_analyse.specs.Judgement.{IsJudgement, IsItemOf}
 use Rattle.ksql_analyse.proofs.Behind.{Done, none-done, one-next, one-more, judged-whole, fault-judged}
 use Rattle.ksql_analyse.proofs.Parsed.{parsed-within}
 use Rattle.ksql_analyse.proofs.SoundPrograms.{judgement-sound}

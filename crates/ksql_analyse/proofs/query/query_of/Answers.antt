@@ -1,11 +1,9 @@
-use Rattle.std.proofs.Common.{◌++◌}
-use Rattle.ksql_clauses.specs.Sources.{on_exprs, there}
-use Rattle.ksql_scope.specs.Uses.{IsSmall}
-use Rattle.ksql_rules.proofs.Within.{All-left, All-right}
+use Rattle.std.proofs.Common.{All, subst, sym}
+use Rattle.ksql_clauses.specs.Sources.{there}
+use Rattle.ksql_scope.specs.declared.scope.Scope.{Scope}
+use Rattle.ksql_analyse.specs.Typable.{IsTypable}
 use Rattle.ksql_analyse.proofs.query.query_of.Goals as goal
 
-pub part_tree-requires-clause-small : goal.part_tree-requires-clause-small
-part_tree-requires-clause-small c =
-    let q = c.args.select.now in
-    All-right IsSmall (on_exprs q) (there q.filter)
-    (All-left IsSmall (on_exprs q ++ there q.filter) q.group (All-left IsSmall (on_exprs q ++ there q.filter ++ q.group) (there q.partition) c.requires.early))
+pub part_tree-requires-clause-typable : goal.part_tree-requires-clause-typable
+part_tree-requires-clause-typable c =
+    subst (λ (s : Scope). All (IsTypable s) (there c.args.select.now.filter)) (sym c.in_ok-reading.ensures.from) c.requires.typable.filter
