@@ -18,6 +18,7 @@ use Rattle.ksql_types.specs.declared.value.Value.{Value}
 use Rattle.ksql_types.specs.declared.value.Value.TheVariants.{Null, Int, Big, Txt}
 use Rattle.ksql_types.specs.declared.value.Value.TheVariants as value
 use Rattle.ksql_types.specs.Key.{is_null}
+use Rattle.ksql_types.specs.Text.{longest_value}
 use Rattle.ksql_expr.specs.declared.typed.Fun.{Fun}
 use Rattle.ksql_expr.specs.declared.typed.Fun.TheVariants.{Abs, Len, Concat, Substring, Trim, Ucase, Lcase, Coalesce, IfNull, NullIf}
 use Rattle.ksql_expr.specs.declared.typed.Typed.{Typed, fold-Typed}
@@ -70,10 +71,6 @@ magnitude (pos n) = pos n
 magnitude (negsuc n) = pos (suc n)
 
 -- ---- texts
-
--- the most bytes of a text that is a value
-abbrev pub longest_value : ℕ
-longest_value = 65536
 
 -- a text, or NULL where it is too long
 abbrev pub text : List ℕ → Value

@@ -2,14 +2,12 @@ ghost use Rattle.std.specs.Prelude.{◌≡◌, ◌≤◌, ◌++◌, if◌then◌
 ghost use Rattle.std.specs.Fmt.{signed_decimal};
 ghost use Rattle.std.specs.Str.{chars, encode_utf8_all};
 ghost use Rattle.std.specs.Str.Parse.{signed_digits_value, without_leading_sign};
-ghost use Rattle.ksql_expr.specs.Value.{joined, bytes_of, index_of, at_most, part_of, tail_of, middle_of, behind_spaces, trimmed, length_of, without_spaces, in_capitals, in_small_letters, are_digits, fitting, cast_number, cast_text, cast_truth, truth_text, longest_value};
+ghost use Rattle.ksql_expr.specs.Value.{joined, bytes_of, index_of, at_most, part_of, tail_of, middle_of, behind_spaces, trimmed, length_of, without_spaces, in_capitals, in_small_letters, are_digits, fitting, cast_number, cast_text, cast_truth, truth_text};
+ghost use Rattle.ksql_types.specs.Text.{longest_value};
 
 use crate::number::{fitting, whole};
-use ksql_types::{Chars, CopyOf, SqlType, Value};
+use ksql_types::{Chars, CopyOf, LONGEST_VALUE, SqlType, Value};
 use std::alloc::{AllocError, Global};
-
-/// The most bytes of a text that is a value.
-const LONGEST_VALUE: usize = 65_536;
 
 /// Two texts joined; NULL where one of them is NULL, or where they are too long. The only error is want of memory.
 #[tactic(auto, unfolding(ksql_types::specs::Text::longest_text))]

@@ -50,20 +50,22 @@ unfoldable pub first : {A : Type 0} → (Symbol → Option A) → Reader A
 first of [] = None
 first of (s ∷ ts) = of s >>= λ x. Some (x, ts)
 
--- one or more items, each but the first where `more` finds it; the number bounds how many
+-- an item, and the others where they follow it
 abbrev pub list_end : {A : Type 0} → A × List Symbol → Reader (List A) → Option (List Symbol) → Option (List A × List Symbol)
 list_end x others None = Some (x.0 ∷ [], x.1)
 list_end x others (Some ts) = others ts >>= λ xs. Some (x.0 ∷ xs.0, xs.1)
 
+-- one or more items, each but the first where `more` finds it; the number bounds how many
 unfoldable pub list_of : {A : Type 0} → Reader A → (List Symbol → Option (List Symbol)) → ℕ → Reader (List A)
 list_of item more zero ts = None
 list_of item more (suc n) ts = item ts >>= λ x. list_end x (list_of item more n) (more x.1)
 
--- going on from an expression with operators and operands, from the left; the number bounds how many
+-- an operand behind an operator, where there is one, and what goes on from both
 abbrev pub chain_step : Reader Expr → (Expr → Reader Expr) → Expr → List Symbol → Option (BinaryOp × List Symbol) → Option (Expr × List Symbol)
 chain_step operand others a ts None = Some (a, ts)
 chain_step operand others a ts (Some o) = operand o.1 >>= λ b. others (e.Binary o.0 a b.0) b.1
 
+-- going on from an expression with operators and operands, from the left; the number bounds how many
 unfoldable pub chain_with : (Symbol → Option BinaryOp) → Reader Expr → ℕ → Expr → Reader Expr
 chain_with op operand zero a ts = Some (a, ts)
 chain_with op operand (suc n) a ts = chain_step operand (chain_with op operand n) a ts (first op ts)
@@ -78,6 +80,7 @@ behind_prefix (Key k) a = e.Not a
 behind_prefix (Sign mark.Minus) a = e.Sign true a
 behind_prefix s a = e.Sign false a
 
+-- an expression behind several of them, the nearest first
 unfoldable pub behind_prefixes : List Symbol → Expr → Expr
 behind_prefixes [] a = a
 behind_prefixes (s ∷ ss) a = behind_prefix s (behind_prefixes ss a)

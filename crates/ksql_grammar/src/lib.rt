@@ -17,6 +17,3 @@ pub use tree::{
     PropertyValue, Select, SelectItem, SelectItems, Source, SpanText, Statement, StatementBody,
     Unit, WhenText, WhenTexts, WindowText,
 };
-
-#[cfg(test)]
-mod tests;

@@ -10,6 +10,3 @@ mod words;
 
 pub use fault::ParseFault;
 pub use parsing::{one_list, one_tree, parse};
-
-#[cfg(test)]
-mod tests;

@@ -9,6 +9,3 @@ mod query;
 pub use names::{are_column_names, is_among, is_topic_name};
 pub use program::{Item, Program, ProgramItems, relation_of};
 pub use query::{Agg, Aggs, From, JoinKind, Query, Shape, Window};
-
-#[cfg(test)]
-mod tests;

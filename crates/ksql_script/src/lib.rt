@@ -8,3 +8,6 @@ mod reading;
 pub use fault::ScriptFault;
 pub use laws::one_script;
 pub use reading::program_of_script;
+
+#[cfg(test)]
+mod tests;

@@ -26,7 +26,7 @@ pub use lanes::{key_bytes, lane};
 pub use operator::BinaryOp;
 pub use order::{cmp_key, keys_are_ordered};
 pub use relation::{Column, Columns, Format, Kind, Relation, Schema, Span, TaskName};
-pub use value::{Row, SqlType, Value};
+pub use value::{LONGEST_VALUE, Row, SqlType, Value};
 pub use word::{Word, Words};
 
 /// A list of bytes.

@@ -6,6 +6,9 @@ use crate::copying::CopyOf;
 use crate::items::Items;
 use std::alloc::{AllocError, Global};
 
+/// The most bytes of a text that is a value.
+pub const LONGEST_VALUE: usize = 65_536;
+
 /// The type of a column or an expression: INTEGER, BIGINT, VARCHAR or BOOLEAN.
 #[derive(Clone, Copy, Debug, PartialEq, Eq)]
 pub enum SqlType {
@@ -15,7 +18,7 @@ pub enum SqlType {
     Bool,
 }
 
-/// A value of a cell. `Null` is of every type; a text that is a value has at most 65,536 bytes.
+/// A value of a cell. `Null` is of every type; a text that is a value has at most `LONGEST_VALUE` bytes.
 #[derive(Debug, Drop)]
 pub enum Value {
     Null,

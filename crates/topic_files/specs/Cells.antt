@@ -12,11 +12,8 @@ use Rattle.ksql_types.specs.declared.value.SqlType.{SqlType}
 use Rattle.ksql_types.specs.declared.value.SqlType.TheVariants as types
 use Rattle.ksql_types.specs.declared.value.Value.{Value}
 use Rattle.ksql_types.specs.declared.value.Value.TheVariants as values
+use Rattle.ksql_types.specs.Text.{longest_value}
 use Rattle.topic_files.specs.TopicLine.{unless_null, whole_number}
-
--- the most bytes of a text that is a value
-abbrev pub longest_value : ℕ
-longest_value = 65536
 
 -- a text as a value, None where it is too long
 abbrev pub text_value : List ℕ → Option Value

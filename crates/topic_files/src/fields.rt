@@ -5,12 +5,9 @@ ghost use Rattle.ksql_types.specs.Key.{is_null};
 ghost use Rattle.serde_json.specs.View.{members_view, view};
 ghost use Rattle.topic_files.specs.Cells.{cell, cells, column_field, int_of, least_like, named_field, text_form, text_value, typed, value_of_type};
 
-use ksql_types::{Chars, Column, SqlType, Value};
+use ksql_types::{Chars, Column, LONGEST_VALUE, SqlType, Value};
 use serde_json::{Map, Value as Json};
 use std::alloc::{AllocError, Global};
-
-/// The most bytes of a text that is a value.
-const LONGEST_VALUE: usize = 65_536;
 
 /// The values of these columns in an object, in their order, None where a field isn't of its column's type.
 pub(crate) fn cells(

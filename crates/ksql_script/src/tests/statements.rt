@@ -1,5 +1,5 @@
-use crate::{ParseFault, parse};
 use ksql_lexer::tokens;
+use ksql_parser::{ParseFault, parse};
 use ksql_types::CopyOf;
 use std::alloc::Global;
 use std::test::Fail;

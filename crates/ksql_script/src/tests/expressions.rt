@@ -1,4 +1,7 @@
-use super::*;
+use ksql_grammar::{
+    ColumnText, ColumnTexts, Expr, KeyMark, Keyword, Symbol, behind_key, behind_sign, name_of,
+    read_expression, read_expressions, type_of,
+};
 use ksql_lexer::Mark;
 use ksql_types::{Chars, CopyOf, Items, SqlType};
 use std::alloc::Global;
