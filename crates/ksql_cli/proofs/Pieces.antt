@@ -1,6 +1,8 @@
 -- What pieces that are written one behind another come to.
-use Rattle.std.proofs.Common.{◌≡◌, ℕ, ◌+◌, ◌≤◌, List, ◌++◌, length, take, Option, None, Some, refl, ap, ap₂, ◌∙◌, sym, subst, append_assoc, arith, length-append}
+use Rattle.std.proofs.Common.{◌≡◌, ℕ, ◌+◌, ◌-◌, ◌≤◌, List, [], ◌∷◌, ◌++◌, drop, get_or, length, take, Option, None, Some, refl, ap, ap₂, ◌∙◌, sym, subst, append_assoc, arith, length-append}
 use Rattle.std.specs.Prelude.{Result, Ok, Err, OnErr, OnOk, codes, decimal}
+use Rattle.std.specs.List.{flat_map}
+use denote.Bor.{Bor}
 use Rattle.std.proofs.Math.Seq.{take-append-add}
 use Rattle.std.proofs.lemmas.Grind.{common_steps}
 use Rattle.ksql_types.specs.declared.code.Code.{Code}
@@ -37,6 +39,21 @@ pub whole-last : {A E : Type 0} (r : Result A E) (old mid new : Option (List ℕ
 whole-last (Err e) old mid new first rest before wrote = tt
 whole-last (Ok x) old mid new first rest before wrote =
     wrote ∙ ap (λ (known : Option (List ℕ)). followed_by known rest) before ∙ followed-on old first rest
+
+-- the first of some pieces, and the others
+pub first-and-others : (ps : List (Bor (List ℕ))) (none : Bor (List ℕ)) → 1 ≤ length ps
+    → (get_or ps 0 none).now ++ flat_map (λ p. p.now) (take (length ps - 1) (drop 1 ps)) ≡ flat_map (λ p. p.now) ps
+first-and-others [] none h = let no : ⊥ = omega (arith, h) in absurd no
+first-and-others (p ∷ ps) none h =
+    let all : take (length (p ∷ ps) - 1) ps ≡ ps = grind (arith, common_steps) in
+    ap (λ (qs : List (Bor (List ℕ))). p.now ++ flat_map (λ q. q.now) qs) all
+
+pub pieces-last : {A E : Type 0} (r : Result A E) (old mid new : Option (List ℕ)) (ps : List (Bor (List ℕ))) (none : Bor (List ℕ)) → 1 ≤ length ps
+    → mid ≡ followed_by old (get_or ps 0 none).now
+    → OnErr r (WrotePrefix mid new (flat_map (λ p. p.now) (take (length ps - 1) (drop 1 ps)))) → OnErr r (WrotePrefix old new (flat_map (λ p. p.now) ps))
+pieces-last r old mid new ps none filled before wrote =
+    subst (λ (bytes : List ℕ). OnErr r (WrotePrefix old new bytes)) (first-and-others ps none filled)
+    (prefix-last r old mid new (get_or ps 0 none).now (flat_map (λ p. p.now) (take (length ps - 1) (drop 1 ps))) before wrote)
 
 -- the same line, said otherwise
 pub whole-as : {A E : Type 0} (r : Result A E) (old new : Option (List ℕ)) (piece line : List ℕ) → piece ≡ line →

@@ -1,6 +1,7 @@
 //! The line that says why a command was refused.
 
-ghost use Rattle.std.specs.Prelude.{◌≡◌, ◌≤◌, ◌++◌, IsOk, OnErr, OnOk};
+ghost use Rattle.std.specs.Prelude.{◌≡◌, ◌≤◌, IsOk, OnErr, OnOk};
+ghost use Rattle.std.specs.List.{flat_map};
 ghost use Rattle.ksql_outside.specs.Outside.{followed_by, Rose, WrotePrefix};
 ghost use Rattle.ksql_cli.specs.Fault as spec;
 
@@ -23,7 +24,8 @@ pub(crate) fn write_fault<K: Sink>(out: &mut K, status: &Status) -> Result<(), F
         Status::Script { statement, code } => write_script_line(out, *statement, *code),
         Status::TopicFile { topic, line, why } => write_topic_line(out, topic, *line, *why),
         Status::ReadFault { name } => {
-            write_three(out, b"ksql: cannot read ", name.items().as_bytes(), b"\n")
+            let name = name.items().as_bytes();
+            write_pieces(out, &[b"ksql: cannot read ", name, b"\n"])
         }
         Status::OutOfMemory => write_whole(out, b"ksql: out of memory\n"),
     }
@@ -38,13 +40,10 @@ fn write_script_line<K: Sink>(out: &mut K, statement: u32, code: Code) -> Result
 {
     let mut number = Buffer::new();
     let statement = number.format(statement).as_bytes();
-    write_five(
+    let code = code_text(code).as_bytes();
+    write_pieces(
         out,
-        b"ksql: script statement ",
-        statement,
-        b": ",
-        code_text(code).as_bytes(),
-        b"\n",
+        &[b"ksql: script statement ", statement, b": ", code, b"\n"],
     )
 }
 
@@ -62,70 +61,26 @@ fn write_topic_line<K: Sink>(
 {
     let mut number = Buffer::new();
     let line = number.format(line).as_bytes();
-    write_three(out, b"ksql: topic ", topic.items().as_bytes(), b" line ")?;
-    write_four(out, line, b": ", why_text(why).as_bytes(), b"\n")
+    let topic = topic.items().as_bytes();
+    let why = why_text(why).as_bytes();
+    write_pieces(out, &[b"ksql: topic ", topic, b" line "])?;
+    write_pieces(out, &[line, b": ", why, b"\n"])
 }
 
-/// Writes all of two pieces, one behind the other, until a write fails.
-fn write_two<K: Sink>(out: &mut K, first: &[u8], second: &[u8]) -> Result<(), Failed>
-    ensures whole { OnOk result (K.written out.new ≡ followed_by (K.written out.old) (first.now ++ second.now)) }
-    ensures prefix { OnErr result (WrotePrefix (K.written out.old) (K.written out.new) (first.now ++ second.now)) }
+/// Writes all of some pieces, one behind the other, until a write fails.
+fn write_pieces<K: Sink>(out: &mut K, pieces: &[&[u8]]) -> Result<(), Failed>
+    ensures whole { OnOk result (K.written out.new ≡ followed_by (K.written out.old) (flat_map (λ p. p.now) pieces.now)) }
+    ensures prefix { OnErr result (WrotePrefix (K.written out.old) (K.written out.new) (flat_map (λ p. p.now) pieces.now)) }
     ensures count { K.faults out.old ≤ K.faults out.new }
     ensures succeeds { ¬ Rose (K.faults out.old) (K.faults out.new) → IsOk result }
 {
-    write_whole(out, first)?;
-    write_whole(out, second)
-}
-
-/// Writes all of three pieces.
-fn write_three<K: Sink>(
-    out: &mut K,
-    first: &[u8],
-    second: &[u8],
-    third: &[u8],
-) -> Result<(), Failed>
-    ensures whole { OnOk result (K.written out.new ≡ followed_by (K.written out.old) (first.now ++ (second.now ++ third.now))) }
-    ensures prefix { OnErr result (WrotePrefix (K.written out.old) (K.written out.new) (first.now ++ (second.now ++ third.now))) }
-    ensures count { K.faults out.old ≤ K.faults out.new }
-    ensures succeeds { ¬ Rose (K.faults out.old) (K.faults out.new) → IsOk result }
-{
-    write_whole(out, first)?;
-    write_two(out, second, third)
-}
-
-/// Writes all of four pieces.
-fn write_four<K: Sink>(
-    out: &mut K,
-    first: &[u8],
-    second: &[u8],
-    third: &[u8],
-    fourth: &[u8],
-) -> Result<(), Failed>
-    ensures whole { OnOk result (K.written out.new ≡ followed_by (K.written out.old) (first.now ++ (second.now ++ (third.now ++ fourth.now)))) }
-    ensures prefix { OnErr result (WrotePrefix (K.written out.old) (K.written out.new) (first.now ++ (second.now ++ (third.now ++ fourth.now)))) }
-    ensures count { K.faults out.old ≤ K.faults out.new }
-    ensures succeeds { ¬ Rose (K.faults out.old) (K.faults out.new) → IsOk result }
-{
-    write_whole(out, first)?;
-    write_three(out, second, third, fourth)
-}
-
-/// Writes all of five pieces.
-fn write_five<K: Sink>(
-    out: &mut K,
-    first: &[u8],
-    second: &[u8],
-    third: &[u8],
-    fourth: &[u8],
-    fifth: &[u8],
-) -> Result<(), Failed>
-    ensures whole { OnOk result (K.written out.new ≡ followed_by (K.written out.old) (first.now ++ (second.now ++ (third.now ++ (fourth.now ++ fifth.now))))) }
-    ensures prefix { OnErr result (WrotePrefix (K.written out.old) (K.written out.new) (first.now ++ (second.now ++ (third.now ++ (fourth.now ++ fifth.now))))) }
-    ensures count { K.faults out.old ≤ K.faults out.new }
-    ensures succeeds { ¬ Rose (K.faults out.old) (K.faults out.new) → IsOk result }
-{
-    write_whole(out, first)?;
-    write_four(out, second, third, fourth, fifth)
+    match pieces {
+        [] => Ok(()),
+        [first, others @ ..] => {
+            write_whole(out, first)?;
+            write_pieces(out, others)
+        }
+    }
 }
 
 /// A code of refusal, and its name.

@@ -15,13 +15,13 @@ returns-in-Usage-clause-prefix g c =
 
 pub returns-in-ReadFault-clause-whole : goal.returns-in-ReadFault-clause-whole
 returns-in-ReadFault-clause-whole g c =
-    whole-as c.write_three.result (g.K.Sink.written c.args.out.now) (g.K.Sink.written c.write_three.new.out) _ _
-    (read_pieces c.as_bytes.result.now c.in-ReadFault.name (c.as_bytes.ensures.value ∙ c.items.ensures.value) ∙ sym (ap fault_line c.in-ReadFault.is)) c.write_three.ensures.whole
+    whole-as c.write_pieces.result (g.K.Sink.written c.args.out.now) (g.K.Sink.written c.write_pieces.new.out) _ _
+    (read_pieces c.as_bytes-name.result.now c.in-ReadFault.name (c.as_bytes-name.ensures.value ∙ c.items.ensures.value) ∙ sym (ap fault_line c.in-ReadFault.is)) c.write_pieces.ensures.whole
 
 pub returns-in-ReadFault-clause-prefix : goal.returns-in-ReadFault-clause-prefix
 returns-in-ReadFault-clause-prefix g c =
-    prefix-as c.write_three.result (g.K.Sink.written c.args.out.now) (g.K.Sink.written c.write_three.new.out) _ _
-    (read_pieces c.as_bytes.result.now c.in-ReadFault.name (c.as_bytes.ensures.value ∙ c.items.ensures.value) ∙ sym (ap fault_line c.in-ReadFault.is)) c.write_three.ensures.prefix
+    prefix-as c.write_pieces.result (g.K.Sink.written c.args.out.now) (g.K.Sink.written c.write_pieces.new.out) _ _
+    (read_pieces c.as_bytes-name.result.now c.in-ReadFault.name (c.as_bytes-name.ensures.value ∙ c.items.ensures.value) ∙ sym (ap fault_line c.in-ReadFault.is)) c.write_pieces.ensures.prefix
 
 pub returns-in-OutOfMemory-clause-whole : goal.returns-in-OutOfMemory-clause-whole
 returns-in-OutOfMemory-clause-whole g c =

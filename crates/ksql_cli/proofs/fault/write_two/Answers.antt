@@ -1,7 +1,0 @@
-use Rattle.ksql_cli.proofs.Pieces.{prefix-last}
-use Rattle.ksql_cli.proofs.fault.write_two.Goals as goal
-
-pub returns-clause-prefix : goal.returns-clause-prefix
-returns-clause-prefix g c =
-    prefix-last c.write_whole-2.result (g.K.Sink.written c.args.out.now) (g.K.Sink.written c.write_whole.new.out) (g.K.Sink.written c.write_whole-2.new.out)
-    c.args.first.now c.args.second.now c.in_ok-write_whole.ensures.whole c.write_whole-2.ensures.prefix
