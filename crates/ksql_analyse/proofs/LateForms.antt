@@ -11,9 +11,9 @@ use Rattle.ksql_grammar.specs.declared.tree.WhenText.{WhenText}
 use Rattle.ksql_scope.specs.Functions.{is_aggregate}
 use Rattle.ksql_scope.specs.Uses.{all_of, perhaps}
 use Rattle.ksql_walks.specs.Parts.{passes, any_of, any_perhaps}
-use Rattle.ksql_grouping.specs.Grouping.{gives, whole_aggregate, is_aggregate_call, late_part, late_column, place_among, is_bare, is_window_bound}
-use Rattle.ksql_grouping.proofs.Gives.{gives-decided, gives-Sign, gives-Binary, gives-Not, gives-IsNull, gives-Between, gives-OneOf, gives-Like, gives-Cast, gives-Case, gives-Call}
+use Rattle.ksql_grouping.specs.Grouping.{aggregates_of, is_aggregate_call, late_part, late_column, place_among, is_bare, is_window_bound}
 use Rattle.ksql_walks.proofs.Passing.{passes-decided, passes-Sign, passes-Binary, passes-Not, passes-IsNull, passes-Between, passes-OneOf, passes-Like, passes-Cast, passes-Case, passes-Call}
+use Rattle.ksql_analyse.proofs.AggregatesIn as within
 use Rattle.ksql_analyse.proofs.Distinct.{or-false}
 
 both-true : (a b : Bool) → (a && b) ≡ true → (a ≡ true) × (b ≡ true)
@@ -69,41 +69,6 @@ module _ (groups aggs : List Expr) where
       → is_bare groups (e.Call f star args) ≡ None
   bare-Call f star args plain h = rw (h, e.outs-Call f star args, plain)
 
-  -- ---- aggregates
-
-  pub whole-Sign : (m : Bool) (a : Expr) → whole_aggregate (e.Sign m a) ≡ None
-  whole-Sign m a = rw (e.outs-Sign m a)
-
-  pub whole-Binary : (o : BinaryOp) (a b : Expr) → whole_aggregate (e.Binary o a b) ≡ None
-  whole-Binary o a b = rw (e.outs-Binary o a b)
-
-  pub whole-Not : (a : Expr) → whole_aggregate (e.Not a) ≡ None
-  whole-Not a = rw (e.outs-Not a)
-
-  pub whole-IsNull : (m : Bool) (a : Expr) → whole_aggregate (e.IsNull m a) ≡ None
-  whole-IsNull m a = rw (e.outs-IsNull m a)
-
-  pub whole-Between : (m : Bool) (a b c : Expr) → whole_aggregate (e.Between m a b c) ≡ None
-  whole-Between m a b c = rw (e.outs-Between m a b c)
-
-  pub whole-OneOf : (m : Bool) (a : Expr) (es : List Expr) → whole_aggregate (e.OneOf m a es) ≡ None
-  whole-OneOf m a es = rw (e.outs-OneOf m a es)
-
-  pub whole-Like : (m : Bool) (a : Expr) (pattern : List ℕ) → whole_aggregate (e.Like m a pattern) ≡ None
-  whole-Like m a pattern = rw (e.outs-Like m a pattern)
-
-  pub whole-Cast : (a : Expr) (to : SqlType) → whole_aggregate (e.Cast a to) ≡ None
-  whole-Cast a to = rw (e.outs-Cast a to)
-
-  pub whole-Case : (x : Option Expr) (ws : List WhenText) (z : Option Expr) → whole_aggregate (e.Case x ws z) ≡ None
-  whole-Case x ws z = rw (e.outs-Case x ws z)
-
-  pub whole-Call : (f : List ℕ) (star : Bool) (args : List Expr) → is_aggregate f ≡ false → whole_aggregate (e.Call f star args) ≡ None
-  whole-Call f star args plain = rw (e.outs-Call f star args, plain)
-
-  pub whole-Aggregate : (f : List ℕ) (star : Bool) (args : List Expr) → is_aggregate f ≡ true → whole_aggregate (e.Call f star args) ≡ Some (e.Call f star args ∷ [])
-  whole-Aggregate f star args is = rw (e.outs-Call f star args, is)
-
   -- ---- what is looked for: no bare column, and aggregates that are all among those of the query
 
   abbrev bare : Expr → Bool
@@ -113,7 +78,7 @@ module _ (groups aggs : List Expr) where
   is_found a = is_some (place_among aggs a)
 
   abbrev of_expr : Expr → List Expr
-  of_expr a = gives whole_aggregate a
+  of_expr a = aggregates_of a
 
   abbrev Ready : Bool → List Expr → Type 0
   Ready b found = (b ≡ false) × (list_all is_found found ≡ true)
@@ -148,49 +113,49 @@ module _ (groups aggs : List Expr) where
   pub ready-Sign : (m : Bool) (a : Expr) → place_among groups (e.Sign m a) ≡ None → IsReady (e.Sign m a) → IsReady a
   ready-Sign m a h r =
       let x = e.Sign m a in
-      alike (bare x) (bare a) (of_expr x) (of_expr a) (passes-Sign (is_bare groups) x m a refl (bare-Sign m a h)) (gives-Sign whole_aggregate x m a refl (whole-Sign m a)) r
+      alike (bare x) (bare a) (of_expr x) (of_expr a) (passes-Sign (is_bare groups) x m a refl (bare-Sign m a h)) (within.of-Sign m a) r
 
   pub ready-Binary : (o : BinaryOp) (a b : Expr) → place_among groups (e.Binary o a b) ≡ None → IsReady (e.Binary o a b) → IsReady a × IsReady b
   ready-Binary o a b h r =
       let x = e.Binary o a b in
       two (bare a) (bare b) (of_expr a) (of_expr b)
       (alike (bare x) (bare a || bare b) (of_expr x) (of_expr a ++ of_expr b)
-      (passes-Binary (is_bare groups) x o a b refl (bare-Binary o a b h)) (gives-Binary whole_aggregate x o a b refl (whole-Binary o a b)) r)
+      (passes-Binary (is_bare groups) x o a b refl (bare-Binary o a b h)) (within.of-Binary o a b) r)
 
   pub ready-Not : (a : Expr) → place_among groups (e.Not a) ≡ None → IsReady (e.Not a) → IsReady a
   ready-Not a h r =
       let x = e.Not a in
-      alike (bare x) (bare a) (of_expr x) (of_expr a) (passes-Not (is_bare groups) x a refl (bare-Not a h)) (gives-Not whole_aggregate x a refl (whole-Not a)) r
+      alike (bare x) (bare a) (of_expr x) (of_expr a) (passes-Not (is_bare groups) x a refl (bare-Not a h)) (within.of-Not a) r
 
   pub ready-IsNull : (m : Bool) (a : Expr) → place_among groups (e.IsNull m a) ≡ None → IsReady (e.IsNull m a) → IsReady a
   ready-IsNull m a h r =
       let x = e.IsNull m a in
-      alike (bare x) (bare a) (of_expr x) (of_expr a) (passes-IsNull (is_bare groups) x m a refl (bare-IsNull m a h)) (gives-IsNull whole_aggregate x m a refl (whole-IsNull m a)) r
+      alike (bare x) (bare a) (of_expr x) (of_expr a) (passes-IsNull (is_bare groups) x m a refl (bare-IsNull m a h)) (within.of-IsNull m a) r
 
   pub ready-Between : (m : Bool) (a b c : Expr) → place_among groups (e.Between m a b c) ≡ None → IsReady (e.Between m a b c) → IsReady a × IsReady b × IsReady c
   ready-Between m a b c h r =
       let x = e.Between m a b c in
       three (bare a) (bare b) (bare c) (of_expr a) (of_expr b) (of_expr c)
       (alike (bare x) (bare a || bare b || bare c) (of_expr x) (of_expr a ++ of_expr b ++ of_expr c)
-      (passes-Between (is_bare groups) x m a b c refl (bare-Between m a b c h)) (gives-Between whole_aggregate x m a b c refl (whole-Between m a b c)) r)
+      (passes-Between (is_bare groups) x m a b c refl (bare-Between m a b c h)) (within.of-Between m a b c) r)
 
   pub ready-OneOf : (m : Bool) (a : Expr) (es : List Expr) → place_among groups (e.OneOf m a es) ≡ None → IsReady (e.OneOf m a es) → IsReady a × AreReady es
   ready-OneOf m a es h r =
       let x = e.OneOf m a es in
       two (bare a) (any_of (map bare es)) (of_expr a) (all_of (map of_expr es))
       (alike (bare x) (bare a || any_of (map bare es)) (of_expr x) (of_expr a ++ all_of (map of_expr es))
-      (passes-OneOf (is_bare groups) x m a es refl (bare-OneOf m a es h)) (gives-OneOf whole_aggregate x m a es refl (whole-OneOf m a es)) r)
+      (passes-OneOf (is_bare groups) x m a es refl (bare-OneOf m a es h)) (within.of-OneOf m a es) r)
 
   pub ready-Like : (m : Bool) (a : Expr) (pattern : List ℕ) → place_among groups (e.Like m a pattern) ≡ None → IsReady (e.Like m a pattern) → IsReady a
   ready-Like m a pattern h r =
       let x = e.Like m a pattern in
       alike (bare x) (bare a) (of_expr x) (of_expr a) (passes-Like (is_bare groups) x m a pattern refl (bare-Like m a pattern h))
-      (gives-Like whole_aggregate x m a pattern refl (whole-Like m a pattern)) r
+      (within.of-Like m a pattern) r
 
   pub ready-Cast : (a : Expr) (to : SqlType) → place_among groups (e.Cast a to) ≡ None → IsReady (e.Cast a to) → IsReady a
   ready-Cast a to h r =
       let x = e.Cast a to in
-      alike (bare x) (bare a) (of_expr x) (of_expr a) (passes-Cast (is_bare groups) x a to refl (bare-Cast a to h)) (gives-Cast whole_aggregate x a to refl (whole-Cast a to)) r
+      alike (bare x) (bare a) (of_expr x) (of_expr a) (passes-Cast (is_bare groups) x a to refl (bare-Cast a to h)) (within.of-Cast a to) r
 
   pub ready-Case : (y : Option Expr) (ws : List WhenText) (z : Option Expr) → place_among groups (e.Case y ws z) ≡ None → IsReady (e.Case y ws z)
       → IsReadyPart y × AreReadyWhens ws × IsReadyPart z
@@ -201,7 +166,7 @@ module _ (groups aggs : List Expr) where
       three (any_perhaps (option_map bare y)) whens (any_perhaps (option_map bare z)) (perhaps (option_map of_expr y)) of_whens (perhaps (option_map of_expr z))
       (alike (bare x) (any_perhaps (option_map bare y) || whens || any_perhaps (option_map bare z))
       (of_expr x) (perhaps (option_map of_expr y) ++ of_whens ++ perhaps (option_map of_expr z))
-      (passes-Case (is_bare groups) x y ws z refl (bare-Case y ws z h)) (gives-Case whole_aggregate x y ws z refl (whole-Case y ws z)) r)
+      (passes-Case (is_bare groups) x y ws z refl (bare-Case y ws z h)) (within.of-Case y ws z) r)
 
   pub ready-Call : (f : List ℕ) (star : Bool) (args : List Expr) → is_aggregate f ≡ false → place_among groups (e.Call f star args) ≡ None
       → IsReady (e.Call f star args) → AreReady args
@@ -209,14 +174,14 @@ module _ (groups aggs : List Expr) where
       let x = e.Call f star args in
       alike (bare x) (any_of (map bare args)) (of_expr x) (all_of (map of_expr args))
       (passes-Call (is_bare groups) x f star args refl (bare-Call f star args plain h))
-      (gives-Call whole_aggregate x f star args refl (whole-Call f star args plain)) r
+      (within.of-function f star args plain) r
 
   -- an aggregate is among those of the query
   pub ready-Aggregate : (f : List ℕ) (star : Bool) (args : List Expr) → is_aggregate f ≡ true → IsReady (e.Call f star args)
       → is_some (place_among aggs (e.Call f star args)) ≡ true
   ready-Aggregate f star args is r =
       let x = e.Call f star args in
-      let found : list_all is_found (x ∷ []) ≡ true = ap (list_all is_found) (sym (gives-decided whole_aggregate x (x ∷ []) (whole-Aggregate f star args is))) ∙ r.1 in
+      let found : list_all is_found (x ∷ []) ≡ true = ap (list_all is_found) (sym (within.of-aggregate f star args is)) ∙ r.1 in
       (both-true (is_found x) true found).0
 
   -- a name is a bound of a window
