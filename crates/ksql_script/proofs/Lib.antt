@@ -1,2 +1,11 @@
 pub mod OneScript
 pub mod Readings
+pub mod SomeCuts
+pub mod SomePlaces
+pub mod SomeTokens
+pub mod Endings
+pub mod SomeClauses
+pub mod SomeQueries
+pub mod SomeStatements
+pub mod SomeTrees
+pub mod SomeScript

@@ -6,7 +6,7 @@ mod laws;
 mod reading;
 
 pub use fault::ScriptFault;
-pub use laws::one_script;
+pub use laws::{one_script, some_script};
 pub use reading::program_of_script;
 
 #[cfg(test)]
