@@ -147,7 +147,7 @@ moved {A} {B} {C} P a d b e c f h k l p =
 pub moved-two : {A B : Type 0} (P : A → B → Type 0) (a c : A) (b d : B) → a ≡ c → b ≡ d → P a b → P c d
 moved-two {A} {B} P a c b d h k p = subst (λ (y : B). P c y) k (subst (λ (x : A). P x b) h p)
 
-mapped-twice : (f g : Expr → Expr) (h : Option Expr) → option_map f (option_map g h) ≡ option_map (λ a. f (g a)) h
+pub mapped-twice : (f g : Expr → Expr) (h : Option Expr) → option_map f (option_map g h) ≡ option_map (λ a. f (g a)) h
 mapped-twice f g None = refl
 mapped-twice f g (Some a) = refl
 

@@ -5,7 +5,10 @@ pub mod Bearing
 pub mod Behind
 pub mod BehindGroups
 pub mod Cleanness
+pub mod Decided
 pub mod Distinct
+pub mod FewAggregates
+pub mod FewCalls
 pub mod GroupedQueries
 pub mod Handing
 pub mod Holding
@@ -31,6 +34,10 @@ pub mod Regrouping
 pub mod Resolution
 pub mod ResolvedTypes
 pub mod SameTrees
+pub mod SomeItem
+pub mod SomeJudgement
+pub mod SomeShape
+pub mod SomeTrees
 pub mod SoundAggregates
 pub mod SoundColumns
 pub mod SoundDeclared

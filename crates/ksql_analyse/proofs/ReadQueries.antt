@@ -41,7 +41,7 @@ both-typable s on x y is h agree =
     let known = none-of is_unknown (calls x) (calls y) (ap (list_any is_unknown) (sym called) ∙ laws.known s on h.tree h.is) in
     (typing.typable s x small.0 known.0 (k.0, k.2), typing.typable s y small.1 known.1 (k.1, k.3))
 
-is-there : {A : Type 0} (o : Option A) → is_some o ≡ true → (a : A) × (o ≡ Some a)
+pub is-there : {A : Type 0} (o : Option A) → is_some o ≡ true → (a : A) × (o ≡ Some a)
 is-there None h = absurd (cc (h))
 is-there (Some a) h = (a, refl)
 

@@ -1,0 +1,5 @@
+use Rattle.ksql_analyse.proofs.SomeJudgement.{program-or-refusal}
+use Rattle.ksql_analyse.proofs.laws.some_judgement.Goals as goal
+
+pub returns : goal.returns
+returns c = program-or-refusal
