@@ -1,5 +1,5 @@
 -- The aggregates in an expression with a typed tree have typed trees, and their literals keep their limits.
-use Rattle.std.proofs.Common.{◌≡◌, ℕ, Bool, true, false, ◌&&◌, List, [], ◌∷◌, ◌++◌, map, Option, Some, None, is_some, refl, ap, sym, subst}
+use Rattle.std.proofs.Common.{◌≡◌, true, false, ◌&&◌, List, [], ◌∷◌, ◌++◌, map, Option, Some, None, is_some, refl, ap, sym, subst}
 use Rattle.std.specs.Prelude.{option_map}
 use Rattle.std.specs.List.{AllByRecursion as Each}
 use Rattle.ksql_types.specs.declared.value.SqlType.{SqlType}
@@ -8,7 +8,6 @@ use Rattle.ksql_grammar.specs.declared.tree.Expr.TheVariants as e
 use Rattle.ksql_expr.specs.declared.typed.AggFun.TheVariants.{CountAll}
 use Rattle.ksql_expr.specs.declared.typed.Typed.{Typed}
 use Rattle.ksql_expr.specs.declared.typed.TypedNode.TheVariants as n
-use Rattle.ksql_expr.specs.Typing as w
 use Rattle.ksql_expr.specs.Typing.{of}
 use Rattle.ksql_scope.specs.declared.scope.Scope.{Scope}
 use Rattle.ksql_scope.specs.Functions.{is_aggregate}

@@ -33,17 +33,6 @@ use Rattle.ksql_analyse.proofs.Pushing.{all-taken, lent-exprs, trees-push}
 
 -- ---- types
 
--- one more in a loop over trees that have a type
-pub keys-next : (ks : List Typed) (i : ℕ) (ts us : List SqlType) (k : Typed) (t : SqlType) → i < length ks → map (λ (x : Typed). x.ty) (take i ks) ≡ map (λ (u : SqlType). Some u) ts
-    → us ≡ ts ++ t ∷ [] → k ≡ get_or ks i k → k.ty ≡ Some t → map (λ (x : Typed). x.ty) (take (i + 1) ks) ≡ map (λ (u : SqlType). Some u) us
-keys-next ks i ts us k t within are pushed item is =
-    ap (λ (n : ℕ). map (λ (x : Typed). x.ty) (take n ks)) (add-one i)
-    ∙ ap (map (λ (x : Typed). x.ty)) (take-suc ks i k within)
-    ∙ map-append (λ (x : Typed). x.ty) (take i ks) (get_or ks i k ∷ [])
-    ∙ ap₂ (λ (l : List (Option SqlType)) (o : Option SqlType). l ++ o ∷ []) are (ap (λ (x : Typed). x.ty) (sym item) ∙ is)
-    ∙ sym (map-append (λ (u : SqlType). Some u) ts (t ∷ []))
-    ∙ ap (map (λ (u : SqlType). Some u)) (sym pushed)
-
 -- the types of the keys, before those of the aggregates
 pub keys-typed : (ks : List Typed) (ts : List SqlType) → map (λ (x : Typed). x.ty) ks ≡ map (λ (t : SqlType). Some t) ts → AreLateTypes ks [] ts
 keys-typed ks ts h = append-nil (map (λ (x : Typed). x.ty) ks) ∙ h

@@ -1,6 +1,6 @@
 -- An expression with a typed tree has one behind a grouping too: its keys and its aggregates become columns or NULL, and
 -- no type changes.
-use Rattle.std.proofs.Common.{◌≡◌, ◌⊎◌, ℕ, ◌+◌, ◌<◌, ◌^◌, Bool, true, false, not, ◌&&◌, ◌||◌, if◌then◌else◌, List, [], ◌∷◌, map, length, Option, Some, None, is_some, refl, ap, ap₂, sym, ◌∙◌, subst, inl, inr, arith}
+use Rattle.std.proofs.Common.{◌≡◌, ◌⊎◌, ℕ, ◌+◌, ◌<◌, ◌^◌, Bool, true, false, ◌&&◌, ◌||◌, if◌then◌else◌, List, [], ◌∷◌, map, length, Option, Some, None, is_some, refl, ap, ap₂, sym, ◌∙◌, subst, inl, inr, arith}
 use Rattle.std.specs.Prelude.{option_map, slice_get, codes, bytes_eq}
 use Rattle.std.specs.Cmp.Lexicographic.{bytes_decides}
 use Rattle.ksql_types.specs.declared.value.SqlType.{SqlType}
@@ -30,7 +30,7 @@ use Rattle.ksql_typing.specs.Standing.{Stands, Pair, digits_value}
 use Rattle.ksql_typing.proofs.Inversion.{Checks, checks, inner, one-type}
 use Rattle.ksql_typing.proofs.Meanings.{typed-meanings}
 use Rattle.ksql_typing.proofs.Trees.{HaveTypes, results-typed}
-use Rattle.ksql_walks.specs.Parts.{becomes, when_becomes}
+use Rattle.ksql_walks.specs.Parts.{when_becomes}
 use Rattle.ksql_grouping.specs.Grouping.{late_part, late_column, place_among, regrouped, is_window_bound, is_aggregate_call, whole_aggregate}
 use Rattle.ksql_walks.proofs.Becoming.{becomes-decided, becomes-Digits, becomes-Text, becomes-Truth, becomes-Null, becomes-Name, becomes-Sign, becomes-Binary, becomes-Not, becomes-IsNull, becomes-Between, becomes-OneOf, becomes-Like, becomes-Cast, becomes-Call, becomes-Case}
 use Rattle.ksql_analyse.specs.Judgement.{late_scope}

@@ -1,5 +1,5 @@
 -- The judgement of statements: the program that they are, or their first refusal.
-use Rattle.std.specs.Prelude.{Result, Ok, Err, ◌≡◌, ℕ, suc, ◌+◌, Bool, true, false, if◌then◌else◌, List, [], ◌∷◌, ◌++◌, length, map, filter, filter_map, not, Option, Some, None, is_some, unwrap_or, option_map, IsTrue}
+use Rattle.std.specs.Prelude.{Result, Ok, Err, ◌≡◌, ℕ, suc, Bool, true, false, if◌then◌else◌, List, [], ◌∷◌, ◌++◌, length, map, filter, filter_map, not, Option, Some, None, is_some, unwrap_or, option_map, IsTrue}
 use Rattle.std.specs.List.{flat_map}
 use Rattle.ksql_types.specs.declared.relation.Column.{Column}
 use Rattle.ksql_types.specs.declared.relation.Format.TheVariants.{Json}

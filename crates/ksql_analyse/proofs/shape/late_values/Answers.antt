@@ -1,5 +1,5 @@
-use Rattle.std.proofs.Common.{List, map, arith, subst}
-use Rattle.std.proofs.lemmas.List.Elements.{All-map}
+use Rattle.std.proofs.Common.{List, map, arith, subst, sym}
+use Rattle.std.proofs.lemmas.List.Elements.{All-get_or, All-map}
 use denote.Bor.{Bor}
 use Rattle.ksql_clauses.specs.declared.items.Named.{Named}
 use Rattle.ksql_grouping.specs.Grouping.{regrouped}
@@ -9,6 +9,13 @@ use Rattle.ksql_analyse.proofs.BehindGroups.{behind-next}
 use Rattle.ksql_analyse.proofs.Pushing.{all-taken}
 use Rattle.ksql_analyse.proofs.ValuedTrees.{column-trees}
 use Rattle.ksql_analyse.proofs.shape.late_values.Goals as goal
+
+pub late_tree-requires-clause-typable : goal.late_tree-requires-clause-typable
+late_tree-requires-clause-typable c =
+    let behind = regrouped c.args.groups.now c.args.typed.now in
+    (subst (λ (v : Bor Named). IsValued c.args.scope.now (behind v.now.expr)) (sym c.value-item.is)
+    (All-get_or (λ (v : Bor Named). IsValued c.args.scope.now (behind v.now.expr)) c.args.values.now c.loop-value.value-index c.value-item.result (omega arith)
+    c.requires.valued)).typable
 
 pub loop-value-preserved : goal.loop-value-preserved
 loop-value-preserved c =
