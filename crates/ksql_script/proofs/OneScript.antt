@@ -1,12 +1,12 @@
 -- A script is accepted as one program or has one refusal, and not both.
-use Rattle.std.proofs.Common.{◌≡◌, ◌∙◌, ap, sym, refl, subst, ℕ, List, ◌≤◌, ◌<◌, length, inl, inr, arith}
-use Rattle.std.specs.Prelude.{Option, None, Some}
+use Rattle.std.proofs.Common.{◌≡◌, ◌∙◌, ap, sym, subst, ℕ, List, ◌≤◌, ◌<◌, length, inl, inr, arith}
+use Rattle.std.specs.Prelude.{None, Some}
 use Rattle.std.proofs.lemmas.Option.{same_Some}
 use Rattle.ksql_types.specs.Text.{longest_text}
 use Rattle.ksql_types.specs.declared.code.Code.{Code}
 use Rattle.ksql_lexer.specs.declared.token.Token.{Token}
 use Rattle.ksql_lexer.specs.declared.token.TokenKind.{TokenKind}
-use Rattle.ksql_lexer.specs.Script.{AreTokens, kinds}
+use Rattle.ksql_lexer.specs.Script.{kinds}
 use Rattle.ksql_lexer.proofs.Readings.{one_list, one_fault, not_both as tokens_or_fault}
 use Rattle.ksql_grammar.specs.declared.tree.Statement.{Statement}
 use Rattle.ksql_parser.specs.Script.{AreTrees, statements}

@@ -1,10 +1,9 @@
 -- What the steps of reading a script answer, put together.
-use Rattle.std.proofs.Common.{◌≡◌, ◌∙◌, ap, sym, refl, subst, ℕ, ◌+◌, ◌<◌, List, [], ◌∷◌, ◌≤◌, length, inl, inr, Bool, true, false, arith}
-use Rattle.std.specs.Prelude.{◌^◌, if◌then◌else◌, Option, None, Some, Result, Ok, Err}
+use Rattle.std.proofs.Common.{◌≡◌, ◌∙◌, ap, sym, subst, ℕ, ◌+◌, ◌<◌, List, [], ◌∷◌, ◌≤◌, length, inr, Bool, true, false, arith}
+use Rattle.std.specs.Prelude.{◌^◌, if◌then◌else◌, Some, Result, Ok, Err}
 use Rattle.std.proofs.lemmas.Option.{same_Some}
 use Rattle.std.specs.Str.{IsUtf8}
 use Rattle.ksql_types.specs.Text.{longest_text}
-use Rattle.ksql_types.specs.declared.code.Code.{Code}
 use Rattle.ksql_lexer.specs.declared.token.Token.{Token}
 use Rattle.ksql_lexer.specs.declared.token.TokenKind.{TokenKind}
 use Rattle.ksql_lexer.specs.Script.{AreTokens, kinds}

@@ -1,5 +1,5 @@
 -- What a script is: the program that it is accepted as, or its first refusal.
-use Rattle.std.specs.Prelude.{◌≡◌, ◌⊎◌, ℕ, ◌<◌, ◌≤◌, length, List, Option, None, Some, Result, Ok, Err}
+use Rattle.std.specs.Prelude.{◌≡◌, ◌⊎◌, ℕ, ◌<◌, ◌≤◌, length, List, None, Some, Result, Ok, Err}
 use Rattle.std.specs.Str.{IsUtf8}
 use Rattle.ksql_types.specs.Text.{longest_text}
 use Rattle.ksql_types.specs.declared.code.Code.{Code}

@@ -1,5 +1,5 @@
 -- What the steps of reading a script answer.
-use Rattle.std.specs.Prelude.{◌≡◌, ℕ, List, Option, None, Some, Result, Ok, Err}
+use Rattle.std.specs.Prelude.{◌≡◌, ℕ, List, None, Some, Result, Ok, Err}
 use Rattle.ksql_types.specs.declared.code.Code.TheVariants.{Unsupported}
 use Rattle.ksql_lexer.specs.declared.token.Token.{Token}
 use Rattle.ksql_lexer.specs.declared.token.TokenKind.{TokenKind}
