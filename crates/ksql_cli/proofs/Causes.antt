@@ -1,23 +1,23 @@
 -- The causes of statuses: how the steps give them, and that what the words and the files decide is one answer.
 use Rattle.std.proofs.Common.{◌≡◌, ◌∙◌, ap, ap₂, sym, refl, subst, ℕ, List, [], ◌∷◌, ◌++◌, append_assoc, inl, inr, length, arith, length-append}
-use Rattle.std.specs.Prelude.{codes, ◌⊎◌, Option, None, Some, IfSome, ◌≤◌, IsTrue, Result, Ok, Err, IfOk, IfErr}
+use Rattle.std.specs.Prelude.{codes, ◌⊎◌, Option, None, Some, IfSome, ◌≤◌}
 use Rattle.std.specs.List.{AllByRecursion}
 use Rattle.std.proofs.lemmas.Option.{same_Some}
 use Rattle.std.proofs.lemmas.List.{append-nil}
 use Rattle.ksql_types.specs.Text.{longest_text}
 use Rattle.ksql_types.specs.declared.code.Code.{Code}
 use Rattle.ksql_types.specs.declared.relation.Relation.{Relation}
-use Rattle.ksql_outside.specs.Outside.{read_bytes, JoinedLast, MayJoin}
+use Rattle.ksql_outside.specs.Outside.{read_bytes, JoinedLast}
 use Rattle.ksql_program.specs.declared.program.Program.{Program}
 use Rattle.ksql_script.specs.Script.{IsAccepted, IsRefused}
 use Rattle.ksql_script.proofs.OneScript.{one_program, one_refusal, not_both}
 use Rattle.topic_files.specs.declared.topic.LineWhy.{LineWhy}
 use Rattle.topic_files.specs.declared.topic.Room.{Room}
 use Rattle.topic_files.specs.declared.topic.TopicLines.{TopicLines}
-use Rattle.topic_files.specs.File.{first_fault, topic_lines}
+use Rattle.topic_files.specs.File.{first_fault}
 use Rattle.ksql_cli.specs.declared.status.Status.{Status}
 use Rattle.ksql_cli.specs.declared.status.Status.TheVariants as ended
-use Rattle.ksql_cli.specs.Command.{Files, script_name, IsScriptRead, IsProgramRead, declared_of, topic_file, whole_room, behind, IsGood, AreFed, IsFirstBad, IsTopicDue, IsDue, AreDue, Runs, report_of, HasCause, IsDecided, IsRefusal, NoDueFails}
+use Rattle.ksql_cli.specs.Command.{Files, script_name, IsScriptRead, IsProgramRead, declared_of, topic_file, whole_room, behind, AreFed, IsFirstBad, IsTopicDue, IsDue, AreDue, Runs, report_of, HasCause, IsDecided, IsRefusal, NoDueFails}
 use Rattle.ksql_cli.specs.Steps.{AreTopicsDue, IsJoined, IsTopicFailure, MayJoinScript}
 
 pub if_some_both : {A : Type 0} (o : Option A) (P Q R : A → Type 0) → ((x : A) → P x → Q x → R x) → IfSome o P → IfSome o Q → IfSome o R

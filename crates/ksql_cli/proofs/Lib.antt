@@ -1,4 +1,5 @@
 pub mod Causes
 pub mod Pieces
+pub mod SomeStatus
 pub mod Sounds
 pub mod TopicLaws

@@ -1,6 +1,6 @@
 -- What a sound program keeps that its topic files and its report ask for.
-use Rattle.std.proofs.Common.{◌≡◌, ℕ, List, [], ◌∷◌, ◌++◌, length, arith}
-use Rattle.std.specs.Prelude.{All, IsTrue, ◌≤◌, map}
+use Rattle.std.proofs.Common.{ℕ, List, [], ◌∷◌, ◌++◌, length, arith}
+use Rattle.std.specs.Prelude.{All, IsTrue, ◌≤◌}
 use Rattle.std.proofs.lemmas.Bool.Decides.{nat_tests}
 use Rattle.std.proofs.lemmas.List.Elements.{All-cons, All-nil}
 use Rattle.ksql_program.specs.declared.program.Item.{Item}

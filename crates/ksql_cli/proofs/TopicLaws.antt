@@ -1,6 +1,6 @@
 -- From what is said of one topic file, and of those behind it, to what is said of all of them.
 use Rattle.std.proofs.Common.{◌≡◌, ◌∙◌, ap, sym, refl, subst, ℕ, ◌-◌, List, [], ◌∷◌, ◌++◌, append_assoc, inl, inr, length, take, drop, arith}
-use Rattle.std.specs.Prelude.{◌⊎◌, ◌≤◌, All, Option, None, Some, IfSome, Result, Ok, Err, IfOk, IfErr, slice_index_or}
+use Rattle.std.specs.Prelude.{◌≤◌, All, Option, None, Some, IfSome, Result, Ok, Err, IfOk, IfErr, slice_index_or}
 use Rattle.std.specs.List.{AllByRecursion}
 use Rattle.std.proofs.lemmas.List.{take_all}
 use Rattle.std.proofs.lemmas.List.Elements.{All-rest}
@@ -8,8 +8,7 @@ use Rattle.ksql_place.specs.declared.change.SourceRecord.{SourceRecord}
 use Rattle.ksql_types.specs.declared.relation.Relation.{Relation}
 use Rattle.ksql_outside.specs.Outside.{JoinedLast, MayJoin}
 use Rattle.ksql_program.specs.declared.program.Item.{Item}
-use Rattle.ksql_program.specs.declared.program.Item.TheVariants.{Declared, Started}
-use Rattle.topic_files.specs.declared.topic.LineWhy.{LineWhy}
+use Rattle.ksql_program.specs.declared.program.Item.TheVariants.{Declared}
 use Rattle.topic_files.specs.declared.topic.Room.{Room}
 use Rattle.topic_files.specs.declared.topic.TopicLines.{TopicLines}
 use Rattle.topic_files.specs.File.{topic_lines}

@@ -6,7 +6,7 @@ ghost use Rattle.query_meaning.specs.Built.{AreBuilt};
 ghost use Rattle.topic_files.specs.declared.topic.TopicLines.{TopicLines};
 ghost use Rattle.topic_feeds.specs.Feeding.{all_fed};
 ghost use Rattle.ksql_cli.specs.declared.status.Status.{Status as OneStatus};
-ghost use Rattle.ksql_cli.specs.Command.{AreDue, AreFed, declared_of, HasCause, IsDecided, IsProgramRead, IsRefusal, longest_word, NoDueFails, report_of, Runs, script_name, whole_room};
+ghost use Rattle.ksql_cli.specs.Command.{AreDue, AreFed, declared_of, HasCause, HasAnswer, IsDecided, IsProgramRead, IsRefusal, longest_word, NoDueFails, report_of, Runs, script_name, whole_room};
 ghost use Rattle.ksql_cli.specs.Fault.{fault_line};
 ghost use Rattle.ksql_cli.specs.Steps.{IsJoined, MayJoinScript};
 
@@ -47,6 +47,8 @@ pub fn ksql<R, F: Folder, K: Sink, G: Gate + Sync>(
     ensures fault { IsRefusal result → WrotePrefix (K.written out.old) (K.written out.new) (fault_line result) }
     ensures whole_fault { IsRefusal result → ¬ Rose (K.faults out.old) (K.faults out.new)
         → K.written out.new ≡ followed_by (K.written out.old) (fault_line result) }
+    // The words and the files decide a status, unless a file that is due isn't there.
+    ensures decided { IfSome (F.files folder.old) (λ all. HasAnswer words.now all (F.failed folder.old) (F.failed folder.new)) }
     // What has its cause comes, unless memory is short, a due name failed or, where a report is due, a write failed.
     ensures exact { IfSome (F.files folder.old) (λ all. NoDueFails words.now all (F.failed folder.old) (F.failed folder.new)
         → (status : OneStatus) → IsDecided status → HasCause words.now all (F.failed folder.old) (F.failed folder.new) status

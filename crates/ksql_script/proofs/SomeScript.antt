@@ -13,7 +13,8 @@ use Rattle.ksql_grammar.specs.declared.tree.Statement.{Statement}
 use Rattle.ksql_parser.specs.Script.{AreTrees, statements}
 use Rattle.ksql_program.specs.declared.program.Item.{Item}
 use Rattle.ksql_program.specs.declared.program.Program.{Program}
-use Rattle.ksql_analyse.specs.Judgement.{AreParsed, AreRefused, IsProgramOf}
+use Rattle.ksql_analyse.specs.Judgement.{AreParsed, IsProgramOf}
+use Rattle.ksql_analyse.proofs.SomeJudgement.{program-or-refusal}
 use Rattle.query_meaning.specs.Built.{first_unbuilt}
 use Rattle.ksql_script.specs.Script.{AreRefusedTrees, IsAccepted, IsRefused, IsRefusedText}
 use Rattle.ksql_script.proofs.SomeTokens.{some_tokens}
@@ -23,41 +24,39 @@ use Rattle.ksql_script.proofs.SomeTrees.{some_trees}
 abbrev IsAnswered : List ℕ → (ℕ → Code → Type 0) → Type 0
 IsAnswered script refused = ((p : Program) × IsAccepted script p) ⊎ ((s : ℕ) × (c : Code) × refused s c)
 
--- where each statement that is parsed is judged
-module _ (judged : (sts : List Statement) → AreParsed sts → ((items : List Item) × IsProgramOf sts items) ⊎ ((n : ℕ) × (c : Code) × AreRefused sts n c)) where
-  -- the program, each of whose forms is run, or a refusal
-  some_program : (sts : List Statement) → AreParsed sts
-      → ((items : List Item) × IsProgramOf sts items × (first_unbuilt items ≡ None)) ⊎ ((s : ℕ) × (c : Code) × AreRefusedTrees sts s c)
-  some_program sts parsed = ⊎_elim (λ p. built p.0 p.1 (first_unbuilt p.0) refl) (λ r. inr (r.0, r.1, inl r.2)) (judged sts parsed)
-    where
-      built : (items : List Item) → IsProgramOf sts items → (o : Option ℕ) → first_unbuilt items ≡ o
-          → ((items : List Item) × IsProgramOf sts items × (first_unbuilt items ≡ None)) ⊎ ((s : ℕ) × (c : Code) × AreRefusedTrees sts s c)
-      built items judged_so None e = inl (items, judged_so, e)
-      built items judged_so (Some s) e = inr (s, Unsupported, inr (items, judged_so, e, refl))
+-- the program, each of whose forms is run, or a refusal
+some_program : (sts : List Statement) → AreParsed sts
+    → ((items : List Item) × IsProgramOf sts items × (first_unbuilt items ≡ None)) ⊎ ((s : ℕ) × (c : Code) × AreRefusedTrees sts s c)
+some_program sts parsed = ⊎_elim (λ p. built p.0 p.1 (first_unbuilt p.0) refl) (λ r. inr (r.0, r.1, inl r.2)) (program-or-refusal sts parsed)
+  where
+    built : (items : List Item) → IsProgramOf sts items → (o : Option ℕ) → first_unbuilt items ≡ o
+        → ((items : List Item) × IsProgramOf sts items × (first_unbuilt items ≡ None)) ⊎ ((s : ℕ) × (c : Code) × AreRefusedTrees sts s c)
+    built items judged_so None e = inl (items, judged_so, e)
+    built items judged_so (Some s) e = inr (s, Unsupported, inr (items, judged_so, e, refl))
 
-  module _ (script : List ℕ) (short : length script ≤ longest_text) (utf8 : IsUtf8 script) where
-    of_trees : (ts : List Token) → AreTokens script ts → (sts : List Statement) → AreTrees (statements (kinds ts)) sts → IsAnswered script (IsRefusedText script)
-    of_trees ts lexed sts parsed =
-        ⊎_elim
-        (λ p. inl (record { items = p.0 }, record { short = short; utf8 = utf8; tokens = ts; lexed = lexed; trees = sts; parsed = parsed; judged = p.1; built = p.2 }))
-        (λ r. inr (r.0, r.1, inr (ts, lexed, inr (sts, parsed, r.2))))
-        (some_program sts (statements (kinds ts), parsed))
-
-    of_tokens : (ts : List Token) → AreTokens script ts → IsAnswered script (IsRefusedText script)
-    of_tokens ts lexed =
-        ⊎_elim (λ trees. of_trees ts lexed trees.0 trees.1) (λ r. inr (r.0, r.1, inr (ts, lexed, inl r.2))) (some_trees (statements (kinds ts)))
-
-    of_text : IsAnswered script (IsRefusedText script)
-    of_text = ⊎_elim (λ tokens. of_tokens tokens.0 tokens.1) (λ bad. inr (bad.0, Syntax, inl (bad.1, refl))) (some_tokens script)
-
-  pub some_script : (script : List ℕ) → ((p : Program) × IsAccepted script p) ⊎ ((s : ℕ) × (c : Code) × IsRefused script s c)
-  some_script script =
+module _ (script : List ℕ) (short : length script ≤ longest_text) (utf8 : IsUtf8 script) where
+  of_trees : (ts : List Token) → AreTokens script ts → (sts : List Statement) → AreTrees (statements (kinds ts)) sts → IsAnswered script (IsRefusedText script)
+  of_trees ts lexed sts parsed =
       ⊎_elim
-      (λ long. inr (0, TooLarge, inl (long, refl, refl)))
-      (λ short. ⊎_elim
-      (λ is.
-      let utf8 = IsUtf8-from_is_utf8 script is in
-      ⊎_elim inl (λ r. inr (r.0, r.1, inr (short, inr (utf8, r.2)))) (of_text script short utf8))
-      (λ isnt. inr (0, Syntax, inr (short, inl ((λ utf8. both_ways (is_utf8 script) isnt (is_utf8-from_IsUtf8 script utf8)), refl, refl))))
-      (cases_Bool (is_utf8 script)))
-      (cases_lt longest_text (length script))
+      (λ p. inl (record { items = p.0 }, record { short = short; utf8 = utf8; tokens = ts; lexed = lexed; trees = sts; parsed = parsed; judged = p.1; built = p.2 }))
+      (λ r. inr (r.0, r.1, inr (ts, lexed, inr (sts, parsed, r.2))))
+      (some_program sts (statements (kinds ts), parsed))
+
+  of_tokens : (ts : List Token) → AreTokens script ts → IsAnswered script (IsRefusedText script)
+  of_tokens ts lexed =
+      ⊎_elim (λ trees. of_trees ts lexed trees.0 trees.1) (λ r. inr (r.0, r.1, inr (ts, lexed, inl r.2))) (some_trees (statements (kinds ts)))
+
+  of_text : IsAnswered script (IsRefusedText script)
+  of_text = ⊎_elim (λ tokens. of_tokens tokens.0 tokens.1) (λ bad. inr (bad.0, Syntax, inl (bad.1, refl))) (some_tokens script)
+
+pub some_script : (script : List ℕ) → ((p : Program) × IsAccepted script p) ⊎ ((s : ℕ) × (c : Code) × IsRefused script s c)
+some_script script =
+    ⊎_elim
+    (λ long. inr (0, TooLarge, inl (long, refl, refl)))
+    (λ short. ⊎_elim
+    (λ is.
+    let utf8 = IsUtf8-from_is_utf8 script is in
+    ⊎_elim inl (λ r. inr (r.0, r.1, inr (short, inr (utf8, r.2)))) (of_text script short utf8))
+    (λ isnt. inr (0, Syntax, inr (short, inl ((λ utf8. both_ways (is_utf8 script) isnt (is_utf8-from_IsUtf8 script utf8)), refl, refl))))
+    (cases_Bool (is_utf8 script)))
+    (cases_lt longest_text (length script))

@@ -1,4 +1,4 @@
-use Rattle.std.proofs.Common.{length, ℕ}
+use Rattle.std.proofs.Common.{length}
 use Rattle.ksql_cli.proofs.fault.+write_pieces.Given as goal
 
 -- proposed from what the function passes where it calls itself

@@ -2,6 +2,7 @@ use Rattle.std.specs.String.{string_bytes}
 use Rattle.ksql_outside.specs.Outside.{Rose}
 use Rattle.ksql_cli.specs.declared.status.Status.TheVariants as ended
 use Rattle.ksql_cli.proofs.Causes.{complete_of, exact_done, exact_fault, exact_refusal}
+use Rattle.ksql_cli.proofs.SomeStatus.{told_status}
 use Rattle.ksql_cli.proofs.run.ksql.Goals as goal
 
 pub returns-in-Ok-write_whole-clause-exact : goal.returns-in-Ok-write_whole-clause-exact
@@ -28,3 +29,15 @@ pub returns-clause-complete : goal.returns-clause-complete
 returns-clause-complete g c =
     complete_of (g.F.Folder.files c.args.folder.now) c.args.words.now (g.F.Folder.failed c.args.folder.now) (g.F.Folder.failed c.whole_text.new.folder)
     (¬ Rose (g.K.Sink.faults c.args.out.now) (g.K.Sink.faults c.write_fault.new.out)) c.in-Err.status (returns-clause-exact g c)
+
+pub returns-in-Ok-write_whole-clause-decided : goal.returns-in-Ok-write_whole-clause-decided
+returns-in-Ok-write_whole-clause-decided g c =
+    told_status (g.F.Folder.files c.args.folder.now) c.args.words.now (g.F.Folder.failed c.args.folder.now) (g.F.Folder.failed c.whole_text.new.folder)
+
+pub returns-in-Ok-clause-decided : goal.returns-in-Ok-clause-decided
+returns-in-Ok-clause-decided g c =
+    told_status (g.F.Folder.files c.args.folder.now) c.args.words.now (g.F.Folder.failed c.args.folder.now) (g.F.Folder.failed c.whole_text.new.folder)
+
+pub returns-clause-decided : goal.returns-clause-decided
+returns-clause-decided g c =
+    told_status (g.F.Folder.files c.args.folder.now) c.args.words.now (g.F.Folder.failed c.args.folder.now) (g.F.Folder.failed c.whole_text.new.folder)

@@ -1,6 +1,5 @@
-use Rattle.ksql_analyse.proofs.SomeJudgement.{program-or-refusal}
 use Rattle.ksql_script.proofs.SomeScript.{some_script}
 use Rattle.ksql_script.proofs.laws.some_script.Goals as goal
 
 pub returns : goal.returns
-returns c = some_script program-or-refusal
+returns c = some_script
