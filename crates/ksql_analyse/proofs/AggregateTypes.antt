@@ -18,11 +18,12 @@ use Rattle.ksql_typing.specs.Standing.{IsTypedTree}
 use Rattle.ksql_typing.proofs.Inversion.{Checks, checks}
 use Rattle.ksql_grouping.specs.Grouping.{place_from}
 use Rattle.ksql_grouping.specs.Same.{same_expr}
+use Rattle.ksql_grouping.proofs.Equality.{equal}
 use Rattle.ksql_analyse.specs.Judgement as aggs
 use Rattle.ksql_analyse.specs.Judgement.{AreAggs, agg_types, own_type}
 use Rattle.ksql_analyse.proofs.Once.{IsAmong}
-use Rattle.ksql_analyse.proofs.SameTrees.{same-is}
 use Rattle.ksql_analyse.proofs.SoundAggregates.{of-argument}
+use Rattle.ksql_analyse.proofs.EqualLists.{heads, tails}
 
 -- ---- aggregates
 
@@ -72,16 +73,10 @@ nulled-at {s} (aggs.null {a = b} {es = es} t is node same rest) a number h k = a
   where
     at : (c : Bool) → same_expr b a ≡ c → (c || list_any (λ o. same_expr o a) es) ≡ true → (IsAmong es a → (x : Typed) × IsTypedTree s a x × (x.ty ≡ None))
         → (x : Typed) × IsTypedTree s a x × (x.ty ≡ None)
-    at true l m other = (t, subst (λ d. IsTypedTree s d t) (same-is b a l) is, same)
+    at true l m other = (t, subst (λ d. IsTypedTree s d t) (equal b a l) is, same)
     at false l m other = other m
 
 -- ---- types
-
-heads : {A : Type 0} {a b : A} {xs ys : List A} → a ∷ xs ≡ b ∷ ys → a ≡ b
-heads h = cc
-
-tails : {A : Type 0} {a b : A} {xs ys : List A} → a ∷ xs ≡ b ∷ ys → xs ≡ ys
-tails h = cc
 
 -- the type of a key
 pub key-type : (keys : List Typed) (ats types : List SqlType) (j : ℕ) (x : Typed) → map (λ x. x.ty) keys ++ map (λ t. Some t) ats ≡ map (λ t. Some t) types

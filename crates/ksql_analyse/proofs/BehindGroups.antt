@@ -1,5 +1,5 @@
 -- The types, the scope and the trees behind a grouping.
-use Rattle.std.proofs.Common.{◌≡◌, ℕ, suc, ◌+◌, ◌<◌, ◌≤◌, ◌-◌, ◌^◌, All, arith, Bool, false, List, [], ◌∷◌, ◌++◌, map, length, take, get_or, Option, Some, None, is_some, option_to_list, refl, ap, ap₂, sym, ◌∙◌, subst, add-one, decimal, IsTrue}
+use Rattle.std.proofs.Common.{◌≡◌, ℕ, suc, ◌+◌, ◌<◌, ◌≤◌, All, arith, Bool, false, List, [], ◌∷◌, ◌++◌, map, length, take, get_or, Option, Some, None, is_some, option_to_list, refl, ap, ap₂, sym, ◌∙◌, subst, add-one, decimal, IsTrue}
 use Rattle.std.specs.Prelude.{option_map}
 use Rattle.std.proofs.Math.Seq.{take-suc}
 use Rattle.std.proofs.lemmas.Grind.{common_steps}
@@ -8,7 +8,6 @@ use Rattle.std.proofs.lemmas.List.{append-nil, append_assoc, map-append}
 use Rattle.std.proofs.lemmas.List.Elements.{filter_map-append}
 use Rattle.ksql_types.specs.declared.value.SqlType.{SqlType}
 use Rattle.ksql_grammar.specs.declared.tree.Expr.{Expr, out-Expr}
-use Rattle.ksql_grammar.specs.declared.tree.Expr.TheVariants as e
 use Rattle.ksql_grammar.specs.declared.tree.Select.{Select}
 use Rattle.ksql_expr.specs.declared.typed.Typed.{Typed}
 use Rattle.ksql_program.specs.declared.query.Agg.{Agg}
@@ -28,8 +27,8 @@ use Rattle.ksql_program.specs.declared.query.Window.{Window}
 use Rattle.ksql_rules.specs.Breaks.{group_exprs, is_grouped, key_columns, value_columns}
 use Rattle.ksql_analyse.specs.Typable.{AreColumnTrees, IsGroupTypable, IsLateTypable, IsValue}
 use Rattle.ksql_analyse.proofs.ValuedTrees.{trees-counted}
-use Rattle.ksql_analyse.proofs.LateNames.{length-late}
 use Rattle.ksql_analyse.proofs.Pushing.{all-taken, lent-exprs, trees-push}
+use Rattle.ksql_analyse.proofs.LateNames.{late-name}
 
 -- ---- types
 
@@ -65,11 +64,8 @@ all-typed ks gs n ts all h = subst (λ (os : List Agg). AreLateTypes ks os ts) (
 abbrev pub late_of : ℕ → SqlType → ScopeColumn
 late_of number t = record { alias = Some []; column = record { name = decimal number; ty = t } }
 
-late-named : (number : ℕ) → name_in (out-Expr (late_column number)) ≡ decimal number
-late-named number = ap name_in (e.outs-Name (Some []) (decimal number))
-
 late-is : (number : ℕ) (t : SqlType) → record { alias = Some []; column = record { name = name_in (out-Expr (late_column number)); ty = t } } ≡ late_of number t
-late-is number t = ap (λ (name : List ℕ). record { alias = Some []; column = record { name = name; ty = t } }) (late-named number)
+late-is number t = ap (λ (name : List ℕ). record { alias = Some []; column = record { name = name; ty = t } }) (late-name number)
 
 columns-push : (number : ℕ) (ts : List SqlType) (t : SqlType)
     → late_columns number (ts ++ t ∷ []) ≡ late_columns number ts ++ late_of (number + length ts) t ∷ []
@@ -100,9 +96,6 @@ pub scope-is : (q : Select) (ts us : List SqlType) (w : Bool) (s : Scope) → us
     → s ≡ record { columns = late_columns 0 us; stream = false; windowed = w } → s ≡ late_scope q ts
 scope-is q ts us w s same windowed is =
     is ∙ ap₂ (λ (vs : List SqlType) (b : Bool). record { columns = late_columns 0 vs; stream = false; windowed = b }) same windowed
-
-pub scope-counted : (q : Select) (ts : List SqlType) (s : Scope) → s ≡ late_scope q ts → length s.columns ≡ length ts
-scope-counted q ts s is = ap (λ (t : Scope). length t.columns) is ∙ length-late 0 ts
 
 -- what is made behind a grouping
 pub all-behind : (q : Select) (ts : List SqlType) (s : Scope) (keys : List Typed) (aggs : List Agg) (having : Option Expr) (x : Option Typed) (es : List Expr) (xs : List Typed)
@@ -175,13 +168,13 @@ module _ (q : Select) (ks : List Known) (groups aggs typed es : List Expr) (h : 
   -- what stands behind has typed trees
   pub late-needed : IsGroupTypable q ks → (from items : Scope) (keys keys2 : List Typed) (found : List Agg) (cs : List Named) → from ≡ from_scope q ks
       → items ≡ item_scope q ks → keys2 ≡ keys → cs ≡ value_columns q ks → AreTypedTrees from groups keys → AreAggs items aggs typed found
-      → (types : List SqlType) → AreLateTypes keys2 found types → length types ≤ 2 ^ 32 - 2 → IsLateTypable (late_scope q types) groups typed h cs
-  late-needed typable from items keys keys2 found cs f i k v trees are types late_types few =
+      → (types : List SqlType) → AreLateTypes keys2 found types → IsLateTypable (late_scope q types) groups typed h cs
+  late-needed typable from items keys keys2 found cs f i k v trees are types late_types =
       moved (λ (gs : List Expr) (o : Option Expr) (vs : List Named). IsLateTypable (late_scope q types) gs typed o vs) (group_exprs q ks) groups
       (option_map (resolved (item_scope q ks)) q.having) h (value_columns q ks) cs (sym of_groups) (sym of_having) (sym v)
       (typable.late keys typed found types (moved AreTypedTrees from (from_scope q ks) groups (group_exprs q ks) keys keys f of_groups refl trees)
       (moved (λ (s : Scope) (os : List Expr) (gs : List Agg). AreAggs s os typed gs) items (item_scope q ks) aggs (aggregate_exprs q ks) found found i of_aggs refl are)
-      (subst (λ (xs : List Typed). AreLateTypes xs found types) k late_types) few)
+      (subst (λ (xs : List Typed). AreLateTypes xs found types) k late_types))
 
   pub keys-needed : IsGroupTypable q ks → (from : Scope) (keys keys2 : List Typed) → keys ≡ keys2 → AreTypedTrees from groups keys → All IsValue keys
       → AreColumnTrees (key_columns q ks) keys2

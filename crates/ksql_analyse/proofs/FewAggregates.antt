@@ -29,11 +29,11 @@ use Rattle.ksql_clauses.specs.Sources.{from_scope, item_scope, late_exprs, there
 use Rattle.ksql_grouping.specs.Grouping.{aggregates_of, once_from}
 use Rattle.ksql_grouping.specs.Same.{same_expr}
 use Rattle.ksql_rules.specs.Breaks.{group_exprs, shown_exprs}
+use Rattle.ksql_analyse.specs.Few.{CallsFew}
 use Rattle.ksql_analyse.specs.Judgement as aggs
 use Rattle.ksql_analyse.specs.Judgement.{AreAggs, AreLateTypes, AreTypedTrees, agg_types, aggregate_exprs, exprs, own_type}
 use Rattle.ksql_analyse.proofs.AggregatesIn as found
 use Rattle.ksql_analyse.proofs.AggregatesIn.{when_aggregates}
-use Rattle.ksql_analyse.proofs.FewCalls.{CallsFew}
 use Rattle.ksql_analyse.proofs.Refusals.{KeepsQuery}
 use Rattle.ksql_analyse.proofs.Resolution.{calls-resolved}
 use Rattle.ksql_analyse.proofs.SoundColumns.{each-append, each-map}

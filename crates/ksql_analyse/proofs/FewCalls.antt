@@ -1,9 +1,10 @@
 -- An expression of the items or of HAVING of a statement that the grammar accepts calls at most 2,000 functions.
 use Rattle.std.proofs.Common.{◌≡◌, ℕ, suc, ◌+◌, ◌≤◌, ◌<◌, Bool, List, [], ◌∷◌, ◌++◌, map, length, Option, Some, None, refl, ap, ap₂, ◌∙◌, arith, inl, inr}
-use Rattle.std.specs.Prelude.{◌⊎◌}
+use Rattle.std.specs.Prelude.{◌⊎◌, All}
 use Rattle.std.specs.List.{flat_map, AllByRecursion as Each}
 use Rattle.std.proofs.lemmas.Bool.{cases_lt}
 use Rattle.std.proofs.lemmas.List.{length-append, length-map}
+use Rattle.std.proofs.lemmas.List.Elements.{All-from_recursion}
 use Rattle.ksql_types.specs.declared.operator.BinaryOp.{BinaryOp}
 use Rattle.ksql_lexer.specs.declared.token.TokenKind.{TokenKind}
 use Rattle.ksql_grammar.specs.declared.symbol.Symbol.{Symbol}
@@ -16,12 +17,14 @@ use Rattle.ksql_grammar.specs.declared.tree.WhenText.{WhenText}
 use Rattle.ksql_grammar.specs.Grammar as g
 use Rattle.ksql_grammar.specs.Grammar.{Spells, Phrase}
 use Rattle.ksql_grammar.specs.Symbols.{symbol_of}
-use Rattle.ksql_parser.specs.Script.{IsTreeOf}
+use Rattle.ksql_parser.specs.Script.{AreTrees, IsTreeOf}
 use Rattle.ksql_scope.specs.Uses.{calls, all_of, perhaps}
 use Rattle.ksql_scope.proofs.Equations as equation
 use Rattle.ksql_scope.proofs.Equations.{calls_when, calls-when}
 use Rattle.ksql_scope.proofs.Folds.{perhaps_folded}
 use Rattle.ksql_clauses.specs.Sources.{item_exprs, late_exprs, there}
+use Rattle.ksql_analyse.specs.Few.{CallsFew, HasFewCalls}
+use Rattle.ksql_analyse.specs.Judgement.{AreParsed}
 
 -- ---- how many functions are called
 
@@ -191,13 +194,6 @@ fits (g.more_exprs d f) = omega (arith, fits d, fits f)
 
 -- ---- statements
 
-abbrev pub CallsFew : Expr → Type 0
-CallsFew a = length (calls a) ≤ 2000
-
-abbrev pub HasFewCalls : StatementBody → Type 0
-HasFewCalls (Declared cs ps) = Unit {0}
-HasFewCalls (Query ps q) = Each CallsFew (late_exprs q)
-
 each-few : (es : List Expr) → count_all es ≤ 2000 → Each CallsFew es
 each-few [] h = tt
 each-few (a ∷ es) h = (omega (arith, h), each-few es (omega (arith, h)))
@@ -212,3 +208,12 @@ tree-few ts st h = at (cases_lt 2000 (length ts))
     at : (2000 < length ts) ⊎ (length ts ≤ 2000) → HasFewCalls st.body
     at (inl many) = absurd (h.0.0 many)
     at (inr few) = body-few st.body (omega (arith, few, fits h.1, length-map ts symbol_of))
+
+trees-few : (parts : List (List TokenKind)) (sts : List Statement) → AreTrees parts sts → Each (λ st. HasFewCalls st.body) sts
+trees-few [] [] h = tt
+trees-few [] (st ∷ sts) h = absurd h
+trees-few (ts ∷ parts) [] h = absurd h
+trees-few (ts ∷ parts) (st ∷ sts) h = (tree-few ts st h.0, trees-few parts sts h.1)
+
+pub parsed-few : (sts : List Statement) → AreParsed sts → All (λ st. HasFewCalls st.body) sts
+parsed-few sts h = All-from_recursion (λ st. HasFewCalls st.body) sts (trees-few h.0 sts h.1)

@@ -1,5 +1,5 @@
 -- What a grouped query that is accepted makes of its rows.
-use Rattle.std.proofs.Common.{◌≡◌, ℕ, suc, zero, ◌+◌, ◌<◌, ◌^◌, Bool, true, false, not, ◌&&◌, ◌||◌, if◌then◌else◌, List, [], ◌∷◌, length, Option, Some, None, is_some, refl, ap, ap₂, sym, ◌∙◌, subst, arith}
+use Rattle.std.proofs.Common.{◌≡◌, ℕ, suc, zero, ◌+◌, ◌^◌, Bool, true, false, not, ◌&&◌, ◌||◌, if◌then◌else◌, List, [], ◌∷◌, length, Option, Some, None, is_some, refl, ap, ap₂, sym, ◌∙◌, subst, arith, ◌≤◌, ◌-◌}
 use Rattle.std.specs.Prelude.{option_map, slice_get, is_none}
 use Rattle.std.proofs.lemmas.List.{length-map}
 use Rattle.std.proofs.lemmas.List.Elements.{All-from_recursion}
@@ -23,16 +23,19 @@ use Rattle.ksql_clauses.specs.declared.items.Named.{Named}
 use Rattle.ksql_clauses.specs.declared.sources.Known.{Known}
 use Rattle.ksql_clauses.specs.Items.{result_columns}
 use Rattle.ksql_clauses.specs.Resolved.{resolved}
-use Rattle.ksql_clauses.specs.Sources.{from_scope, item_scope, there, joined_streams}
+use Rattle.ksql_clauses.specs.Sources.{from_scope, item_scope, there, joined_streams, late_exprs}
 use Rattle.ksql_grouping.specs.Grouping.{aggregates_of, place_among, place_from, has_bare_column, regrouped}
 use Rattle.ksql_grouping.specs.Same.{same_expr}
 use Rattle.ksql_rules.specs.Breaks.{group_exprs, shown_exprs, is_grouped, key_columns, value_columns, is_stream_join, has_stream_side, is_not_on_key}
 use Rattle.ksql_rules.specs.Keys.{needs, alone, key_places}
 use Rattle.ksql_rules.specs.Limits.{IsQueryWithin}
+use Rattle.ksql_analyse.specs.Few.{CallsFew}
 use Rattle.ksql_analyse.specs.Judgement.{AreTypedTrees, AreAggs, AreLateTypes, late, late_scope, aggregate_exprs, exprs, agg_types}
 use Rattle.ksql_analyse.specs.Typable.{IsTypable, IsValued, IsAggregable, IsLateTypable, IsGroupTypable, IsQueryTypable}
 use Rattle.ksql_analyse.proofs.AggregateTypes.{agg-at, nulled-at, key-type, agg-type-at}
 use Rattle.ksql_analyse.proofs.Distinct.{or-false}
+use Rattle.ksql_analyse.proofs.FewAggregates.{few-types}
+use Rattle.ksql_analyse.proofs.LateNames.{length-late}
 use Rattle.ksql_analyse.proofs.LateForms as forms
 use Rattle.ksql_analyse.proofs.LateTrees.{HasPlainColumns, IsGrouping, late-tree}
 use Rattle.ksql_analyse.proofs.Once.{IsAmong, once-has, each-flat-of, place-found, place-at}
@@ -113,7 +116,8 @@ empty-group q is h = let e : is_grouped q ≡ false = ap (λ gs. is_grouped (rec
 
 module _ (catalog : List Relation) (table : Bool) (name : List ℕ) (ps : List Property) (q : Select) (ks : List Known)
     (keeps : KeepsQuery catalog table name ps q ks) (within : IsQueryWithin q)
-    (from_plain : HasPlainColumns (from_scope q ks)) (item_plain : HasPlainColumns (item_scope q ks)) (grouped : is_grouped q ≡ true) where
+    (from_plain : HasPlainColumns (from_scope q ks)) (item_plain : HasPlainColumns (item_scope q ks))
+    (calls_few : Each CallsFew (late_exprs q)) (grouped : is_grouped q ≡ true) where
   abbrev front : Scope
   front = from_scope q ks
 
@@ -157,7 +161,10 @@ module _ (catalog : List Relation) (table : Bool) (name : List ℕ) (ps : List P
       (each-flat-of (λ b. list_any (λ o. same_expr o b) aggs ≡ true) aggregates_of (shown_exprs q ks) (once-has all []))
 
   module _ (keys : List Typed) (typed : List Expr) (made : List Agg) (ts : List SqlType) (are_keys : AreTypedTrees front groups keys) (are_aggs : AreAggs items aggs typed made)
-      (are_types : AreLateTypes keys made ts) (few : length ts < 2 ^ 64) where
+      (are_types : AreLateTypes keys made ts) where
+    few : length ts ≤ 2 ^ 32 - 2
+    few = few-types catalog table name ps q ks keeps calls_few keys typed made ts are_keys are_aggs are_types
+
     key-placed : (a : Expr) (x : Typed) (i : ℕ) → place_among groups a ≡ Some i → Stands items (st.one a x) → HasTypes (column_types items) (w.one x)
         → (t : SqlType) × (slice_get ts (0 + i) ≡ Some t) × (x.ty ≡ Some t)
     key-placed a x i placed h k =
@@ -185,7 +192,7 @@ module _ (catalog : List Relation) (table : Bool) (name : List ℕ) (ps : List P
         ap (λ y. y.ty) (one-tree items a x g.0 (h, k) g.1) ∙ g.2
 
     grouping : IsGrouping items q groups typed aggs ts
-    grouping = record { windowed = refl; plain = item_plain; few = few; keys = key-placed; aggregates = aggregate-placed; nulled = nulled }
+    grouping = record { windowed = refl; plain = item_plain; few = omega (arith, few); keys = key-placed; aggregates = aggregate-placed; nulled = nulled }
 
     -- an expression behind the grouping has a typed tree, and the same type
     late-of : (a : Expr) → forms.IsReady groups aggs a → (h : IsTypable items a)
@@ -216,6 +223,7 @@ module _ (catalog : List Relation) (table : Bool) (name : List ℕ) (ps : List P
 
     pub late-typable : IsLateTypable (late_scope q ts) groups typed (option_map (resolved items) q.having) (value_columns q ks)
     late-typable = record {
+      few = omega (arith, few, length-late 0 ts);
       having = All-from_recursion (IsTypable (late_scope q ts)) (there (option_map (regrouped groups typed) (option_map (resolved items) q.having)))
           (late-having (option_map (resolved items) q.having)
           (each-behind (forms.IsReady groups aggs) (exprs (result_columns q ks)) (there (option_map (resolved items) q.having)) shown-ready)
@@ -241,17 +249,18 @@ module _ (catalog : List Relation) (table : Bool) (name : List ℕ) (ps : List P
     keyed = sym (length-map (key_columns q ks) (λ (c : Named). c.expr)) ∙ ap length keys-are-groups;
     keys = All-from_recursion (IsValued front) groups groups-valued;
     aggregates = All-from_recursion (IsAggregable items) aggs (typing.aggregates-typable catalog table name ps q ks keeps within from_plain item_plain);
-    late = λ keys typed made ts are_keys are_aggs are_types few. late-typable keys typed made ts are_keys are_aggs are_types (omega arith);
+    late = late-typable;
   }
 
 -- every expression of an accepted query has a typed tree
 module _ (catalog : List Relation) (table : Bool) (name : List ℕ) (ps : List Property) (q : Select) (ks : List Known)
     (keeps : KeepsQuery catalog table name ps q ks) (within : IsQueryWithin q)
-    (from_plain : HasPlainColumns (from_scope q ks)) (item_plain : HasPlainColumns (item_scope q ks)) where
+    (from_plain : HasPlainColumns (from_scope q ks)) (item_plain : HasPlainColumns (item_scope q ks))
+    (calls_few : Each CallsFew (late_exprs q)) where
   pub query-typable : IsQueryTypable q ks
   query-typable = record {
     filter = All-from_recursion (IsTypable (from_scope q ks)) (there q.filter) (typing.filter-typable catalog table name ps q ks keeps within from_plain item_plain);
     columns = All-from_recursion (λ c. IsValued (item_scope q ks) c.expr) (result_columns q ks)
         (typing.columns-valued catalog table name ps q ks keeps within from_plain item_plain);
-    grouped = group-typable catalog table name ps q ks keeps within from_plain item_plain;
+    grouped = group-typable catalog table name ps q ks keeps within from_plain item_plain calls_few;
   }

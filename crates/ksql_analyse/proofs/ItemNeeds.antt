@@ -15,6 +15,7 @@ use Rattle.ksql_rules.specs.Breaks.{has_bad_topic}
 use Rattle.ksql_rules.specs.Limits.{IsBodyWithin, IsQueryWithin, IsRelationWithin, IsWithinLimits}
 use Rattle.ksql_rules.specs.Lowest.{IsAccepted}
 use Rattle.ksql_rules.proofs.Within.{all-short, all-within, few-columns}
+use Rattle.ksql_analyse.specs.Few.{HasFewCalls}
 use Rattle.ksql_analyse.specs.Plain.{HasPlainNames}
 use Rattle.ksql_analyse.specs.Readable.{IsReadable}
 use Rattle.ksql_analyse.specs.Typable.{IsQueryTypable}
@@ -58,10 +59,10 @@ module _ (catalog : List Relation) (st : Statement) (ps : List Property) (q : Se
   readable =
       reads.readable catalog st.table st.name ps q (kept catalog st ps q is accepted) (within st ps q is limits) (from-plain catalog q plain) (item-plain catalog q plain)
 
-  pub typable : IsQueryTypable q (all_known catalog q)
-  typable =
+  pub typable : HasFewCalls st.body → IsQueryTypable q (all_known catalog q)
+  typable few =
       query-typable catalog st.table st.name ps q (all_known catalog q) (kept catalog st ps q is accepted) (within st ps q is limits) (from-plain catalog q plain)
-      (item-plain catalog q plain)
+      (item-plain catalog q plain) (subst HasFewCalls is few)
 
 -- ---- the topic
 

@@ -13,16 +13,17 @@ use Rattle.ksql_grammar.specs.declared.tree.Statement.{Statement}
 use Rattle.ksql_lexer.specs.declared.token.TokenKind.{TokenKind}
 use Rattle.ksql_parser.specs.Script.{IsTreeOf}
 use Rattle.ksql_program.specs.declared.program.Item.{Item}
-use Rattle.ksql_program.specs.declared.program.Item.TheVariants.{Declared, Started}
 use Rattle.ksql_program.specs.Names.{is_among, are_distinct, reserved_columns}
 use Rattle.ksql_program.specs.Program.{relation_of, relations}
-use Rattle.ksql_program.specs.Sound.{columns, IsSoundItem, IsSoundRelation, AreSoundItems}
+use Rattle.ksql_program.specs.Sound.{columns, IsSoundItem, AreSoundItems}
 use Rattle.ksql_rules.specs.Limits.{IsRelationWithin}
 use Rattle.ksql_rules.proofs.Within.{All-unmap}
+use Rattle.ksql_scope.proofs.Sets.{both-true}
 use Rattle.ksql_analyse.specs.Judgement.{AreParsed, IsProgramOf}
 use Rattle.ksql_analyse.specs.Plain.{HasPlainNames}
 use Rattle.ksql_analyse.proofs.Distinct.{or-false, false-or, true-not, same-bytes}
-use Rattle.ksql_analyse.proofs.SoundPrograms.{sound}
+use Rattle.ksql_analyse.proofs.SoundPrograms.{among-mapped, sound}
+use Rattle.ksql_analyse.proofs.SoundSources.{relation-sound}
 
 -- a relation that can be put behind others
 pub record IsNext (catalog : List Relation) (r : Relation) : Type 0 where
@@ -51,10 +52,6 @@ last-sound before [] i h = subst (λ b. IsSoundItem b i) (sym (append-nil before
 last-sound before (x ∷ items) i h =
     subst (λ b. IsSoundItem b i) (append_assoc before (x ∷ []) items) (last-sound (before ++ x ∷ []) items i h.1)
 
-relation-sound : (before : List Item) (i : Item) → IsSoundItem before i → IsSoundRelation (length before) (relation_of i)
-relation-sound before (Declared r) h = h.0
-relation-sound before (Started q) h = h.0
-
 -- it has no name of an earlier one
 last-new : (names : List (List ℕ)) (name : List ℕ) → are_distinct (names ++ name ∷ []) ≡ true → is_among names name ≡ false
 last-new [] name h = refl
@@ -62,17 +59,9 @@ last-new (x ∷ names) name h =
     let p = both-true (not (is_among (names ++ name ∷ []) x)) (are_distinct (names ++ name ∷ [])) h in
     false-or (bytes_eq name x) (is_among names name) (same-bytes name x ∙ last-other names x name (true-not (is_among (names ++ name ∷ []) x) p.0)) (last-new names name p.1)
   where
-    both-true : (a b : Bool) → (a && b) ≡ true → (a ≡ true) × (b ≡ true)
-    both-true true b k = (refl, k)
-    both-true false b k = absurd (cc (k))
-
     last-other : (names : List (List ℕ)) (x name : List ℕ) → is_among (names ++ name ∷ []) x ≡ false → bytes_eq x name ≡ false
     last-other [] x name k = (or-false (bytes_eq x name) false k).0
     last-other (y ∷ names) x name k = last-other names x name (or-false (bytes_eq x y) (is_among (names ++ name ∷ []) x) k).1
-
-among-mapped : (f : Relation → List ℕ) (name : List ℕ) (rs : List Relation) → is_among (map f rs) name ≡ list_any (λ r. bytes_eq name (f r)) rs
-among-mapped f name [] = refl
-among-mapped f name (r ∷ rs) = ap (λ b. bytes_eq name (f r) || b) (among-mapped f name rs)
 
 none-of-two : (p q : Relation → Bool) (rs : List Relation) → list_any p rs ≡ false → list_any q rs ≡ false → list_any (λ r. p r || q r) rs ≡ false
 none-of-two p q [] h k = refl

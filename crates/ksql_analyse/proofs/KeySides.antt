@@ -28,9 +28,9 @@ use Rattle.ksql_clauses.specs.Resolved.{resolved, full_name, written_for, is_row
 use Rattle.ksql_clauses.specs.Sources.{scope_column}
 use Rattle.ksql_clauses.proofs.Resolving as r
 use Rattle.ksql_rules.specs.Keys.{on_sides, equated_sides, is_only_key, is_left_side, are_sides, left_key}
+use Rattle.ksql_grouping.proofs.Equality.{equal}
 use Rattle.ksql_analyse.proofs.Meant.{meant-known}
 use Rattle.ksql_analyse.proofs.Resolution.{IsName}
-use Rattle.ksql_analyse.proofs.SameTrees.{same-is}
 use Rattle.ksql_analyse.proofs.SoundColumns.{name-or-not}
 use Rattle.ksql_analyse.proofs.Stood.{stood-name}
 
@@ -122,7 +122,7 @@ only-key s k a h = at k.relation.schema.keys refl
   where
     at : (cs : List Column) → k.relation.schema.keys ≡ cs → IsOnlyKey s k a
     at [] g = absurd (false≢true (ap (λ cs. is_only_key s (with_keys k cs) a) (sym g) ∙ h))
-    at (c ∷ []) g = record { column = c; keys = g; is = same-is (resolved s a) (e.Name (Some k.alias) c.name) (ap (λ cs. is_only_key s (with_keys k cs) a) (sym g) ∙ h) }
+    at (c ∷ []) g = record { column = c; keys = g; is = equal (resolved s a) (e.Name (Some k.alias) c.name) (ap (λ cs. is_only_key s (with_keys k cs) a) (sym g) ∙ h) }
     at (c ∷ d ∷ cs) g = absurd (false≢true (ap (λ cs. is_only_key s (with_keys k cs) a) (sym g) ∙ h))
 
 -- its tree is that column

@@ -23,6 +23,9 @@ untrue false h = refl
 
 -- ---- numbers as names
 
+pub late-name : (number : ℕ) → name_in (out-Expr (late_column number)) ≡ decimal number
+late-name number = ap name_in (e.outs-Name (Some []) (decimal number))
+
 record BeginsWithDigit (ds : List ℕ) : Type 0 where
   pub first : ℕ
   pub rest : List ℕ

@@ -1,6 +1,6 @@
 -- An expression with a typed tree has one behind a grouping too: its keys and its aggregates become columns or NULL, and
 -- no type changes.
-use Rattle.std.proofs.Common.{◌≡◌, ◌⊎◌, ℕ, ◌+◌, ◌<◌, ◌^◌, Bool, true, false, ◌&&◌, ◌||◌, if◌then◌else◌, List, [], ◌∷◌, map, length, Option, Some, None, is_some, refl, ap, ap₂, sym, ◌∙◌, subst, inl, inr, arith}
+use Rattle.std.proofs.Common.{◌≡◌, ◌⊎◌, ℕ, ◌+◌, ◌<◌, ◌^◌, Bool, true, false, ◌&&◌, if◌then◌else◌, List, [], ◌∷◌, map, length, Option, Some, None, is_some, refl, ap, ap₂, sym, ◌∙◌, subst, inl, inr, arith}
 use Rattle.std.specs.Prelude.{option_map, slice_get, codes, bytes_eq}
 use Rattle.std.specs.Cmp.Lexicographic.{bytes_decides}
 use Rattle.ksql_types.specs.declared.value.SqlType.{SqlType}
@@ -33,6 +33,8 @@ use Rattle.ksql_typing.proofs.Trees.{HaveTypes, results-typed}
 use Rattle.ksql_walks.specs.Parts.{when_becomes}
 use Rattle.ksql_grouping.specs.Grouping.{late_part, late_column, place_among, regrouped, is_window_bound, is_aggregate_call, whole_aggregate}
 use Rattle.ksql_walks.proofs.Becoming.{becomes-decided, becomes-Digits, becomes-Text, becomes-Truth, becomes-Null, becomes-Name, becomes-Sign, becomes-Binary, becomes-Not, becomes-IsNull, becomes-Between, becomes-OneOf, becomes-Like, becomes-Cast, becomes-Call, becomes-Case}
+use Rattle.ksql_scope.proofs.Sets.{either-true}
+use Rattle.ksql_scope.proofs.Deciding.{typed-is}
 use Rattle.ksql_analyse.specs.Judgement.{late_scope}
 use Rattle.ksql_analyse.proofs.Meant.{IsMeant, meant}
 use Rattle.ksql_analyse.proofs.LateForms as f
@@ -49,18 +51,10 @@ HasPlainColumns s = (i : ℕ) (c : ScopeColumn) → slice_get s.columns i ≡ So
 
 -- ---- types
 
-typed-is : (o : Option SqlType) (t : Option SqlType) → typed o ≡ Some t → (u : SqlType) × (o ≡ Some u) × (t ≡ Some u)
-typed-is None t k = absurd (cc (k))
-typed-is (Some u) t k = (u, refl, cc)
-
 retyped : (cs : List (Option SqlType)) (form : TypedNode) (t u : Option SqlType) → t ≡ u → HasTypes cs (w.one (of u form)) → HasTypes cs (w.one (of t form))
 retyped cs form t u same h = subst (λ v. HasTypes cs (w.one (of v form))) (sym same) h
 
 -- ---- bounds of windows
-
-either-true : (a b : Bool) → (a || b) ≡ true → (a ≡ true) ⊎ (b ≡ true)
-either-true true b h = inl refl
-either-true false b h = inr h
 
 abbrev IsBoundOf : Option (List ℕ) → List ℕ → Type 0
 IsBoundOf q name = (q ≡ None) × ((name ≡ codes "WINDOWSTART") ⊎ (name ≡ codes "WINDOWEND"))
@@ -73,7 +67,7 @@ bound-name None name h = (refl, at (either-true (bytes_eq name (codes "WINDOWSTA
     at (inl k) = inl ((bytes_decides name (codes "WINDOWSTART")).0 k)
     at (inr k) = inr ((bytes_decides name (codes "WINDOWEND")).0 k)
 
-never : {A : Type 0} (b : Bool) → b ≡ true → b ≡ false → A
+pub never : {A : Type 0} (b : Bool) → b ≡ true → b ≡ false → A
 never true h k = absurd (cc (k))
 never false h k = absurd (cc (h))
 

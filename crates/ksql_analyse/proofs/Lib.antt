@@ -7,6 +7,7 @@ pub mod BehindGroups
 pub mod Cleanness
 pub mod Decided
 pub mod Distinct
+pub mod EqualLists
 pub mod FewAggregates
 pub mod FewCalls
 pub mod GroupedQueries
@@ -33,7 +34,6 @@ pub mod Refusals
 pub mod Regrouping
 pub mod Resolution
 pub mod ResolvedTypes
-pub mod SameTrees
 pub mod SomeItem
 pub mod SomeJudgement
 pub mod SomeShape

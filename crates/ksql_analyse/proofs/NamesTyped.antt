@@ -15,27 +15,15 @@ use Rattle.ksql_scope.specs.Typing as h
 use Rattle.ksql_scope.specs.Typing.{Has, Typing, one, perhaps, each, whens, HasType}
 use Rattle.ksql_clauses.specs.Resolved.{resolved, resolved_when, full_name, written_for, is_row_time}
 use Rattle.ksql_clauses.proofs.Resolving as form
-use Rattle.ksql_analyse.proofs.LateTrees.{time_names, HasPlainColumns}
+use Rattle.ksql_scope.proofs.Sets.{both-true}
+use Rattle.ksql_analyse.proofs.LateTrees.{time_names, HasPlainColumns, never}
+use Rattle.ksql_analyse.proofs.EqualLists.{heads, tails}
 
 -- ---- lists
-
-heads : {A : Type 0} {a b : A} {xs ys : List A} → a ∷ xs ≡ b ∷ ys → a ≡ b
-heads k = cc
-
-tails : {A : Type 0} {a b : A} {xs ys : List A} → a ∷ xs ≡ b ∷ ys → xs ≡ ys
-tails k = cc
-
-never : {A : Type 0} (b : Bool) → b ≡ true → b ≡ false → A
-never true k l = absurd (cc (l))
-never false k l = absurd (cc (k))
 
 and-false : (b : Bool) → (b && false) ≡ false
 and-false true = refl
 and-false false = refl
-
-both-true : (a b : Bool) → (a && b) ≡ true → (a ≡ true) × (b ≡ true)
-both-true true b k = (refl, k)
-both-true false b k = absurd (cc (k))
 
 pub passes-first : {A : Type 0} (p : A → Bool) (xs : List A) (y : A) (ys : List A) → filter p xs ≡ y ∷ ys → p y ≡ true
 passes-first p [] y ys k = absurd (cc (k))

@@ -7,21 +7,14 @@ use Rattle.std.proofs.lemmas.Option.{same_Some}
 use Rattle.ksql_grammar.specs.declared.tree.Expr.{Expr}
 use Rattle.ksql_grouping.specs.Grouping.{add_once, once_from, place_from}
 use Rattle.ksql_grouping.specs.Same.{same_expr}
-use Rattle.ksql_analyse.proofs.SameTrees.{same-is, same-itself}
+use Rattle.ksql_scope.proofs.Sets.{or-left, or-right}
+use Rattle.ksql_grouping.proofs.Equality.{equal, same}
 use Rattle.ksql_analyse.proofs.SoundTrees.{each-front, each-behind}
 use Rattle.ksql_analyse.proofs.Bearing.{some}
 
 -- an expression is one of some
 abbrev pub IsAmong : List Expr → Expr → Type 0
 IsAmong es a = list_any (λ o. same_expr o a) es ≡ true
-
-or-left : (a b : Bool) → a ≡ true → (a || b) ≡ true
-or-left true b h = refl
-or-left false b h = absurd (cc (h))
-
-or-right : (a b : Bool) → b ≡ true → (a || b) ≡ true
-or-right true b h = refl
-or-right false b h = h
 
 -- found from the other side
 turned : (a : Expr) (es : List Expr) → list_any (same_expr a) es ≡ true → IsAmong es a
@@ -30,7 +23,7 @@ turned a (o ∷ es) h = at (same_expr a o) refl h (turned a es)
   where
     at : (b : Bool) → same_expr a o ≡ b → (b || list_any (same_expr a) es) ≡ true → (list_any (same_expr a) es ≡ true → IsAmong es a) → IsAmong (o ∷ es) a
     at true e k rest =
-        or-left (same_expr o a) (list_any (λ p. same_expr p a) es) (subst (λ z. same_expr z a ≡ true) (same-is a o e) (same-itself a))
+        or-left (same_expr o a) (list_any (λ p. same_expr p a) es) (subst (λ z. same_expr z a ≡ true) (equal a o e) (same a a refl))
     at false e k rest = or-right (same_expr o a) (list_any (λ p. same_expr p a) es) (rest k)
 
 add-keeps : (found : List Expr) (a g : Expr) → IsAmong found g → IsAmong (add_once found a) g
@@ -47,7 +40,7 @@ add-has found a = at (list_any (same_expr a) found) refl
     at true e = turned a found e
     at false e =
         list_any-append (λ o. same_expr o a) found (a ∷ [])
-        ∙ or-right (list_any (λ o. same_expr o a) found) (same_expr a a || false) (or-left (same_expr a a) false (same-itself a))
+        ∙ or-right (list_any (λ o. same_expr o a) found) (same_expr a a || false) (or-left (same_expr a a) false (same a a refl))
 
 once-keeps : (xs found : List Expr) (g : Expr) → IsAmong found g → IsAmong (once_from found xs) g
 once-keeps [] found g h = h
@@ -107,5 +100,5 @@ place-at (o ∷ es) a number place h = at (same_expr o a) refl h (place-at es a 
     at : (b : Bool) → same_expr o a ≡ b → (if b then Some number else place_from (suc number) es a) ≡ Some place
         → (place_from (suc number) es a ≡ Some place → (j : ℕ) × (place ≡ suc number + j) × (slice_get es j ≡ Some a))
         → (j : ℕ) × (place ≡ number + j) × (slice_get (o ∷ es) j ≡ Some a)
-    at true e k rest = let z : number ≡ place = same_Some number place k in (0, omega arith, ap Some (same-is o a e))
+    at true e k rest = let z : number ≡ place = same_Some number place k in (0, omega arith, ap Some (equal o a e))
     at false e k rest = let r = rest k in (suc r.0, omega (arith, r.1), r.2)

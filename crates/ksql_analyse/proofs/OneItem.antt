@@ -34,6 +34,8 @@ use Rattle.ksql_typing.specs.Standing.{IsTypedTree}
 use Rattle.ksql_typing.proofs.OneTyping.{one-tree}
 use Rattle.ksql_analyse.specs.Judgement as aggs
 use Rattle.ksql_analyse.specs.Judgement.{exprs, late, IsFrom, IsTypedPart, AreTypedTrees, AreAggs, AreLateTypes, late_scope, IsShape, IsResult, AreColumnsOf, IsQuery, IsItemOf}
+use Rattle.ksql_analyse.proofs.EqualLists.{heads, tails}
+use Rattle.ksql_analyse.proofs.BehindGroups.{moved-two}
 
 -- ---- lists and options
 
@@ -45,12 +47,6 @@ some-alike {A} {o} {a} {b} h k = one-of-some (sym h ∙ k)
 
 some-alike' : {A : Type 0} {o : Option A} {a b : A} → Some a ≡ o → Some b ≡ o → a ≡ b
 some-alike' {A} {o} {a} {b} h k = one-of-some (h ∙ sym k)
-
-heads : {A : Type 0} {a b : A} {xs ys : List A} → a ∷ xs ≡ b ∷ ys → a ≡ b
-heads h = cc
-
-tails : {A : Type 0} {a b : A} {xs ys : List A} → a ∷ xs ≡ b ∷ ys → xs ≡ ys
-tails h = cc
 
 all-some : {A : Type 0} (xs ys : List A) → map (λ x. Some x) xs ≡ map (λ x. Some x) ys → xs ≡ ys
 all-some [] [] h = refl
@@ -134,9 +130,6 @@ not-both : {A : Type 0} (b : Bool) → IsTrue (not b) → IsTrue b → A
 not-both true h k = absurd (cc (h))
 not-both false h k = absurd (cc (k))
 
-moved : {A B : Type 0} (P : A → B → Type 0) (a c : A) (b d : B) → a ≡ c → b ≡ d → P a b → P c d
-moved {A} {B} P a c b d h k p = subst (λ (y : B). P c y) k (subst (λ (x : A). P x b) h p)
-
 one-shape : (q : Select) (ks : List Known) (x y : Shape) → IsShape q ks x → IsShape q ks y → x ≡ y
 one-shape q ks (shape.Plain keys values) (shape.Plain keys2 values2) h k =
     ap₂ shape.Plain (one-trees _ _ keys keys2 h.1 k.1) (one-trees _ _ values values2 h.2 k.2)
@@ -151,8 +144,8 @@ one-shape q ks (shape.Group keys window aggs having values) (shape.Group keys2 w
     let here : List Expr → List SqlType → Type 0 =
     λ es ts. IsTypedPart (late_scope q ts) (option_map (λ a. late q ks es (resolved (item_scope q ks) a)) q.having) having in
     let there : List Expr → List SqlType → Type 0 = λ es ts. AreTypedTrees (late_scope q ts) (map (late q ks es) (exprs (value_columns q ks))) values in
-    let same-having : having ≡ having2 = one-part _ _ having having2 (moved here h.3.0 k.3.0 h.3.2 k.3.2 found.0 same-types h.3.4) k.3.4 in
-    let same-values : values ≡ values2 = one-trees _ _ values values2 (moved there h.3.0 k.3.0 h.3.2 k.3.2 found.0 same-types h.3.5) k.3.5 in
+    let same-having : having ≡ having2 = one-part _ _ having having2 (moved-two here h.3.0 k.3.0 h.3.2 k.3.2 found.0 same-types h.3.4) k.3.4 in
+    let same-values : values ≡ values2 = one-trees _ _ values values2 (moved-two there h.3.0 k.3.0 h.3.2 k.3.2 found.0 same-types h.3.5) k.3.5 in
     λ i. shape.Group (same-keys i) ((h.1 ∙ sym k.1) i) (same-aggs i) (same-having i) (same-values i)
 
 -- ---- the relation of a query

@@ -186,7 +186,3 @@ alike cs g2 (st.more_whens {y = y} {ys = zs} i j m) = λ ys k h l.
     ap₂ (λ z us. z ∷ us)
     (ap₂ typed_when (alike cs g2 i r.0.cond r.2 c.0 d.0) (alike cs g2 j r.0.result r.3 c.1 d.1))
     (alike cs g2 m r.1 r.4 c.2 d.2) ∙ sym r.5
-
-pub one-standing : (cs : List (Option SqlType)) (s : Scope) (a : Expr) (x y : Typed) → Stands s (st.one a x) → Stands s (st.one a y)
-    → HasTypes cs (w.one x) → HasTypes cs (w.one y) → x ≡ y
-one-standing cs s a x y h k c d = alike cs (record { here = agree-itself s; within = agree-itself (inside s) }) h y k c d

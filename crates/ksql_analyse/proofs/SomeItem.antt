@@ -16,10 +16,9 @@ use Rattle.ksql_clauses.specs.Sources.{all_known, from_scope, late_exprs}
 use Rattle.ksql_rules.specs.Breaks.{has_bad_topic, key_columns, result_format, topic_of, value_columns}
 use Rattle.ksql_rules.specs.Limits.{IsWithinLimits}
 use Rattle.ksql_rules.specs.Lowest.{IsAccepted}
+use Rattle.ksql_analyse.specs.Few.{CallsFew, HasFewCalls}
 use Rattle.ksql_analyse.specs.Judgement.{IsItemOf, IsQuery, declared_relation, left_partitions, result_kind, shape_keys, shape_values}
 use Rattle.ksql_analyse.specs.Plain.{HasPlainNames}
-use Rattle.ksql_analyse.proofs.FewAggregates.{few-types}
-use Rattle.ksql_analyse.proofs.FewCalls.{CallsFew, HasFewCalls}
 use Rattle.ksql_analyse.proofs.ItemNeeds.{readable, typable}
 use Rattle.ksql_analyse.proofs.Refusals.{query-kept, stated}
 use Rattle.ksql_analyse.proofs.SomeShape.{some-from, some-shape}
@@ -37,10 +36,10 @@ some-query catalog table name ps q accepted limits few plain =
     let st = stated table name (body.Query ps q) in
     let ks = all_known catalog q in
     let keeps = query-kept catalog table name ps q accepted in
-    let types = typable catalog st ps q refl accepted limits plain in
+    let types = typable catalog st ps q refl accepted limits plain few in
     let reads = some-from q ks (readable catalog st ps q refl accepted limits plain) in
     let filters = some-part (from_scope q ks) q.filter types.filter in
-    let makes = some-shape q ks types (few-types catalog table name ps q ks keeps few) in
+    let makes = some-shape q ks types in
     let keys = some-columns (key_columns q ks) (shape_keys makes.0) makes.1.keyed in
     let values = some-columns (value_columns q ks) (shape_values makes.0) makes.1.valued in
     let topic = topic-in (topic_of name (body.Query ps q)) keeps.topic in

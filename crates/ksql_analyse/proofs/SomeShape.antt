@@ -1,5 +1,5 @@
 -- What a query makes of its rows, where its expressions have typed trees.
-use Rattle.std.proofs.Common.{◌≡◌, ◌≤◌, ◌-◌, ◌^◌, Bool, true, false, not, List, [], ◌∷◌, map, length, Option, All, refl, ap, ◌∙◌, subst}
+use Rattle.std.proofs.Common.{◌≡◌, Bool, true, false, not, List, [], ◌∷◌, map, Option, All, refl, ap, ◌∙◌, subst}
 use Rattle.std.specs.Prelude.{option_map}
 use Rattle.std.proofs.lemmas.List.Elements.{All-from_recursion, All-map, All-weaker, recursion_from_All}
 use Rattle.ksql_types.specs.declared.value.SqlType.{SqlType}
@@ -65,9 +65,7 @@ plain-made q ks plain h =
 
 -- ---- a grouping
 
-module _ (q : Select) (ks : List Known) (grouped : is_grouped q ≡ true) (typable : IsGroupTypable q ks)
-    (few : (keys : List Typed) (typed : List Expr) (made : List Agg) (types : List SqlType) → AreTypedTrees (from_scope q ks) (group_exprs q ks) keys
-    → AreAggs (item_scope q ks) (aggregate_exprs q ks) typed made → AreLateTypes keys made types → length types ≤ 2 ^ 32 - 2) where
+module _ (q : Select) (ks : List Known) (grouped : is_grouped q ≡ true) (typable : IsGroupTypable q ks) where
   abbrev front : Scope
   front = from_scope q ks
 
@@ -90,7 +88,7 @@ module _ (q : Select) (ks : List Known) (grouped : is_grouped q ≡ true) (typab
   as_late = late q ks aggs.0
 
   late-typable : IsLateTypable behind groups aggs.0 (option_map (resolved (item_scope q ks)) q.having) (value_columns q ks)
-  late-typable = typable.late keys.0 aggs.0 aggs.1 types.0 keys.1 aggs.2 types.1 (few keys.0 aggs.0 aggs.1 types.0 keys.1 aggs.2 types.1)
+  late-typable = typable.late keys.0 aggs.0 aggs.1 types.0 keys.1 aggs.2 types.1
 
   having : (x : Option Typed) × IsTypedPart behind (option_map (λ h. as_late (resolved (item_scope q ks) h)) q.having) x
   having =
@@ -118,12 +116,9 @@ module _ (q : Select) (ks : List Known) (grouped : is_grouped q ≡ true) (typab
     },
   )
 
-pub some-shape : (q : Select) (ks : List Known) → IsQueryTypable q ks
-    → ((keys : List Typed) (typed : List Expr) (made : List Agg) (types : List SqlType) → AreTypedTrees (from_scope q ks) (group_exprs q ks) keys
-    → AreAggs (item_scope q ks) (aggregate_exprs q ks) typed made → AreLateTypes keys made types → length types ≤ 2 ^ 32 - 2)
-    → (made : Shape) × IsMade q ks made
-some-shape q ks typable few = at (is_grouped q) refl
+pub some-shape : (q : Select) (ks : List Known) → IsQueryTypable q ks → (made : Shape) × IsMade q ks made
+some-shape q ks typable = at (is_grouped q) refl
   where
     at : (b : Bool) → is_grouped q ≡ b → (made : Shape) × IsMade q ks made
     at false h = plain-made q ks h typable.columns
-    at true h = grouped-made q ks h (typable.grouped h) few
+    at true h = grouped-made q ks h (typable.grouped h)

@@ -48,13 +48,14 @@ use Rattle.ksql_analyse.proofs.Refusals.{KeepsQuery, stated, not-not, or-three}
 use Rattle.ksql_analyse.proofs.Resolution.{calls-resolved}
 use Rattle.ksql_analyse.proofs.ResolvedTypes.{resolved-type}
 use Rattle.ksql_analyse.proofs.SoundGroup.{window-sound, shown-hold, shown-name, shown-resolved, some-aggregates, shown-among, aggregates-fit, aggs-length, aggs-sound, late-plain, IsShown}
-use Rattle.ksql_analyse.proofs.SoundHaving.{AreSound, late-type, reserved-nowhere, trees-length}
+use Rattle.ksql_analyse.proofs.SoundHaving.{AreSound, late-type, reserved-nowhere}
 use Rattle.ksql_analyse.proofs.SoundPlain.{plain-resolved}
 use Rattle.ksql_analyse.proofs.SoundQuery.{IsRead, early-plain, group-part, having-part, values-hold}
 use Rattle.ksql_analyse.proofs.SoundTrees.{IsPlain, stable, tree-sound, columns-sound, each-false, each-front, each-behind}
 use Rattle.ksql_analyse.proofs.SoundPlain.{typed_column}
 use Rattle.ksql_analyse.proofs.Distinct.{and-false}
 use Rattle.ksql_analyse.proofs.SoundColumns.{each-map, each-of-map, each-weaker}
+use Rattle.ksql_analyse.proofs.ValuedTrees.{trees-counted}
 
 each-zip : {A : Type 0} (C : Type 0) (P Q : A → Type 0) (R : C → A → Type 0) (xs : List A) → Each P xs → Each Q xs → ((c : C) → Each (R c) xs)
     → Each (λ x. P x × Q x × ((c : C) → R c x)) xs
@@ -127,7 +128,7 @@ module _ (before : List Item) (catalog : List Relation) (table : Bool) (name : L
       let row : map typed_column (from_columns q ks) ≡ read.types = sym (append-nil (map typed_column (from_columns q ks))) ∙ read.scoped in
       let all : column_types (late_scope q types) ≡ map (λ (x : Typed). x.ty) keys ++ ats ++ window_types window =
       ap₂ (λ x y. x ++ y) (columns-typed 0 types ∙ sym h.3.3) (window-added q.window ∙ ap window_types (sym h.1)) in
-      let groups = trees-length (from_scope q ks) (group_exprs q ks) keys h.2 in
+      let groups = trees-counted (from_scope q ks) (group_exprs q ks) keys h.2 in
       let some-groups : 0 < length q.group = ltb-true 0 (length q.group) g in
       let few-groups : length q.group ≤ 8 = ltb-false 8 (length q.group) keeps.few_groups in
       let same-length : length (group_exprs q ks) ≡ length q.group = length-map q.group (resolved (from_scope q ks)) in

@@ -12,7 +12,7 @@ use Rattle.ksql_types.specs.declared.relation.Relation.{Relation}
 use Rattle.ksql_types.specs.declared.value.SqlType.{SqlType}
 use Rattle.ksql_types.specs.declared.value.SqlType.TheVariants as sql
 use Rattle.ksql_types.specs.declared.value.Value.TheVariants as value
-use Rattle.ksql_grammar.specs.declared.tree.Expr.{Expr, out-Expr}
+use Rattle.ksql_grammar.specs.declared.tree.Expr.{Expr}
 use Rattle.ksql_grammar.specs.declared.tree.Expr.TheVariants as e
 use Rattle.ksql_grammar.specs.declared.tree.Expr.TheOpen.{Expr-F}
 use Rattle.ksql_grammar.specs.declared.tree.Select.{Select}
@@ -41,13 +41,13 @@ use Rattle.ksql_grouping.proofs.Gives.{gives-decided}
 use Rattle.ksql_clauses.specs.declared.sources.Known.{Known}
 use Rattle.ksql_clauses.specs.Sources.{from_scope, item_scope, from_columns, scope_column, scope_columns, rowkey, rowkey_of, is_full}
 use Rattle.ksql_rules.specs.Breaks.{group_exprs}
-use Rattle.ksql_analyse.specs.Judgement.{AreTypedTrees, AreAggs, AreLateTypes, late_scope, late_columns, name_in, aggregate_exprs, agg_types}
+use Rattle.ksql_analyse.specs.Judgement.{AreTypedTrees, AreAggs, AreLateTypes, late_scope, late_columns, aggregate_exprs, agg_types}
 use Rattle.ksql_analyse.proofs.AggregateTypes.{agg-at, agg-type-at, key-type, nulled-at}
 use Rattle.ksql_analyse.proofs.Cleanness.{IsClean}
 use Rattle.ksql_analyse.proofs.KeySides.{IsNamed, named-out}
 use Rattle.ksql_analyse.proofs.LateTypes as late-types
 use Rattle.ksql_analyse.proofs.Meant.{IsMeant, meant, meant-known}
-use Rattle.ksql_analyse.proofs.LateNames.{late-type-at}
+use Rattle.ksql_analyse.proofs.LateNames.{late-type-at, late-name}
 use Rattle.ksql_analyse.proofs.Once.{IsAmong, place-at}
 use Rattle.ksql_analyse.proofs.Regrouping.{IsGroup, IsAggregate, IsNulled, IsDecided, late}
 use Rattle.ksql_analyse.proofs.ResolvedTypes.{HasNo}
@@ -56,6 +56,7 @@ use Rattle.ksql_analyse.proofs.Stood.{stood, stood-name}
 use Rattle.ksql_analyse.proofs.Unwindowed.{unwindowed}
 use Rattle.ksql_analyse.proofs.SoundColumns.{each-append}
 use Rattle.ksql_analyse.proofs.SoundJoin.{behind-at}
+use Rattle.ksql_analyse.proofs.ValuedTrees.{trees-counted}
 
 -- ---- the name of a late column is digits
 
@@ -86,9 +87,6 @@ low-decimal n = low-onto 64 n [] refl
 
 no-digits : (n : ℕ) (name : List ℕ) → list_all is_low name ≡ false → bytes_eq (decimal n) name ≡ true → ⊥
 no-digits n name h k = false≢true (sym h ∙ sym (ap (list_all is_low) ((bytes_eq-Decides (decimal n) name).0 k)) ∙ low-decimal n)
-
-late-name : (number : ℕ) → name_in (out-Expr (late_column number)) ≡ decimal number
-late-name number = ap name_in (e.outs-Name (Some []) (decimal number))
 
 -- ---- late columns
 
@@ -186,12 +184,6 @@ trees-at s (b ∷ es) [] h j a at = absurd h
 trees-at s (b ∷ es) (x ∷ xs) h zero a at = (x, refl, subst (λ z. IsTypedTree s z x) (same_Some b a at) h.0)
 trees-at s (b ∷ es) (x ∷ xs) h (suc j) a at = trees-at s es xs h.1 j a at
 
-pub trees-length : (s : Scope) (es : List Expr) (xs : List Typed) → AreTypedTrees s es xs → length es ≡ length xs
-trees-length s [] [] h = refl
-trees-length s [] (x ∷ xs) h = absurd h
-trees-length s (a ∷ es) [] h = absurd h
-trees-length s (a ∷ es) (x ∷ xs) h = ap suc (trees-length s es xs h.1)
-
 -- ---- what is decided
 
 module _ (q : Select) (ks : List Known) (keys : List Typed) (gs : List Agg) (typed : List Expr) (types : List SqlType)
@@ -225,7 +217,7 @@ module _ (q : Select) (ks : List Known) (keys : List Typed) (gs : List Agg) (typ
       let place = place-at typed a 0 g.number g.placed in
       let here : slice_get typed g.number ≡ Some a = (let z : g.number ≡ place.0 = omega (arith, place.1) in ap (slice_get typed) z ∙ place.2) in
       let agg = agg-at are_aggs g.number a here in
-      let front = trees-length (from_scope q ks) (group_exprs q ks) keys are_keys in
+      let front = trees-counted (from_scope q ks) (group_exprs q ks) keys are_keys in
       let number : ℕ = length (group_exprs q ks) + g.number in
       let behind-keys : number ≡ length keys + g.number = omega arith in
       let at = agg-type-at keys (agg_types gs) types g.number agg.1 are_types agg.4 number behind-keys in

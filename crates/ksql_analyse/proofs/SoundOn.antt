@@ -32,12 +32,13 @@ use Rattle.ksql_clauses.specs.declared.sources.Known.{Known}
 use Rattle.ksql_clauses.specs.Sources.{is_stream, is_windowed, from_scope, rowkey, scope_column}
 use Rattle.ksql_rules.specs.Breaks.{IfThere}
 use Rattle.ksql_rules.specs.Keys.{is_of_left, is_left_name, is_only_key}
+use Rattle.ksql_scope.proofs.Sets.{type-same}
+use Rattle.ksql_types.specs.declared.value.SqlType.TheVariants as sql
 use Rattle.ksql_analyse.proofs.Bearing.{reach, plain_use, bears, column-is-held, no-aggregate-held, short-texts-held, AreNear, some}
 use Rattle.ksql_analyse.proofs.Holding as hold
 use Rattle.ksql_analyse.proofs.KeySides.{IsOnlyKey, only-key, key-tree, key-type, AreSides, first-passes}
 use Rattle.ksql_analyse.proofs.Meant.{IsMeant, meant, meant-known, same-column}
 use Rattle.ksql_analyse.proofs.Narrowing.{narrowed-front, is_past}
-use Rattle.ksql_analyse.proofs.SameTrees.{type_same, type_itself}
 use Rattle.ksql_analyse.proofs.SoundJoin.{left-at, right-at, left-bound, types-apart}
 use Rattle.ksql_analyse.proofs.SoundPlain.{stream-kind, table-kind}
 use Rattle.ksql_analyse.proofs.SoundTrees.{IsPlain, stable, type-is}
@@ -56,6 +57,12 @@ not-left-out p (y ∷ xs) (suc j) x at h none = here (p y) none (not-left-out p 
     here : (b : Bool) → (if b then y ∷ filter p xs else filter p xs) ≡ [] → (filter p xs ≡ [] → ⊥) → ⊥
     here true l rest = cc (l)
     here false l rest = rest l
+
+type-itself : (t : SqlType) → same_type t t ≡ true
+type-itself sql.Int = refl
+type-itself sql.Big = refl
+type-itself sql.Text = refl
+type-itself sql.Bool = refl
 
 module _ (q : Select) (l r : Known) where
   abbrev s : Scope
@@ -133,14 +140,14 @@ module _ (q : Select) (l r : Known) where
   type-agrees : (sides : Option (Expr × Expr)) (a : Expr) (d : AreSides s l r sides a) → ¬ ¬ IfThere (CanAgree s) sides → (o : IsOnlyKey s r d.other) (i : ℕ)
       → slice_get s.columns i ≡ Some (scope_column r.alias o.column) → (t : SqlType) → ((u : Option SqlType) → HasType s a u → u ≡ Some t) → t ≡ o.column.ty
   type-agrees sides a d h o i at t typed =
-      type_same t o.column.ty (stable (same_type t o.column.ty) (λ no. h (λ can.
+      type-same t o.column.ty (stable (same_type t o.column.ty) (λ no. h (λ can.
       let g = agreed sides a d can in
       no (one (typed g.0 g.2) (key-type s r d.other o i at g.1 g.3) g.4))))
     where
       one : {x y : Option SqlType} → x ≡ Some t → y ≡ Some o.column.ty → Agree x y → same_type t o.column.ty ≡ true
       one {x} {y} k m g =
           let same : t ≡ o.column.ty = subst (λ z. Agree (Some t) z) m (subst (λ z. Agree z y) k g) in
-          subst (λ z. same_type t z ≡ true) same (type_itself t)
+          subst (λ z. same_type t z ≡ true) same (type-itself t)
 
   -- ---- joins
 

@@ -40,13 +40,13 @@ use Rattle.ksql_clauses.specs.Resolved.{resolved}
 use Rattle.ksql_clauses.specs.Sources.{is_stream, is_windowed, is_full, reads_stream, scope_column, scope_columns, rowkey_of, from_scope, item_scope, from_columns, item_exprs, there}
 use Rattle.ksql_rules.specs.Breaks.{key_columns, is_grouped, is_bad_window, lacks_key}
 use Rattle.ksql_rules.specs.Keys.{key_exprs, key_places, needs, alone}
+use Rattle.ksql_grouping.proofs.Equality.{equal}
 use Rattle.ksql_analyse.specs.Judgement.{IsFrom, AreTypedTrees, exprs}
 use Rattle.ksql_analyse.proofs.Distinct.{or-false}
 use Rattle.ksql_analyse.proofs.Meant.{meant-known}
 use Rattle.ksql_analyse.proofs.Parsed.{name_small}
 use Rattle.ksql_analyse.proofs.Refusals.{not-not}
 use Rattle.ksql_analyse.proofs.Resolution.{calls-resolved, small-resolved}
-use Rattle.ksql_analyse.proofs.SameTrees.{same-is}
 use Rattle.ksql_analyse.proofs.SoundColumns.{each-map, each-flat, each-all, columns-each, OfItem, AreKeys, keys-are}
 use Rattle.ksql_analyse.proofs.SoundSources.{IsThere}
 use Rattle.ksql_analyse.proofs.SoundTrees.{IsPlain}
@@ -169,7 +169,7 @@ reads-one before q k (from.Join j left right on) h there w = absurd (cc (h.2))
 -- ---- the key
 
 pub same-one : (c : Named) (a : Expr) → list_any (same_expr c.expr) (a ∷ []) ≡ true → c.expr ≡ a
-same-one c a h = same-is c.expr a (one-of (same_expr c.expr a) h)
+same-one c a h = equal c.expr a (one-of (same_expr c.expr a) h)
   where
     one-of : (b : Bool) → (b || false) ≡ true → b ≡ true
     one-of true k = refl

@@ -152,7 +152,7 @@ push-sound before [] i h k = (subst (λ b. IsSoundItem b i) (append-nil before) 
 push-sound before (x ∷ items) i h k =
     (h.0, push-sound (before ++ x ∷ []) items i h.1 (subst (λ b. IsSoundItem b i) (sym (append_assoc before (x ∷ []) items)) k))
 
-among-mapped : (f : Relation → List ℕ) (name : List ℕ) (rs : List Relation) → is_among (map f rs) name ≡ list_any (λ r. bytes_eq name (f r)) rs
+pub among-mapped : (f : Relation → List ℕ) (name : List ℕ) (rs : List Relation) → is_among (map f rs) name ≡ list_any (λ r. bytes_eq name (f r)) rs
 among-mapped f name [] = refl
 among-mapped f name (r ∷ rs) = ap (λ b. bytes_eq name (f r) || b) (among-mapped f name rs)
 

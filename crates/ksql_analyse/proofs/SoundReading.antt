@@ -43,11 +43,11 @@ use Rattle.ksql_clauses.specs.Items.{result_columns}
 use Rattle.ksql_clauses.specs.Sources.{is_stream, is_windowed, is_full, is_full_word, joined_streams, from_scope, item_scope, on_exprs, early_exprs, rowkey_of}
 use Rattle.ksql_rules.specs.Breaks.{same, key_columns, is_grouped, is_not_on_key, is_stream_join, has_stream_side, IfThere}
 use Rattle.ksql_rules.specs.Keys.{on_sides, join_key, left_key, needs, alone, key_exprs, key_places, is_only_key, is_of_left, tables_need, stream_needs, join_needs, beside}
+use Rattle.ksql_grouping.proofs.Equality.{equal}
 use Rattle.ksql_analyse.specs.Judgement.{IsFrom, AreTypedTrees, exprs, join_kind}
 use Rattle.ksql_analyse.proofs.KeySides.{only-key, AreSides, left-key-sides, equation-is}
 use Rattle.ksql_analyse.proofs.Meant.{meant-known}
 use Rattle.ksql_analyse.proofs.Refusals.{KeepsQuery, not-not}
-use Rattle.ksql_analyse.proofs.SameTrees.{same-is}
 use Rattle.ksql_analyse.proofs.SoundColumns.{AreKeys, keys-are}
 use Rattle.ksql_analyse.proofs.SoundJoin.{left-at, right-at, rowkey-at, types-two}
 use Rattle.ksql_analyse.proofs.SoundOn.{by-kind}
@@ -219,7 +219,7 @@ module _ (before : List Item) (q : Select) (l r : Known) (j : JoinText) (joins :
         at : (b : Bool) → same_expr c.expr (e.Name (Some l.alias) o.name) ≡ b → (b || list_any (same_expr c.expr) (e.Name (Some r.alias) p.name ∷ [])) ≡ true
             → (x.node ≡ n.Column 0) ⊎ (x.node ≡ n.Column (length (columns l.relation)))
         at true g u = inl (column-tree (item_scope q (l ∷ r ∷ [])) l.alias o 0 (left-at q l r 0 o (ap (λ cs. slice_get (cs ++ l.relation.schema.values) 0) h)) c.expr x
-            (same-is c.expr (e.Name (Some l.alias) o.name) g) v)
+            (equal c.expr (e.Name (Some l.alias) o.name) g) v)
         at false g u =
             let z : length (columns l.relation) + 0 ≡ length (columns l.relation) = omega arith in
             inr (column-tree (item_scope q (l ∷ r ∷ [])) r.alias p (length (columns l.relation) + 0)

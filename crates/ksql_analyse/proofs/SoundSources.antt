@@ -20,7 +20,7 @@ use Rattle.ksql_analyse.proofs.Distinct.{or-false}
 
 -- ---- the relations of sound items
 
-relation-sound : (before : List Item) (i : Item) → IsSoundItem before i → IsSoundRelation (length before) (relation_of i)
+pub relation-sound : (before : List Item) (i : Item) → IsSoundItem before i → IsSoundRelation (length before) (relation_of i)
 relation-sound before (Declared r) h = h.0
 relation-sound before (Started q) h = h.0
 

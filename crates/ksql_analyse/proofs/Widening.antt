@@ -13,6 +13,7 @@ use Rattle.ksql_scope.specs.declared.scope.Scope.{Scope}
 use Rattle.ksql_scope.specs.Scope.{Meaning, meanings, columns_known_as, row_time, window_bounds, seen, inside}
 use Rattle.ksql_typing.specs.Standing.{IsTypedTree}
 use Rattle.ksql_analyse.proofs.OneStanding.{Agree, agree-itself, alike}
+use Rattle.ksql_analyse.proofs.EqualLists.{heads}
 
 front-at : (ts us : List (Option SqlType)) (i : ℕ) (t : Option SqlType) → slice_get ts i ≡ Some t → slice_get (ts ++ us) i ≡ Some t
 front-at [] us i t h = absurd (cc (h))
@@ -40,9 +41,6 @@ widened ds w.none = w.none
 widened ds (w.more h k) = w.more (widened ds h) (widened ds k)
 widened ds w.no_when = w.no_when
 widened ds (w.more_whens h k l) = w.more_whens (widened ds h) (widened ds k) (widened ds l)
-
-heads : {A : Type 0} {a b : A} {xs ys : List A} → a ∷ xs ≡ b ∷ ys → a ≡ b
-heads k = cc
 
 -- the first of more is the first
 first-same : (xs ys : List Meaning) (m o : Meaning) → xs ++ [] ≡ m ∷ [] → xs ++ ys ≡ o ∷ [] → m ≡ o

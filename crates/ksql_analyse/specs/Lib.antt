@@ -1,3 +1,4 @@
+pub mod Few
 pub mod Judgement
 pub mod Next
 pub mod Plain

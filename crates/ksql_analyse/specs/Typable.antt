@@ -53,8 +53,10 @@ pub record AreColumnTrees (cs : List Named) (xs : List Typed) : Type 0 where
   pub counted : length cs ≡ length xs
   pub values : All IsValue xs
 
--- HAVING and columns have typed trees behind a grouping with these group expressions and aggregates
+-- a row behind a grouping with these group expressions and aggregates has few columns, over which HAVING and the values
+-- have typed trees
 pub record IsLateTypable (s : Scope) (groups aggs : List Expr) (h : Option Expr) (cs : List Named) : Type 0 where
+  pub few : length s.columns ≤ 2 ^ 32 - 2
   pub having : All (IsTypable s) (there (option_map (regrouped groups aggs) h))
   pub columns : All (λ c. IsValued s (regrouped groups aggs c.expr)) cs
 
@@ -64,7 +66,7 @@ pub record IsGroupTypable (q : Select) (ks : List Known) : Type 0 where
   pub keys : All (IsValued (from_scope q ks)) (group_exprs q ks)
   pub aggregates : All (IsAggregable (item_scope q ks)) (aggregate_exprs q ks)
   pub late : (keys : List Typed) (typed : List Expr) (aggs : List Agg) (types : List SqlType) → AreTypedTrees (from_scope q ks) (group_exprs q ks) keys
-      → AreAggs (item_scope q ks) (aggregate_exprs q ks) typed aggs → AreLateTypes keys aggs types → length types ≤ 2 ^ 32 - 2
+      → AreAggs (item_scope q ks) (aggregate_exprs q ks) typed aggs → AreLateTypes keys aggs types
       → IsLateTypable (late_scope q types) (group_exprs q ks) typed (option_map (resolved (item_scope q ks)) q.having) (value_columns q ks)
 
 -- a query whose expressions have typed trees

@@ -3,6 +3,7 @@
 ghost use Rattle.std.specs.Prelude.{All, IfOk};
 ghost use Rattle.ksql_rules.specs.Limits.{IsRelationWithin, IsWithinLimits};
 ghost use Rattle.ksql_rules.specs.Lowest.{IsAccepted};
+ghost use Rattle.ksql_analyse.specs.Few.{HasFewCalls};
 ghost use Rattle.ksql_analyse.specs.Judgement.{IsItemOf};
 ghost use Rattle.ksql_analyse.specs.Plain.{HasPlainNames};
 
@@ -13,12 +14,13 @@ use ksql_program::Item;
 use ksql_types::Catalog;
 use std::alloc::{AllocError, Global};
 
-/// The item of an accepted statement. An error says that memory is short, or that there is none.
+/// The item of an accepted statement. The only error is want of memory.
 pub fn item_of(alloc: Global, catalog: &Catalog, statement: &Statement) -> Result<Item, AllocError>
     requires accepted { IsAccepted catalog.now statement.now }
     requires limits { IsWithinLimits statement.now }
     requires relations { All IsRelationWithin catalog.now }
     requires plain { All HasPlainNames catalog.now }
+    requires few { HasFewCalls statement.now.body }
     ensures { IfOk result (λ item. IsItemOf catalog.now statement.now item) }
 {
     match &statement.body {

@@ -6,6 +6,7 @@ ghost use Rattle.ksql_program.specs.declared.program.Program.{Program as OneProg
 ghost use Rattle.ksql_program.specs.Sound.{IsSound};
 ghost use Rattle.ksql_rules.specs.Limits.{IsRelationWithin, IsWithinLimits};
 ghost use Rattle.ksql_rules.specs.Lowest.{IsAccepted};
+ghost use Rattle.ksql_analyse.specs.Few.{HasFewCalls};
 ghost use Rattle.ksql_analyse.specs.Judgement.{Answers, AreParsed, AreRefused, IsItemOf, IsJudgement, IsProgramOf};
 ghost use Rattle.ksql_analyse.specs.Plain.{HasPlainNames};
 ghost use Rattle.ksql_analyse.specs.Next.{IsFaultOf};
@@ -49,6 +50,7 @@ fn judged(
     requires limits { IsWithinLimits statement.now }
     requires relations { All IsRelationWithin catalog.now }
     requires plain { All HasPlainNames catalog.now }
+    requires few { HasFewCalls statement.now.body }
     ensures accepted { OnOk result (IsAccepted catalog.now statement.now) }
     ensures found { IfOk result (λ item. IsItemOf catalog.now statement.now item) }
     ensures fault { IfErr result (λ fault. IsFaultOf catalog.now statement.now number fault) }

@@ -117,8 +117,7 @@ struct Behind {
     values: Vec<Typed>,
 }
 
-/// HAVING and the values behind a grouping that has these keys and aggregates. An error says that memory is short, or
-/// that there are more than 4294967294 of them.
+/// HAVING and the values behind a grouping that has these keys and aggregates. The only error is want of memory.
 fn behind_of(
     alloc: Global,
     select: &Select,
@@ -128,7 +127,7 @@ fn behind_of(
     values: &[&Named],
 ) -> Result<Behind, AllocError>
     requires keys { All IsValue keys.now }
-    requires late { (types : List Sql) → spec.AreLateTypes keys.now found.now.aggs.items types → length types ≤ 2 ^ 32 - 2
+    requires late { (types : List Sql) → spec.AreLateTypes keys.now found.now.aggs.items types
         → IsLateTypable (spec.late_scope select.now types) grouping.now.groups.items found.now.typed.items grouping.now.having (map (λ c. c.now) values.now) }
     ensures trees { IfOk result (λ b. (types : List Sql) × spec.AreLateTypes keys.now found.now.aggs.items types
         × spec.IsTypedPart (spec.late_scope select.now types) (option_map (regrouped grouping.now.groups.items found.now.typed.items) grouping.now.having) b.having
@@ -137,9 +136,6 @@ fn behind_of(
     ensures values { IfOk result (λ b. AreColumnTrees (map (λ c. c.now) values.now) b.values.items) }
 {
     let types = late_types(alloc, keys, found.aggs.as_slice())?;
-    if types.len() > 4_294_967_294 {
-        return Err(AllocError);
-    }
     let scope = late_scope(alloc, select.window.is_some(), types.as_slice())?;
     let groups = grouping.groups.as_slice();
     let typed = found.typed.as_slice();

@@ -29,6 +29,7 @@ query_of-requires-clause-readable c =
 pub query_of-requires-clause-typable : goal.query_of-requires-clause-typable
 query_of-requires-clause-typable c =
     typable c.args.catalog.now c.args.statement.now c.in-Query.props c.in-Query.select c.in-Query.is c.requires.accepted c.requires.limits c.requires.plain
+    c.requires.few
 
 pub query_of-requires-clause-topic : goal.query_of-requires-clause-topic
 query_of-requires-clause-topic c =

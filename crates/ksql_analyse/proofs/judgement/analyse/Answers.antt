@@ -1,8 +1,12 @@
 use Rattle.std.proofs.Common.{◌+◌, [], ap, sym, ◌∙◌, subst}
 use Rattle.std.proofs.lemmas.Result.{err_from_is_err_and}
 use Rattle.std.specs.Prelude.{Ok, Err}
+use Rattle.std.proofs.lemmas.List.Elements.{All-get_or}
+use Rattle.ksql_grammar.specs.declared.tree.Statement.{Statement}
 use Rattle.ksql_rules.specs.Limits.{IsWithinLimits}
+use Rattle.ksql_analyse.specs.Few.{HasFewCalls}
 use Rattle.ksql_analyse.proofs.Behind.{Done, none-done, one-next, one-more, judged-whole, fault-judged}
+use Rattle.ksql_analyse.proofs.FewCalls.{parsed-few}
 use Rattle.ksql_analyse.proofs.Parsed.{parsed-within}
 use Rattle.ksql_analyse.proofs.SoundPrograms.{judgement-sound}
 use Rattle.ksql_analyse.proofs.Unique.{program-answered, refusal-answered}
@@ -19,6 +23,13 @@ judged-requires-clause-limits c =
     let sts = c.args.statements.now in
     let st = c.index-statements-index.result in
     subst IsWithinLimits (sym c.index-statements-index.is) (parsed-within sts c.requires c.loop-index.index st c.loop-index-test.true)
+
+pub judged-requires-clause-few : goal.judged-requires-clause-few
+judged-requires-clause-few c =
+    let sts = c.args.statements.now in
+    let st = c.index-statements-index.result in
+    subst (λ (s : Statement). HasFewCalls s.body) (sym c.index-statements-index.is)
+    (All-get_or (λ (s : Statement). HasFewCalls s.body) sts c.loop-index.index st c.loop-index-test.true (parsed-few sts c.requires))
 
 pub accept-requires-clause-free : goal.accept-requires-clause-free
 accept-requires-clause-free c =

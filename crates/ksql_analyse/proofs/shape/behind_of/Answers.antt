@@ -1,4 +1,4 @@
-use Rattle.std.proofs.Common.{All, List, map, arith, subst, sym}
+use Rattle.std.proofs.Common.{All, List, map, subst, sym, ◌≤◌, ◌^◌, length, ◌-◌}
 use Rattle.std.specs.Prelude.{option_map}
 use denote.Bor.{Bor}
 use Rattle.ksql_grammar.specs.declared.tree.Expr.{Expr}
@@ -10,7 +10,7 @@ use Rattle.ksql_grouping.specs.Grouping.{regrouped}
 use Rattle.ksql_rules.proofs.Within.{All-unmap}
 use Rattle.ksql_analyse.specs.Judgement.{AreLateTypes, AreTypedTrees, IsTypedPart, exprs, late_scope}
 use Rattle.ksql_analyse.specs.Typable.{IsTypable, IsValued}
-use Rattle.ksql_analyse.proofs.BehindGroups.{scope-is, scope-counted, all-behind, moved, moved-two}
+use Rattle.ksql_analyse.proofs.BehindGroups.{scope-is, all-behind, moved, moved-two}
 use Rattle.ksql_analyse.proofs.shape.behind_of.Goals as goal
 
 pub late_having-requires-clause-typable : goal.late_having-requires-clause-typable
@@ -19,13 +19,14 @@ late_having-requires-clause-typable c =
     let is = scope-is c.args.select.now types c.as_slice-2.result.now c.is_some.result c.in_ok-scope.scope c.as_slice-2.ensures.value c.is_some.ensures c.in_ok-scope.ensures in
     let typed = subst (λ (gs : List Agg). AreLateTypes c.args.keys.now gs types) c.as_slice.ensures.value c.in_ok-types.ensures in
     moved (λ (s : Scope) (gs es : List Expr). All (IsTypable s) (there (option_map (regrouped gs es) c.args.grouping.now.having))) _ _ _ _ _ _ (sym is)
-    (sym c.as_slice-groups.ensures.value) (sym c.as_slice-typed.ensures.value) (c.requires.late types typed (omega arith)).having
+    (sym c.as_slice-groups.ensures.value) (sym c.as_slice-typed.ensures.value) (c.requires.late types typed).having
 
 pub late_having-requires-clause-columns : goal.late_having-requires-clause-columns
 late_having-requires-clause-columns c =
     let types = c.in_ok-types.types.items in
     let is = scope-is c.args.select.now types c.as_slice-2.result.now c.is_some.result c.in_ok-scope.scope c.as_slice-2.ensures.value c.is_some.ensures c.in_ok-scope.ensures in
-    omega (arith, scope-counted c.args.select.now types c.in_ok-scope.scope is)
+    let typed = subst (λ (gs : List Agg). AreLateTypes c.args.keys.now gs types) c.as_slice.ensures.value c.in_ok-types.ensures in
+    subst (λ (s : Scope). length s.columns ≤ 2 ^ 32 - 2) (sym is) (c.requires.late types typed).few
 
 pub late_values-requires-clause-valued : goal.late_values-requires-clause-valued
 late_values-requires-clause-valued c =
@@ -34,13 +35,14 @@ late_values-requires-clause-valued c =
     let typed = subst (λ (gs : List Agg). AreLateTypes c.args.keys.now gs types) c.as_slice.ensures.value c.in_ok-types.ensures in
     moved (λ (s : Scope) (gs es : List Expr). All (λ v. IsValued s (regrouped gs es v.now.expr)) c.args.values.now) _ _ _ _ _ _ (sym is)
     (sym c.as_slice-groups.ensures.value) (sym c.as_slice-typed.ensures.value)
-    (All-unmap (λ (v : Named). IsValued (late_scope c.args.select.now types) (regrouped c.args.grouping.now.groups.items c.args.found.now.typed.items v.expr)) (λ (v : Bor Named). v.now) c.args.values.now (c.requires.late types typed (omega arith)).columns)
+    (All-unmap (λ (v : Named). IsValued (late_scope c.args.select.now types) (regrouped c.args.grouping.now.groups.items c.args.found.now.typed.items v.expr)) (λ (v : Bor Named). v.now) c.args.values.now (c.requires.late types typed).columns)
 
 pub late_values-requires-clause-columns : goal.late_values-requires-clause-columns
 late_values-requires-clause-columns c =
     let types = c.in_ok-types.types.items in
     let is = scope-is c.args.select.now types c.as_slice-2.result.now c.is_some.result c.in_ok-scope.scope c.as_slice-2.ensures.value c.is_some.ensures c.in_ok-scope.ensures in
-    omega (arith, scope-counted c.args.select.now types c.in_ok-scope.scope is)
+    let typed = subst (λ (gs : List Agg). AreLateTypes c.args.keys.now gs types) c.as_slice.ensures.value c.in_ok-types.ensures in
+    subst (λ (s : Scope). length s.columns ≤ 2 ^ 32 - 2) (sym is) (c.requires.late types typed).few
 
 pub returns-clause-trees : goal.returns-clause-trees
 returns-clause-trees c =
