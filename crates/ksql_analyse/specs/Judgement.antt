@@ -107,8 +107,7 @@ exprs cs = map (λ c. c.expr) cs
 abbrev pub aggregate_exprs : Select → List Known → List Expr
 aggregate_exprs q ks = once_from [] (flat_map aggregates_of (shown_exprs q ks))
 
--- the aggregates of a query, those of them that have a type, and what all are in its program; one that has only NULL's has
--- no column behind the grouping, where it is NULL
+-- some aggregates, those of them that have a type, and what all of them are in the program
 pub data AreAggs (s : Scope) : List Expr → List Expr → List Agg → Type 0 where
   none : AreAggs s [] [] []
   kept : {a : Expr} {es typed : List Expr} {g : Agg} {gs : List Agg} (t : Typed) (ty : SqlType) → IsTypedTree s a t
@@ -116,11 +115,12 @@ pub data AreAggs (s : Scope) : List Expr → List Expr → List Agg → Type 0 w
   null : {a : Expr} {es typed : List Expr} {g : Agg} {gs : List Agg} (t : Typed) → IsTypedTree s a t
       → t.node ≡ n.Aggregate g.fun g.arg → t.ty ≡ None → AreAggs s es typed gs → AreAggs s (a ∷ es) typed (g ∷ gs)
 
--- the columns of a row behind a grouping have no names that a script can write; their types are said beside
+-- the name that a form writes; other forms write none
 abbrev pub name_in : {A B : Type 0} → Expr-F A B → List ℕ
 name_in (Expr-F.Name q name) = name
 name_in form = []
 
+-- columns of these types, the first with this number; no script can write their names
 unfoldable pub late_columns : ℕ → List SqlType → List ScopeColumn
 late_columns number [] = []
 late_columns number (t ∷ ts) =
@@ -131,9 +131,9 @@ late_columns number (t ∷ ts) =
 abbrev pub late_scope : Select → List SqlType → Scope
 late_scope q types = record { columns = late_columns 0 types; stream = false; windowed = is_some q.window }
 
--- an expression behind a grouping with these aggregates
+-- an expression behind a grouping, where these aggregates have a type
 abbrev pub late : Select → List Known → List Expr → Expr → Expr
-late q ks aggs a = regrouped (group_exprs q ks) aggs a
+late q ks typed a = regrouped (group_exprs q ks) typed a
 
 -- the type of an aggregate, where it has one
 abbrev pub own_type : Agg → Option SqlType

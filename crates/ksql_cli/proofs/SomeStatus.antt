@@ -40,28 +40,28 @@ topics-end all room (r ∷ rs) = read (λ file. topics-end all (behind room r fi
     read rest None missing = inr (inr (topic_file r, inl refl, missing))
     read rest (Some file) there = looked file (rest file) there (first_fault room file) refl
 
-module _ (words : List (List ℕ)) (all : Files) (old new : List (List ℕ)) where
-  ended_so : (program : Program) → IsProgramRead words all program → TopicsEnd all whole_room (declared_of program.items) → HasAnswer words all old new
+module _ (words : List (List ℕ)) (all : Files) where
+  ended_so : (program : Program) → IsProgramRead words all program → TopicsEnd all whole_room (declared_of program.items) → HasAnswer words all
   ended_so program read (inl fed) = inl (ended.Done, tt, (program, fed.0, (read, fed.1)))
   ended_so program read (inr (inl bad)) = inl (ended.TopicFile bad.0 bad.1 bad.2, tt, (program, read, bad.3))
   ended_so program read (inr (inr due)) = inr (due.0, inr (program, read, due.1), due.2)
 
   judged : (script : List ℕ) → IsScriptRead words all script → ((p : Program) × IsAccepted script p) ⊎ ((s : ℕ) × (c : Code) × IsRefused script s c)
-      → HasAnswer words all old new
+      → HasAnswer words all
   judged script read (inl p) = ended_so p.0 (script, read, p.1) (topics-end all whole_room (declared_of p.0.items))
   judged script read (inr r) = inl (ended.Script r.0 r.1, tt, (script, read, r.2))
 
-  named : (name : List ℕ) → script_name words ≡ Some name → (found : Option (List ℕ)) → read_bytes name all ≡ found → HasAnswer words all old new
+  named : (name : List ℕ) → script_name words ≡ Some name → (found : Option (List ℕ)) → read_bytes name all ≡ found → HasAnswer words all
   named name is None missing = inr (name, inl is, missing)
   named name is (Some script) there = judged script (name, is, there) (some_script script)
 
-  pub some_status : HasAnswer words all old new
+  pub some_status : HasAnswer words all
   some_status = at (script_name words) refl
     where
-      at : (found : Option (List ℕ)) → script_name words ≡ found → HasAnswer words all old new
+      at : (found : Option (List ℕ)) → script_name words ≡ found → HasAnswer words all
       at None none = inl (ended.Usage, tt, none)
       at (Some name) is = named name is (read_bytes name all) refl
 
-pub told_status : (files : Option Files) (words old new : List (List ℕ)) → IfSome files (λ all. HasAnswer words all old new)
-told_status None words old new = tt
-told_status (Some all) words old new = some_status words all old new
+pub told_status : (files : Option Files) (words : List (List ℕ)) → IfSome files (λ all. HasAnswer words all)
+told_status None words = tt
+told_status (Some all) words = some_status words all

@@ -145,9 +145,9 @@ IsDecided (ended.TopicFile topic line why) = Unit {0}
 IsDecided _ = ⊥
 
 -- the words and the files decide a status, or a file that is due isn't there
-abbrev pub HasAnswer : List (List ℕ) → Files → List (List ℕ) → List (List ℕ) → Type 0
-HasAnswer words all old new =
-    ((status : Status) × IsDecided status × HasCause words all old new status) ⊎ ((name : List ℕ) × IsDue words all name × (read_bytes name all ≡ None))
+abbrev pub HasAnswer : List (List ℕ) → Files → Type 0
+HasAnswer words all =
+    ((status : Status) × IsDecided status × HasCause words all [] [] status) ⊎ ((name : List ℕ) × IsDue words all name × (read_bytes name all ≡ None))
 
 -- a status under which the command's text isn't written
 abbrev pub IsRefusal : Status → Type 0

@@ -48,8 +48,8 @@ pub fn ksql<R, F: Folder, K: Sink, G: Gate + Sync>(
     ensures whole_fault { IsRefusal result → ¬ Rose (K.faults out.old) (K.faults out.new)
         → K.written out.new ≡ followed_by (K.written out.old) (fault_line result) }
     // The words and the files decide a status, unless a file that is due isn't there.
-    ensures decided { IfSome (F.files folder.old) (λ all. HasAnswer words.now all (F.failed folder.old) (F.failed folder.new)) }
-    // What has its cause comes, unless memory is short, a due name failed or, where a report is due, a write failed.
+    ensures decided { IfSome (F.files folder.old) (λ all. HasAnswer words.now all) }
+    // A decided status that has its cause comes, unless memory is short, a due name failed or, where a report is due, a write failed.
     ensures exact { IfSome (F.files folder.old) (λ all. NoDueFails words.now all (F.failed folder.old) (F.failed folder.new)
         → (status : OneStatus) → IsDecided status → HasCause words.now all (F.failed folder.old) (F.failed folder.new) status
         → (status ≡ Status.Done → ¬ Rose (K.faults out.old) (K.faults out.new)) → (result ≡ status) ⊎ (result ≡ Status.OutOfMemory)) }

@@ -50,7 +50,7 @@ CREATE TABLE G AS SELECT ID, COUNT(*) AS C, SUM(N) AS A FROM S WINDOW TUMBLING (
     Ok(())
 }
 
-// The program keeps such an aggregate, which is NULL behind the grouping.
+// An aggregate that has only the type of NULL stays in the program.
 #[test]
 fn an_aggregate_with_only_the_type_of_null_is_accepted(rt: HostRuntime) -> Result<(), Fail> {
     let program = accepted(

@@ -32,12 +32,12 @@ returns-clause-complete g c =
 
 pub returns-in-Ok-write_whole-clause-decided : goal.returns-in-Ok-write_whole-clause-decided
 returns-in-Ok-write_whole-clause-decided g c =
-    told_status (g.F.Folder.files c.args.folder.now) c.args.words.now (g.F.Folder.failed c.args.folder.now) (g.F.Folder.failed c.whole_text.new.folder)
+    told_status (g.F.Folder.files c.args.folder.now) c.args.words.now
 
 pub returns-in-Ok-clause-decided : goal.returns-in-Ok-clause-decided
 returns-in-Ok-clause-decided g c =
-    told_status (g.F.Folder.files c.args.folder.now) c.args.words.now (g.F.Folder.failed c.args.folder.now) (g.F.Folder.failed c.whole_text.new.folder)
+    told_status (g.F.Folder.files c.args.folder.now) c.args.words.now
 
 pub returns-clause-decided : goal.returns-clause-decided
 returns-clause-decided g c =
-    told_status (g.F.Folder.files c.args.folder.now) c.args.words.now (g.F.Folder.failed c.args.folder.now) (g.F.Folder.failed c.whole_text.new.folder)
+    told_status (g.F.Folder.files c.args.folder.now) c.args.words.now
