@@ -6,7 +6,8 @@ use Rattle.std.specs.Ordering.{is_eq}
 use Rattle.std.proofs.lemmas.Bool.Decides.{nat_tests}
 use Rattle.ksql_types.specs.declared.relation.TaskName.{TaskName}
 use Rattle.assignor.specs.declared.assignment.Owned.{Owned}
-use Rattle.assignor.specs.Rule.{owner_of, task_cmp}
+use Rattle.ksql_types.specs.Order.{task_cmp}
+use Rattle.assignor.specs.Rule.{owner_of}
 
 pub same_task : (a b : TaskName) → is_eq (task_cmp a b) ≡ (a.sub == b.sub && a.part == b.part)
 same_task a b = grind (arith, nat_tests)

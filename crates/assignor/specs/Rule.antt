@@ -13,10 +13,6 @@ abbrev pub how_many : {X : Type 0} → (X → Bool) → List X → ℕ
 how_many test [] = 0
 how_many test (x ∷ xs) = (if test x then 1 else 0) + how_many test xs
 
--- task order: by the sub-topology, and then by the partition
-abbrev pub task_cmp : TaskName → TaskName → Ordering
-task_cmp a b = ordering_then (nat_cmp a.sub b.sub) (nat_cmp a.part b.part)
-
 -- the worker that had a task: that of the last pair that names it
 abbrev pub owner_of : List Owned → TaskName → Option ℕ
 owner_of [] task = None
@@ -56,7 +52,7 @@ kept_place share live kept None = None
 kept_place share live kept (Some owner) =
     if is_live live owner && may_keep share live kept owner then Some owner else None
 
--- the first pass: the tasks are gone through by their owners, behind the places so far
+-- the first pass: the tasks are gone through by their owners, after the places so far
 unfoldable pub first_pass : Share → List ℕ → List (Option ℕ) → List (Option ℕ) → List (Option ℕ)
 first_pass share live kept [] = kept
 first_pass share live kept (owner ∷ owners) = first_pass share live (kept ++ kept_place share live kept owner ∷ []) owners

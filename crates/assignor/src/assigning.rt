@@ -8,7 +8,7 @@ use ksql_types::{Items, TaskName};
 use std::alloc::{AllocError, Global};
 
 /// Assigns tasks to the live workers. A task stays with its live owner as long as the owner is not over its share, and
-/// each of the others goes to the worker with the fewest tasks. The only error is want of memory.
+/// each of the others goes to the worker with the fewest tasks.
 pub fn assign(
     alloc: Global,
     previous: &Assignment,

@@ -7,7 +7,7 @@ use crate::assignment::Share;
 use crate::loads::{Load, add_task, lightest, load_among, no_loads, workers_with};
 use std::alloc::{AllocError, Global};
 
-/// The first pass: where each task stays, from the worker that had it. The only error is want of memory.
+/// The first pass: where each task stays, from the worker that had it.
 pub fn first_pass(
     alloc: Global,
     share: Share,
@@ -41,7 +41,7 @@ fn kept_place(loads: &[Load], share: Share, owner: Option<u32>) -> Option<u32>
     }
 }
 
-/// The second pass: each task that was set aside goes to a worker. The only error is want of memory.
+/// The second pass: each task that was set aside goes to a worker.
 pub fn second_pass(
     alloc: Global,
     live: &[u32],

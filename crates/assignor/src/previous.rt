@@ -2,7 +2,8 @@
 ghost use Rattle.std.specs.Prelude.{◌≡◌, map, IfOk};
 ghost use Rattle.std.specs.BTreeMap.{get};
 ghost use Rattle.ksql_types.specs.declared.relation.TaskName.{TaskName};
-ghost use Rattle.assignor.specs.Rule.{owner_of, task_cmp};
+ghost use Rattle.ksql_types.specs.Order.{task_cmp};
+ghost use Rattle.assignor.specs.Rule.{owner_of};
 
 use crate::assignment::Owned;
 use ksql_types::TaskName;
@@ -21,7 +22,7 @@ fn owners_by_task(alloc: Global, previous: &[Owned]) -> Result<Owners, AllocErro
     Ok(owners)
 }
 
-/// The worker that had each of the tasks. The only error is want of memory.
+/// The worker that had each of the tasks.
 pub fn owners_of(
     alloc: Global,
     previous: &[Owned],

@@ -23,7 +23,7 @@ use Rattle.ksql_clauses.specs.Sources.{from_scope, item_scope}
 use Rattle.ksql_clauses.specs.Windows.{window_of}
 use Rattle.ksql_grouping.specs.Grouping.{late_column, regrouped}
 use Rattle.ksql_program.specs.declared.query.Shape.TheVariants as shape
-use Rattle.ksql_program.specs.declared.query.Window.{Window}
+use Rattle.ksql_types.specs.declared.relation.Window.{Window}
 use Rattle.ksql_rules.specs.Breaks.{group_exprs, is_grouped, key_columns, value_columns}
 use Rattle.ksql_analyse.specs.Typable.{AreColumnTrees, IsGroupTypable, IsLateTypable, IsValue}
 use Rattle.ksql_analyse.proofs.ValuedTrees.{trees-counted}

@@ -6,7 +6,7 @@ use Rattle.std.proofs.lemmas.Slice.Eq.{bytes_eq-Decides}
 use Rattle.std.proofs.lemmas.List.Folds.{list_any-append, list_all-append}
 use Rattle.std.proofs.lemmas.List.{append-nil}
 use Rattle.ksql_scope.proofs.Sets.{both-true, and-true}
-use Rattle.ksql_program.specs.Names.{is_among, are_distinct}
+use Rattle.ksql_types.specs.Names.{is_among, are_distinct}
 
 pub same-bytes : (s t : List ℕ) → bytes_eq s t ≡ bytes_eq t s
 same-bytes s t = at (bytes_eq s t) (bytes_eq t s) refl refl

@@ -13,9 +13,10 @@ use Rattle.ksql_grammar.specs.declared.tree.Statement.{Statement}
 use Rattle.ksql_lexer.specs.declared.token.TokenKind.{TokenKind}
 use Rattle.ksql_parser.specs.Script.{IsTreeOf}
 use Rattle.ksql_program.specs.declared.program.Item.{Item}
-use Rattle.ksql_program.specs.Names.{is_among, are_distinct, reserved_columns}
+use Rattle.ksql_types.specs.Names.{is_among, are_distinct, reserved_columns}
 use Rattle.ksql_program.specs.Program.{relation_of, relations}
-use Rattle.ksql_program.specs.Sound.{columns, IsSoundItem, AreSoundItems}
+use Rattle.ksql_types.specs.Columns.{columns}
+use Rattle.ksql_program.specs.Sound.{IsSoundItem, AreSoundItems}
 use Rattle.ksql_rules.specs.Limits.{IsRelationWithin}
 use Rattle.ksql_rules.proofs.Within.{All-unmap}
 use Rattle.ksql_scope.proofs.Sets.{both-true}

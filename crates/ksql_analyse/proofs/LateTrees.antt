@@ -17,7 +17,7 @@ use Rattle.ksql_expr.specs.declared.typed.TypedWhen.{TypedWhen}
 use Rattle.ksql_expr.specs.Rules.{type_of, fits, binary_type, sign_type, can_cast, fun_type, case_type, is_between_typed, is_in_typed, typed}
 use Rattle.ksql_expr.specs.Typing as w
 use Rattle.ksql_expr.specs.Typing.{HasTypes, of, types, results}
-use Rattle.ksql_program.specs.Names.{is_among}
+use Rattle.ksql_types.specs.Names.{is_among}
 use Rattle.ksql_scope.specs.declared.scope.Scope.{Scope}
 use Rattle.ksql_scope.specs.declared.scope.ScopeColumn.{ScopeColumn}
 use Rattle.ksql_scope.specs.Functions.{is_aggregate}

@@ -8,8 +8,8 @@ use Rattle.ksql_types.specs.declared.relation.Column.{Column}
 use Rattle.ksql_types.specs.declared.relation.Relation.{Relation}
 use Rattle.ksql_grammar.specs.declared.tree.Select.{Select}
 use Rattle.ksql_grammar.specs.declared.tree.Source.{Source}
-use Rattle.ksql_program.specs.Names.{is_among, reserved_columns}
-use Rattle.ksql_program.specs.Sound.{columns}
+use Rattle.ksql_types.specs.Names.{is_among, reserved_columns}
+use Rattle.ksql_types.specs.Columns.{columns}
 use Rattle.ksql_scope.specs.declared.scope.ScopeColumn.{ScopeColumn}
 use Rattle.ksql_clauses.specs.declared.sources.Known.{Known}
 use Rattle.ksql_clauses.specs.Sources.{known, all_known, sources, scope_column, scope_columns, rowkey, rowkey_of, from_columns, from_scope, item_scope, is_full, alias_of}

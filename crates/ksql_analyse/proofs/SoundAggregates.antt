@@ -25,7 +25,7 @@ use Rattle.ksql_expr.specs.Aggregates.{holds}
 use Rattle.ksql_expr.specs.Typing as w
 use Rattle.ksql_expr.specs.Typing.{HasTypes, of}
 use Rattle.ksql_program.specs.declared.query.Agg.{Agg}
-use Rattle.ksql_program.specs.Names.{is_among}
+use Rattle.ksql_types.specs.Names.{is_among}
 use Rattle.ksql_program.specs.Sound.{IsAggOver, IsOverTable, IsArgument, IsSoundOver, argument_type}
 use Rattle.ksql_scope.specs.declared.scope.Scope.{Scope}
 use Rattle.ksql_scope.specs.declared.scope.ScopeColumn.{ScopeColumn}

@@ -13,8 +13,8 @@ use Rattle.ksql_grammar.specs.declared.tree.Expr.TheOpen.{Expr-F}
 use Rattle.ksql_grammar.specs.declared.tree.SelectItem.{SelectItem}
 use Rattle.ksql_grammar.specs.declared.tree.SelectItem.TheVariants.{Star, StarOf, One}
 use Rattle.ksql_grammar.specs.declared.tree.WhenText.{WhenText}
-use Rattle.ksql_program.specs.Names.{is_among, are_distinct}
-use Rattle.ksql_program.specs.Sound.{columns}
+use Rattle.ksql_types.specs.Names.{is_among, are_distinct}
+use Rattle.ksql_types.specs.Columns.{columns}
 use Rattle.ksql_scope.specs.declared.scope.Scope.{Scope}
 use Rattle.ksql_clauses.specs.declared.items.Named.{Named}
 use Rattle.ksql_clauses.specs.declared.sources.Known.{Known}

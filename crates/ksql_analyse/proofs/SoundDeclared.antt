@@ -13,7 +13,7 @@ use Rattle.ksql_grammar.specs.declared.tree.KeyMark.{KeyMark}
 use Rattle.ksql_grammar.specs.declared.tree.KeyMark.TheVariants as mark
 use Rattle.ksql_grammar.specs.declared.tree.Property.{Property}
 use Rattle.ksql_grammar.specs.declared.tree.StatementBody.TheVariants.{Declared}
-use Rattle.ksql_program.specs.Names.{are_column_names, are_distinct, is_among, is_topic_name, reserved_columns}
+use Rattle.ksql_types.specs.Names.{are_column_names, are_distinct, is_among, is_topic_name, reserved_columns}
 use Rattle.ksql_program.specs.Sound.{IsSoundRelation, IsSoundDeclaration, HasDeclaredKey}
 use Rattle.ksql_clauses.specs.Properties.{are_bad, topic_in, partitions_in, format_in, is_zero, name_of, has_kind, is_bad_format, is_bad_key_format, value_of}
 use Rattle.ksql_rules.specs.Breaks.{is_primary, is_key, has_only_keys, has_bad_topic, is_delimited}

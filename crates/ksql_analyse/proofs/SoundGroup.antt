@@ -15,8 +15,8 @@ use Rattle.ksql_grammar.specs.declared.tree.SpanText.{SpanText}
 use Rattle.ksql_grammar.specs.declared.tree.WindowText.{WindowText}
 use Rattle.ksql_grammar.specs.declared.tree.WindowText.TheVariants.{Tumbling, Hopping}
 use Rattle.ksql_program.specs.declared.query.Agg.{Agg}
-use Rattle.ksql_program.specs.declared.query.Window.{Window}
-use Rattle.ksql_program.specs.Names.{is_among}
+use Rattle.ksql_types.specs.declared.relation.Window.{Window}
+use Rattle.ksql_types.specs.Names.{is_among}
 use Rattle.ksql_program.specs.Sound as sound
 use Rattle.ksql_program.specs.Sound.{IsSoundWindow, Aggregates}
 use Rattle.ksql_scope.specs.declared.scope.Scope.{Scope}

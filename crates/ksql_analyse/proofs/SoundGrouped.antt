@@ -21,8 +21,8 @@ use Rattle.ksql_program.specs.declared.program.Item.{Item}
 use Rattle.ksql_program.specs.declared.query.Agg.{Agg}
 use Rattle.ksql_program.specs.declared.query.From.{From}
 use Rattle.ksql_program.specs.declared.query.Shape.TheVariants as shape
-use Rattle.ksql_program.specs.declared.query.Window.{Window}
-use Rattle.ksql_program.specs.Names.{is_among}
+use Rattle.ksql_types.specs.declared.relation.Window.{Window}
+use Rattle.ksql_types.specs.Names.{is_among}
 use Rattle.ksql_program.specs.Sound as sound
 use Rattle.ksql_program.specs.Sound.{IsWindowed, IsCondition, IsSoundOver, Makes, window_types, grouped_kind}
 use Rattle.ksql_scope.specs.declared.scope.Scope.{Scope}

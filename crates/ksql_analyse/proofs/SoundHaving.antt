@@ -22,8 +22,9 @@ use Rattle.ksql_expr.specs.declared.typed.TypedNode.TheVariants as n
 use Rattle.ksql_expr.specs.Typing as w
 use Rattle.ksql_expr.specs.Typing.{HasTypes}
 use Rattle.ksql_program.specs.declared.query.Agg.{Agg}
-use Rattle.ksql_program.specs.Names.{is_among, are_distinct, reserved_columns}
-use Rattle.ksql_program.specs.Sound.{IsSoundRelation, columns}
+use Rattle.ksql_types.specs.Names.{is_among, are_distinct, reserved_columns}
+use Rattle.ksql_types.specs.Columns.{columns}
+use Rattle.ksql_program.specs.Sound.{IsSoundRelation}
 use Rattle.ksql_scope.specs.declared.scope.Scope.{Scope}
 use Rattle.ksql_scope.specs.declared.scope.ScopeColumn.{ScopeColumn}
 use Rattle.ksql_scope.specs.Scope.{column_types, is_known_as, is_qualified}

@@ -12,7 +12,8 @@ use Rattle.ksql_grammar.specs.declared.tree.JoinWord.TheVariants as word
 use Rattle.ksql_grammar.specs.declared.tree.Select.{Select}
 use Rattle.ksql_program.specs.declared.query.JoinKind.{JoinKind}
 use Rattle.ksql_program.specs.Sound as sound
-use Rattle.ksql_program.specs.Sound.{columns, rowkey_types}
+use Rattle.ksql_types.specs.Columns.{columns}
+use Rattle.ksql_program.specs.Sound.{rowkey_types}
 use Rattle.ksql_scope.specs.declared.scope.ScopeColumn.{ScopeColumn}
 use Rattle.ksql_scope.specs.Scope.{column_types}
 use Rattle.ksql_clauses.specs.declared.sources.Known.{Known}

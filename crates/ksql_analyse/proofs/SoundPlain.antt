@@ -23,7 +23,8 @@ use Rattle.ksql_program.specs.declared.query.From.{From}
 use Rattle.ksql_program.specs.declared.query.From.TheVariants as from
 use Rattle.ksql_program.specs.Program.{relation_at}
 use Rattle.ksql_program.specs.Sound as sound
-use Rattle.ksql_program.specs.Sound.{Reads, IsKeyed, AreColumnsFrom, columns}
+use Rattle.ksql_types.specs.Columns.{columns}
+use Rattle.ksql_program.specs.Sound.{Reads, IsKeyed, AreColumnsFrom}
 use Rattle.ksql_scope.specs.declared.scope.Scope.{Scope}
 use Rattle.ksql_scope.specs.declared.scope.ScopeColumn.{ScopeColumn}
 use Rattle.ksql_scope.specs.Scope.{column_types, is_known_as}

@@ -19,7 +19,7 @@ use Rattle.ksql_program.specs.declared.query.From.{From}
 use Rattle.ksql_program.specs.declared.query.Query.{Query as OneQuery}
 use Rattle.ksql_program.specs.declared.query.Shape.{Shape}
 use Rattle.ksql_program.specs.declared.query.Shape.TheVariants as shape
-use Rattle.ksql_program.specs.Names.{are_distinct, is_among}
+use Rattle.ksql_types.specs.Names.{are_distinct, is_among}
 use Rattle.ksql_program.specs.Program.{relation_of, relations}
 use Rattle.ksql_program.specs.Sound.{IsSound, IsSoundItem, AreSoundItems, IsSoundRelation, IsSoundQuery, IsSoundDeclaration, IsKeyed, Makes, HasItsKey}
 use Rattle.ksql_clauses.specs.declared.sources.Known.{Known}

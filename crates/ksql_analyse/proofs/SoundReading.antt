@@ -27,7 +27,8 @@ use Rattle.ksql_program.specs.declared.query.JoinKind.{JoinKind}
 use Rattle.ksql_program.specs.declared.query.JoinKind.TheVariants as join
 use Rattle.ksql_program.specs.Program.{relation_at}
 use Rattle.ksql_program.specs.Sound as sound
-use Rattle.ksql_program.specs.Sound.{IsKeyed, IsTablesKey, columns}
+use Rattle.ksql_types.specs.Columns.{columns}
+use Rattle.ksql_program.specs.Sound.{IsKeyed, IsTablesKey}
 use Rattle.ksql_scope.specs.Functions.{is_aggregate}
 use Rattle.ksql_scope.specs.Uses.{calls}
 use Rattle.ksql_scope.specs.Typing.{CanAgree}

@@ -15,8 +15,9 @@ use Rattle.ksql_grammar.specs.declared.tree.SelectItem.{SelectItem}
 use Rattle.ksql_grammar.specs.declared.tree.SelectItem.TheVariants.{Star, StarOf, One}
 use Rattle.ksql_grammar.specs.declared.tree.StatementBody.TheVariants.{Query}
 use Rattle.ksql_program.specs.declared.query.Shape.{Shape}
-use Rattle.ksql_program.specs.Names.{are_column_names, are_distinct, is_among, is_topic_name, reserved_columns}
-use Rattle.ksql_program.specs.Sound.{IsSoundRelation, columns}
+use Rattle.ksql_types.specs.Names.{are_column_names, are_distinct, is_among, is_topic_name, reserved_columns}
+use Rattle.ksql_types.specs.Columns.{columns}
+use Rattle.ksql_program.specs.Sound.{IsSoundRelation}
 use Rattle.ksql_clauses.specs.declared.items.Named.{Named}
 use Rattle.ksql_clauses.specs.declared.sources.Known.{Known}
 use Rattle.ksql_clauses.specs.Items.{result_columns, star_column, is_join, column_name}

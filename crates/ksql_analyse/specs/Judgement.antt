@@ -126,12 +126,12 @@ late_columns number [] = []
 late_columns number (t ∷ ts) =
     record { alias = Some []; column = record { name = name_in (out-Expr (late_column number)); ty = t } } ∷ late_columns (suc number) ts
 
--- what HAVING and the items can name behind a grouping: the keys, the aggregates that have a type and, where there is a
--- window, its start and end
+-- what HAVING and the items can name after a grouping: the keys, the aggregates that have a type and, where there is a window,
+-- its start and end
 abbrev pub late_scope : Select → List SqlType → Scope
 late_scope q types = record { columns = late_columns 0 types; stream = false; windowed = is_some q.window }
 
--- an expression behind a grouping, where these aggregates have a type
+-- an expression after a grouping, where these aggregates have a type
 abbrev pub late : Select → List Known → List Expr → Expr → Expr
 late q ks typed a = regrouped (group_exprs q ks) typed a
 
@@ -210,7 +210,7 @@ IsItemOf catalog st i = of st.body i
 
 -- ---- statements
 
--- the items of statements behind other items: each statement is accepted behind those before it
+-- the items of statements after other items: each statement is accepted after those before it
 pub data Judged : List Item → List Statement → List Item → Type 0 where
   done : {items : List Item} → Judged items [] items
   next : {before items : List Item} {st : Statement} {sts : List Statement} (i : Item) → IsAccepted (relations before) st

@@ -1,8 +1,8 @@
 -- What the relations of accepted statements keep beside their limits.
 use Rattle.std.specs.Prelude.{not, IsTrue, All}
 use Rattle.ksql_types.specs.declared.relation.Relation.{Relation}
-use Rattle.ksql_program.specs.Names.{is_among, reserved_columns}
-use Rattle.ksql_program.specs.Sound.{columns}
+use Rattle.ksql_types.specs.Names.{is_among, reserved_columns}
+use Rattle.ksql_types.specs.Columns.{columns}
 
 -- no column has a name that is reserved
 abbrev pub HasPlainNames : Relation → Type 0

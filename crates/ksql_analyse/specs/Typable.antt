@@ -53,8 +53,8 @@ pub record AreColumnTrees (cs : List Named) (xs : List Typed) : Type 0 where
   pub counted : length cs ≡ length xs
   pub values : All IsValue xs
 
--- a row behind a grouping with these group expressions and aggregates has few columns, over which HAVING and the values
--- have typed trees
+-- a row after a grouping with these group expressions and aggregates has few columns, over which HAVING and the values have typed
+-- trees
 pub record IsLateTypable (s : Scope) (groups aggs : List Expr) (h : Option Expr) (cs : List Named) : Type 0 where
   pub few : length s.columns ≤ 2 ^ 32 - 2
   pub having : All (IsTypable s) (there (option_map (regrouped groups aggs) h))

@@ -10,7 +10,7 @@ use ksql_grammar::{ColumnText, KeyMark, Property, Statement};
 use ksql_types::{Chars, Column, CopyOf, Format, Items, Kind, Relation, Schema};
 use std::alloc::{AllocError, Global};
 
-/// The relation of a declaration of these columns with these properties. The only error is want of memory.
+/// The relation of a declaration of these columns with these properties.
 pub(crate) fn declared_relation(
     alloc: Global,
     number: u32,

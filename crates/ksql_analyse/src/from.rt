@@ -13,7 +13,7 @@ use ksql_rules::join_key;
 use ksql_scope::Scope;
 use std::alloc::{AllocError, Global};
 
-/// What a query reads: one relation, or two that are joined. The only error is want of memory.
+/// What a query reads: one relation, or two that are joined.
 pub(crate) fn from_of(
     alloc: Global,
     scope: &Scope,
@@ -34,7 +34,7 @@ pub(crate) fn from_of(
     }
 }
 
-/// A join of two relations. The only error is want of memory.
+/// A join of two relations.
 fn joined(
     alloc: Global,
     scope: &Scope,

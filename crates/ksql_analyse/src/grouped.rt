@@ -21,7 +21,7 @@ use ksql_scope::{Scope, ScopeColumn};
 use ksql_types::{Boxed, Chars, Column, CopyOf, Items, SqlType};
 use std::alloc::{AllocError, Global};
 
-/// Each expression with resolved names. The only error is want of memory.
+/// Each expression with resolved names.
 pub(crate) fn all_resolved(
     alloc: Global,
     scope: &Scope,
@@ -36,7 +36,7 @@ pub(crate) fn all_resolved(
     Ok(found)
 }
 
-/// A part that may be left out, with resolved names. The only error is want of memory.
+/// A part that may be left out, with resolved names.
 pub(crate) fn part_resolved(
     alloc: Global,
     scope: &Scope,
@@ -50,8 +50,7 @@ pub(crate) fn part_resolved(
     }
 }
 
-/// The aggregates of a query: those of its columns and then those of HAVING, equal ones once. The only error is want of
-/// memory.
+/// The aggregates of a query: those of its columns and then those of HAVING, equal ones once.
 pub(crate) fn aggregate_exprs(
     alloc: Global,
     columns: &[Named],
@@ -69,7 +68,7 @@ pub(crate) fn aggregate_exprs(
     once(alloc, all)
 }
 
-/// Puts expressions behind others.
+/// Puts expressions after others.
 fn push_all(all: &mut Vec<Expr>, more: Vec<Expr>) -> Result<(), AllocError>
     ensures { IfOk result (λ _. all.new.items ≡ all.old.items ++ more.items) }
 {
@@ -86,7 +85,7 @@ pub(crate) struct Aggregates {
     pub aggs: Vec<Agg>,
 }
 
-/// What the aggregates of a query are in its program, and those that have a type. The only error is want of memory.
+/// What the aggregates of a query are in its program, and those that have a type.
 pub(crate) fn aggs_of(
     alloc: Global,
     scope: &Scope,
@@ -106,7 +105,7 @@ pub(crate) fn aggs_of(
     Ok(Aggregates { typed, aggs })
 }
 
-/// Puts an expression behind others, if its tree has a type. The only error is want of memory.
+/// Puts an expression after others, if its tree has a type.
 fn push_typed(
     alloc: Global,
     typed: &mut Vec<Expr>,
@@ -147,8 +146,7 @@ fn unboxed(part: Option<Boxed<Typed>>) -> Option<Typed>
     }
 }
 
-/// The types of the rows behind a grouping: those of the keys, and of the aggregates that have one. The only error is want
-/// of memory.
+/// The types of the rows after a grouping: those of the keys, and of the aggregates that have one.
 pub(crate) fn late_types(
     alloc: Global,
     keys: &[Typed],
@@ -164,7 +162,7 @@ pub(crate) fn late_types(
     Ok(types)
 }
 
-/// Puts a type behind others, where there is one. The only error is want of memory.
+/// Puts a type after others, where there is one.
 fn push_type(types: &mut Vec<SqlType>, ty: Option<SqlType>) -> Result<(), AllocError>
     ensures { IfOk result (λ _. types.new.items ≡ types.old.items ++ option_to_list ty) }
 {
@@ -177,7 +175,7 @@ fn push_type(types: &mut Vec<SqlType>, ty: Option<SqlType>) -> Result<(), AllocE
     }
 }
 
-/// The types of trees that have one. The only error is want of memory.
+/// The types of trees that have one.
 fn key_types(alloc: Global, keys: &[Typed]) -> Result<Vec<SqlType>, AllocError>
     requires { All IsValue keys.now }
     ensures { IfOk result (λ types. map (λ x. x.ty) keys.now ≡ map (λ t. Some t) types.items) }
@@ -211,7 +209,7 @@ fn own_type(agg: &Agg) -> Option<SqlType>
     ksql_expr::agg_type(agg.fun, arg).unwrap_or(None)
 }
 
-/// What HAVING and the items can name behind a grouping whose rows have these types. The only error is want of memory.
+/// What HAVING and the items can name after a grouping whose rows have these types.
 #[tactic(auto, unfolding(ksql_types::specs::Text::longest_text))]
 pub(crate) fn late_scope(
     alloc: Global,
@@ -235,7 +233,7 @@ pub(crate) fn late_scope(
     })
 }
 
-/// The column of this number of the rows behind a grouping.
+/// The column of this number of the rows after a grouping.
 #[tactic(auto, unfolding(ksql_types::specs::Text::longest_text))]
 fn late_column_of(alloc: Global, number: usize, ty: SqlType) -> Result<ScopeColumn, AllocError>
     ensures { IfOk result (λ column. column ≡ record { alias = Some []; column = record { name = decimal number; ty = ty } }) }
@@ -247,7 +245,7 @@ fn late_column_of(alloc: Global, number: usize, ty: SqlType) -> Result<ScopeColu
     })
 }
 
-/// The typed tree of an expression behind a grouping. The only error is want of memory.
+/// The typed tree of an expression after a grouping.
 pub(crate) fn late_tree(
     alloc: Global,
     scope: &Scope,

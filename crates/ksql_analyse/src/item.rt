@@ -14,7 +14,7 @@ use ksql_program::Item;
 use ksql_types::Catalog;
 use std::alloc::{AllocError, Global};
 
-/// The item of an accepted statement. The only error is want of memory.
+/// The item of an accepted statement.
 pub fn item_of(alloc: Global, catalog: &Catalog, statement: &Statement) -> Result<Item, AllocError>
     requires accepted { IsAccepted catalog.now statement.now }
     requires limits { IsWithinLimits statement.now }

@@ -64,7 +64,7 @@ fn judged(
     Ok(item_of(alloc, catalog, statement)?)
 }
 
-/// Puts an item behind the others, and its relation into the catalog. The only error is want of memory.
+/// Puts an item after the others, and its relation into the catalog.
 fn accept(
     alloc: Global,
     catalog: &mut Catalog,
@@ -81,7 +81,7 @@ fn accept(
     Ok(())
 }
 
-/// Adds a relation whose name and topic no other has. The only error is want of memory.
+/// Adds a relation whose name and topic no other has.
 fn add(alloc: Global, catalog: &mut Catalog, relation: Relation) -> Result<(), AllocError>
     requires numbered { relation.number ≡ length catalog.old }
     requires free { is_taken relation.name relation.topic catalog.old ≡ false }

@@ -23,7 +23,7 @@ use ksql_rules::{key_columns, value_columns};
 use ksql_types::{Catalog, CopyOf, Relation, Schema};
 use std::alloc::{AllocError, Global};
 
-/// The query of a statement. The only error is want of memory.
+/// The query of a statement.
 pub(crate) fn query_of(
     alloc: Global,
     catalog: &Catalog,
@@ -156,7 +156,7 @@ fn shape_of(
     }
 }
 
-/// The columns of a result of this shape. The only error is want of memory.
+/// The columns of a result of this shape.
 fn schema_of(
     alloc: Global,
     keys: &[&Named],

@@ -24,7 +24,7 @@ pub(crate) struct Reading {
     pub places: Vec<Option<usize>>,
 }
 
-/// What is read of a query. The only error is want of memory.
+/// What is read of a query.
 pub(crate) fn read(alloc: Global, catalog: &Catalog, select: &Select) -> Result<Reading, AllocError>
     requires short_relations { All items.HasShortNames (sources.all_known catalog.now select.now) }
     requires short_items { All items.IsShortItem select.now.items }

@@ -12,7 +12,7 @@ use ksql_grammar::{Property, Select};
 use ksql_types::{Chars, Column, Columns, CopyOf, Format, Items, Kind, Relation, Schema};
 use std::alloc::{AllocError, Global};
 
-/// The columns of these names and of these types. The only error is want of memory.
+/// The columns of these names and of these types.
 pub(crate) fn columns_of(
     alloc: Global,
     named: &[&Named],
@@ -56,7 +56,7 @@ pub(crate) fn result_kind(select: &Select, known: &[Known]) -> Kind
     Kind::Stream
 }
 
-/// The topic of a query's result. The only error is want of memory.
+/// The topic of a query's result.
 pub(crate) fn result_topic(
     alloc: Global,
     name: &Chars,

@@ -20,12 +20,12 @@ use crate::trees::{column_trees, trees_of};
 use ksql_clauses::{Named, window_of};
 use ksql_expr::Typed;
 use ksql_grammar::{Expr, Select, WindowText};
-use ksql_program::{Shape, Window};
+use ksql_program::Shape;
 use ksql_scope::Scope;
-use ksql_types::Items;
+use ksql_types::{Items, Window};
 use std::alloc::{AllocError, Global};
 
-/// The keys and the values of a query without a grouping. The only error is want of memory.
+/// The keys and the values of a query without a grouping.
 pub(crate) fn plain_shape(
     alloc: Global,
     reading: &Reading,
@@ -78,7 +78,7 @@ fn grouping_of(alloc: Global, reading: &Reading, select: &Select) -> Result<Grou
     })
 }
 
-/// The keys, the aggregates and the values of a grouped query, its window and HAVING. The only error is want of memory.
+/// The keys, the aggregates and the values of a grouped query, its window and HAVING.
 pub(crate) fn grouped_shape(
     alloc: Global,
     reading: &Reading,
@@ -110,14 +110,14 @@ pub(crate) fn grouped_shape(
     })
 }
 
-/// What stands behind a grouping.
+/// What stands after a grouping.
 #[derive(Drop)]
 struct Behind {
     having: Option<Typed>,
     values: Vec<Typed>,
 }
 
-/// HAVING and the values behind a grouping that has these keys and aggregates. The only error is want of memory.
+/// HAVING and the values after a grouping that has these keys and aggregates.
 fn behind_of(
     alloc: Global,
     select: &Select,
@@ -154,7 +154,7 @@ fn window_in(window: &Option<WindowText>) -> Option<Window>
     }
 }
 
-/// HAVING behind a grouping. The only error is want of memory.
+/// HAVING after a grouping.
 fn late_having(
     alloc: Global,
     scope: &Scope,
@@ -172,7 +172,7 @@ fn late_having(
     }
 }
 
-/// The values behind a grouping. The only error is want of memory.
+/// The values after a grouping.
 fn late_values(
     alloc: Global,
     scope: &Scope,

@@ -13,7 +13,7 @@ use ksql_scope::Scope;
 use ksql_typing::{TypeFault, typed};
 use std::alloc::{AllocError, Global};
 
-/// The typed tree of an expression. The only error is want of memory.
+/// The typed tree of an expression.
 pub(crate) fn tree_of(alloc: Global, scope: &Scope, expr: &Expr) -> Result<Typed, AllocError>
     requires typable { IsTypable scope.now expr.now }
     requires columns { length scope.now.columns ≤ 2 ^ 32 - 2 }
@@ -29,7 +29,7 @@ pub(crate) fn tree_of(alloc: Global, scope: &Scope, expr: &Expr) -> Result<Typed
     }
 }
 
-/// The typed trees of expressions that have a type. The only error is want of memory.
+/// The typed trees of expressions that have a type.
 pub(crate) fn trees_of(
     alloc: Global,
     scope: &Scope,
@@ -47,7 +47,7 @@ pub(crate) fn trees_of(
     Ok(trees)
 }
 
-/// The typed trees of the expressions of columns. The only error is want of memory.
+/// The typed trees of the expressions of columns.
 pub(crate) fn column_trees(
     alloc: Global,
     scope: &Scope,
@@ -65,7 +65,7 @@ pub(crate) fn column_trees(
     Ok(trees)
 }
 
-/// The typed tree of a part that may be left out. The only error is want of memory.
+/// The typed tree of a part that may be left out.
 pub(crate) fn part_tree(
     alloc: Global,
     scope: &Scope,

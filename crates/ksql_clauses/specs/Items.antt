@@ -9,7 +9,7 @@ use Rattle.ksql_grammar.specs.declared.tree.Expr.TheOpen.{Expr-F}
 use Rattle.ksql_grammar.specs.declared.tree.Select.{Select}
 use Rattle.ksql_grammar.specs.declared.tree.SelectItem.{SelectItem}
 use Rattle.ksql_grammar.specs.declared.tree.SelectItem.TheVariants.{Star, StarOf, One}
-use Rattle.ksql_program.specs.Sound.{columns}
+use Rattle.ksql_types.specs.Columns.{columns}
 use Rattle.ksql_clauses.specs.Resolved.{resolved}
 use Rattle.ksql_clauses.specs.declared.items.Named.{Named}
 use Rattle.ksql_scope.specs.declared.scope.Scope.{Scope}
@@ -63,7 +63,7 @@ plain_step ks form = None
 unfoldable pub plain_name : List Known → Expr → Option (List ℕ)
 plain_name ks = fold-Expr (Option (List ℕ)) (Option (List ℕ)) (plain_step ks) (λ w. None)
 
--- a name behind a qualifier, each of at most 128 bytes as the grammar has them
+-- a name after a qualifier, each of at most 128 bytes as the grammar has them
 abbrev pub IsShortName : Option (List ℕ) → List ℕ → Type 0
 IsShortName None name = ⊤
 IsShortName (Some q) name = (length q ≤ 128) × (length name ≤ 128)
@@ -88,7 +88,7 @@ numbered_name number = codes "KSQL_COL_" ++ decimal number
 abbrev pub named : List ℕ → Expr → Named
 named name a = record { name = name; expr = a }
 
--- the column of an item without an alias, and the columns behind it: those if it isn't numbered, and those if it is
+-- the column of an item without an alias, and the columns after it: those if it isn't numbered, and those if it is
 abbrev pub without_alias : ℕ → Option (List ℕ) → Expr → List Named → List Named → List Named
 without_alias number (Some name) a others numbered = record { name = name; expr = a } ∷ others
 without_alias number None a others numbered = record { name = numbered_name number; expr = a } ∷ numbered

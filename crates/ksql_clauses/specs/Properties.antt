@@ -7,7 +7,7 @@ use Rattle.ksql_types.specs.declared.relation.Format.TheVariants.{Json, Delimite
 use Rattle.ksql_grammar.specs.declared.tree.Property.{Property}
 use Rattle.ksql_grammar.specs.declared.tree.PropertyValue.{PropertyValue}
 use Rattle.ksql_grammar.specs.declared.tree.PropertyValue.TheVariants as is
-use Rattle.ksql_program.specs.Names.{is_among, are_distinct, is_topic_name}
+use Rattle.ksql_types.specs.Names.{is_among, are_distinct, is_topic_name}
 
 -- the properties whose value is a text, and those whose value is digits
 abbrev pub text_properties : List (List ℕ)

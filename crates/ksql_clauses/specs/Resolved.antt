@@ -18,7 +18,7 @@ abbrev pub written_for : Scope → Option (List ℕ) → List ℕ → List Scope
 written_for s q name [] = if is_row_time s q name then e.Name None name else e.Name q name
 written_for s q name (c ∷ cs) = e.Name c.alias name
 
--- a name as every use of what it stands for is written: a column behind the name of its relation, ROWTIME alone
+-- a name as every use of what it stands for is written: a column after the name of its relation, ROWTIME alone
 abbrev pub full_name : Scope → Option (List ℕ) → List ℕ → Expr
 full_name s q name = written_for s q name (filter (is_known_as q name) s.columns)
 

@@ -14,7 +14,7 @@ use Rattle.ksql_grammar.specs.declared.tree.Select.{Select}
 use Rattle.ksql_grammar.specs.declared.tree.SelectItem.{SelectItem}
 use Rattle.ksql_grammar.specs.declared.tree.SelectItem.TheVariants.{Star, StarOf, One}
 use Rattle.ksql_grammar.specs.declared.tree.Source.{Source}
-use Rattle.ksql_program.specs.Sound.{columns}
+use Rattle.ksql_types.specs.Columns.{columns}
 use Rattle.ksql_scope.specs.declared.scope.Scope.{Scope}
 use Rattle.ksql_scope.specs.declared.scope.ScopeColumn.{ScopeColumn}
 use Rattle.ksql_clauses.specs.declared.sources.Known.{Known}

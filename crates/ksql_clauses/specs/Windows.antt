@@ -6,7 +6,7 @@ use Rattle.ksql_grammar.specs.declared.tree.Unit.{Unit as UnitWord}
 use Rattle.ksql_grammar.specs.declared.tree.Unit.TheVariants.{Day, Hour, Minute, Second, Millisecond}
 use Rattle.ksql_grammar.specs.declared.tree.WindowText.{WindowText}
 use Rattle.ksql_grammar.specs.declared.tree.WindowText.TheVariants.{Tumbling, Hopping}
-use Rattle.ksql_program.specs.declared.query.Window.{Window}
+use Rattle.ksql_types.specs.declared.relation.Window.{Window}
 
 abbrev pub unit_millis : UnitWord → ℕ
 unit_millis Day = 86400000

@@ -10,7 +10,7 @@ use ksql_types::{Chars, CopyOf};
 use ksql_walks::{Replaces, becomes};
 use std::alloc::{AllocError, Global};
 
-/// Whether what is known by an alias can be named behind a qualifier, where one is written.
+/// Whether what is known by an alias can be named after a qualifier, where one is written.
 fn is_qualified(qualifier: &Option<Chars>, alias: &Option<Chars>) -> bool
     ensures { result ≡ names.is_qualified qualifier.now alias.now }
 {
@@ -21,7 +21,7 @@ fn is_qualified(qualifier: &Option<Chars>, alias: &Option<Chars>) -> bool
     }
 }
 
-/// Whether a column is known by a name behind a qualifier.
+/// Whether a column is known by a name after a qualifier.
 pub fn is_known_as(qualifier: &Option<Chars>, name: &Chars, column: &ScopeColumn) -> bool
     ensures { result ≡ names.is_known_as qualifier.now name.now column.now }
 {
@@ -44,7 +44,7 @@ pub fn is_row_time(scope: &Scope, qualifier: &Option<Chars>, name: &Chars) -> bo
     scope.stream && name.items() == "ROWTIME" && is_first(scope.columns.items(), qualifier)
 }
 
-/// The first column that is known by a name behind a qualifier.
+/// The first column that is known by a name after a qualifier.
 pub fn first_known_as<'a>(
     columns: &'a [ScopeColumn],
     qualifier: &Option<Chars>,
@@ -57,8 +57,7 @@ pub fn first_known_as<'a>(
         .find(|column| is_known_as(qualifier, name, column))
 }
 
-/// A name as every use of what it stands for is written: a column behind the name of its relation, ROWTIME alone. The
-/// only error is want of memory.
+/// A name as every use of what it stands for is written: a column after the name of its relation, ROWTIME alone.
 pub fn full_name(
     alloc: Global,
     scope: &Scope,
@@ -106,7 +105,7 @@ impl Replaces for FullNames<'_> {
     }
 }
 
-/// An expression with resolved names. The only error is want of memory.
+/// An expression with resolved names.
 #[tactic(auto, unfolding(crate::specs::Resolved::resolved))]
 pub fn resolved(alloc: Global, scope: &Scope, expr: &Expr) -> Result<Expr, AllocError>
     ensures { IfOk result (λ found. found ≡ spec.resolved scope.now expr.now) }

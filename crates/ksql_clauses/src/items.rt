@@ -28,7 +28,7 @@ pub fn is_join(known: &[Known]) -> bool
     matches!(known, [_, _, ..])
 }
 
-/// The name that a column gets in a join: the alias, `_` and its own. The only error is want of memory.
+/// The name that a column gets in a join: the alias, `_` and its own.
 #[tactic(auto, unfolding(ksql_types::specs::Text::longest_text))]
 pub fn made_name(alloc: Global, alias: &Chars, name: &Chars) -> Result<Chars, AllocError>
     requires alias_is_short { length alias.now ≤ 128 }
@@ -69,7 +69,6 @@ fn is_in_each(name: &Chars, known: &[Known]) -> bool
 }
 
 /// The name of a plain column: its own, or with the alias that it is written with where both joined relations have it.
-/// The only error is want of memory.
 fn column_name(
     alloc: Global,
     known: &[Known],
@@ -90,8 +89,7 @@ fn column_name(
     }
 }
 
-/// What an expression without an alias is named; nothing where it isn't a plain column. The only error is want of
-/// memory.
+/// What an expression without an alias is named; nothing where it isn't a plain column.
 fn plain_name(alloc: Global, known: &[Known], expr: &Expr) -> Result<Option<Chars>, AllocError>
     requires { spec.IsShort expr.now }
     ensures { IfOk result (λ name. name ≡ spec.plain_name known.now expr.now) }
@@ -102,8 +100,7 @@ fn plain_name(alloc: Global, known: &[Known], expr: &Expr) -> Result<Option<Char
     }
 }
 
-/// The name of a column that has no other: KSQL_COL_ and its number among such columns. The only error is want of
-/// memory.
+/// The name of a column that has no other: KSQL_COL_ and its number among such columns.
 fn numbered_name(alloc: Global, number: u64) -> Result<Chars, AllocError>
     ensures { IfOk result (λ name. name ≡ spec.numbered_name number) }
 {
@@ -156,7 +153,7 @@ fn with_columns(
     Ok(found)
 }
 
-/// With all columns of a relation behind the others, key first. The only error is want of memory.
+/// With all columns of a relation after the others, key first.
 fn with_star(
     alloc: Global,
     known: &[Known],
@@ -217,8 +214,7 @@ fn with_named(
     Ok(found)
 }
 
-/// With the column of an expression that has no alias behind the others, and how many are numbered then. The only error
-/// is want of memory.
+/// With the column of an expression that has no alias after the others, and how many are numbered then.
 fn with_plain(
     alloc: Global,
     known: &[Known],
@@ -243,7 +239,7 @@ fn with_plain(
     }
 }
 
-/// With the columns of an item behind the others, and how many are numbered then. The only error is want of memory.
+/// With the columns of an item after the others, and how many are numbered then.
 fn with_item(
     alloc: Global,
     known: &[Known],
@@ -273,7 +269,7 @@ fn with_item(
 }
 
 /// The columns of a query's result, in the order of its items, in the scope of its items. Names have at most 128 bytes,
-/// but for those that are made of an alias and a name. The only error is want of memory.
+/// but for those that are made of an alias and a name.
 pub fn result_columns(
     alloc: Global,
     select: &Select,

@@ -3,7 +3,7 @@
 ghost use Rattle.std.specs.Prelude.{◌≡◌, bytes_eq, codes, is_some, map, option_and_then, option_copied};
 ghost use Rattle.std.specs.List.{list_all};
 ghost use Rattle.std.specs.Str.{str_to_ascii_uppercase};
-ghost use Rattle.ksql_program.specs.Names as names;
+ghost use Rattle.ksql_types.specs.Names as names;
 ghost use Rattle.ksql_clauses.specs.Properties as spec;
 
 use ksql_grammar::{Property, PropertyValue};

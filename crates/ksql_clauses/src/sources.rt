@@ -25,7 +25,7 @@ pub fn alias_of(source: &Source) -> &Chars
     }
 }
 
-/// The sources of a query that are in the catalog, in their order. The only error is want of memory.
+/// The sources of a query that are in the catalog, in their order.
 pub fn all_known(
     alloc: Global,
     catalog: &Catalog,
@@ -133,7 +133,7 @@ fn is_full_join(join: &JoinText) -> bool
     matches!(join.kind, JoinWord::Full)
 }
 
-/// What names can stand for in ON, WHERE, GROUP BY and PARTITION BY. The only error is want of memory.
+/// What names can stand for in ON, WHERE, GROUP BY and PARTITION BY.
 pub fn from_scope(alloc: Global, select: &Select, known: &[Known]) -> Result<Scope, AllocError>
     ensures { IfOk result (λ scope. scope ≡ spec.from_scope select.now known.now) }
 {
@@ -144,7 +144,7 @@ pub fn from_scope(alloc: Global, select: &Select, known: &[Known]) -> Result<Sco
     })
 }
 
-/// What names can stand for in the items and in HAVING. The only error is want of memory.
+/// What names can stand for in the items and in HAVING.
 pub fn item_scope(alloc: Global, select: &Select, known: &[Known]) -> Result<Scope, AllocError>
     ensures { IfOk result (λ scope. scope ≡ spec.item_scope select.now known.now) }
 {

@@ -5,7 +5,7 @@ ghost use Rattle.std.specs.List.{list_any};
 ghost use Rattle.ksql_clauses.specs.Windows as spec;
 
 use ksql_grammar::{SpanText, Unit, WindowText};
-use ksql_program::Window;
+use ksql_types::Window;
 
 /// The longest span of a window, 2^53 milliseconds.
 const LONGEST_SPAN: u128 = 9_007_199_254_740_992;

@@ -5,7 +5,7 @@ use Rattle.std.proofs.lemmas.Bool.Decides.{nat_tests}
 use Rattle.std.proofs.lemmas.List.Elements.{All-cons, All-nil}
 use Rattle.ksql_program.specs.declared.program.Item.{Item}
 use Rattle.ksql_program.specs.declared.program.Item.TheVariants.{Declared, Started}
-use Rattle.ksql_program.specs.Names.{is_topic_name}
+use Rattle.ksql_types.specs.Names.{is_topic_name}
 use Rattle.ksql_program.specs.Program.{relations}
 use Rattle.ksql_program.specs.Sound.{AreSoundItems, IsSound}
 use Rattle.run_text.specs.Report.{HasPartitions}

@@ -61,7 +61,7 @@ topic_file relation = codes "./" ++ (relation.topic ++ codes ".jsonl")
 unfoldable pub whole_room : Room
 whole_room = record { records = 200000; bytes = 67108864 }
 
--- what a file leaves of the room for those behind it
+-- what a file leaves of the room for those after it
 abbrev pub room_behind : Room → List ℕ → List Fed → Room
 room_behind room file feds = record { records = room.records - length feds; bytes = room.bytes - length file }
 
@@ -69,7 +69,7 @@ room_behind room file feds = record { records = room.records - length feds; byte
 abbrev pub IsGood : Files → Room → Relation → List ℕ → Type 0
 IsGood all room relation file = (read_bytes (topic_file relation) all ≡ Some file) × (first_fault room file ≡ None)
 
--- the room behind a relation's topic file
+-- the room after a relation's topic file
 abbrev pub behind : Room → Relation → List ℕ → Room
 behind room relation file = room_behind room file (topic_lines relation file).feds
 

@@ -48,7 +48,7 @@ read_line name = codes "ksql: cannot read " ++ (name ++ codes "\n")
 unfoldable pub usage_line : List ℕ
 usage_line = codes "ksql: bad command line\n"
 
--- the line of want of memory
+-- the line of out of memory
 unfoldable pub memory_line : List ℕ
 memory_line = codes "ksql: out of memory\n"
 

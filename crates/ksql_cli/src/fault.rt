@@ -67,7 +67,7 @@ fn write_topic_line<K: Sink>(
     write_pieces(out, &[line, b": ", why, b"\n"])
 }
 
-/// Writes all of some pieces, one behind the other, until a write fails.
+/// Writes all of some pieces, one after the other, until a write fails.
 fn write_pieces<K: Sink>(out: &mut K, pieces: &[&[u8]]) -> Result<(), Failed>
     ensures whole { OnOk result (K.written out.new ≡ followed_by (K.written out.old) (flat_map (λ p. p.now) pieces.now)) }
     ensures prefix { OnErr result (WrotePrefix (K.written out.old) (K.written out.new) (flat_map (λ p. p.now) pieces.now)) }

@@ -53,7 +53,7 @@ pub fn ksql<R, F: Folder, K: Sink, G: Gate + Sync>(
     ensures exact { IfSome (F.files folder.old) (λ all. NoDueFails words.now all (F.failed folder.old) (F.failed folder.new)
         → (status : OneStatus) → IsDecided status → HasCause words.now all (F.failed folder.old) (F.failed folder.new) status
         → (status ≡ Status.Done → ¬ Rose (K.faults out.old) (K.faults out.new)) → (result ≡ status) ⊎ (result ≡ Status.OutOfMemory)) }
-    // An accepted script and good topic files give their report, or want of memory.
+    // An accepted script and good topic files give their report, or out of memory.
     ensures complete { IfSome (F.files folder.old) (λ all. (program : OneProgram) (files : List TopicLines) → Runs words.now all program files
         → NoDueFails words.now all (F.failed folder.old) (F.failed folder.new) → ¬ Rose (K.faults out.old) (K.faults out.new)
         → (result ≡ Status.Done) ⊎ (result ≡ Status.OutOfMemory)) }

@@ -28,7 +28,7 @@ pub enum Status {
     },
     /// A write of the command's text failed.
     WriteFault,
-    /// Want of memory.
+    /// Out of memory.
     OutOfMemory,
 }
 

@@ -30,7 +30,7 @@ pub(crate) fn whole_room() -> Room
     }
 }
 
-/// The records of the topic files of the declared relations among these items, which share a room, behind the records
+/// The records of the topic files of the declared relations among these items, which share a room, after the records
 /// that were read before.
 pub(crate) fn read_topics<F: Folder>(
     alloc: Global,
@@ -71,7 +71,7 @@ pub(crate) struct Reading {
     pub room: Room,
 }
 
-/// The records of a relation's topic file behind others, and what room it leaves.
+/// The records of a relation's topic file after others, and what room it leaves.
 #[tactic(auto, unfolding(ksql_types::specs::Text::longest_text))]
 fn with_topic<F: Folder>(
     alloc: Global,
@@ -110,7 +110,7 @@ fn with_topic<F: Folder>(
     }
 }
 
-/// The records of a file of so many bytes behind others, and what room it leaves.
+/// The records of a file of so many bytes after others, and what room it leaves.
 fn with_lines(
     alloc: Global,
     relation: &Relation,

@@ -140,7 +140,7 @@ abbrev pub in_small_letters : Value → Value
 in_small_letters (Txt t) = Txt (str_to_ascii_lowercase t)
 in_small_letters _ = Null
 
--- whether a test holds of the characters, or of what is left of them behind some
+-- whether a test holds of the characters, or of what is left of them after some
 abbrev pub some_tail : (List ℕ → Bool) → List ℕ → Bool
 some_tail test [] = test []
 some_tail test (c ∷ cs) = test (c ∷ cs) || some_tail test cs

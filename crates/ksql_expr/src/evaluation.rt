@@ -34,7 +34,7 @@ impl<'a> Operand<'a> {
         }
     }
 
-    /// The value, copied where it was lent. The only error is want of memory.
+    /// The value, copied where it was lent.
     fn into_value(self, alloc: Global) -> Result<Value, AllocError>
         ensures { IfOk result (λ value. value ≡ worth self.entry) }
     {
@@ -58,8 +58,8 @@ impl<'a> Operand<'a> {
     }
 }
 
-/// The value of an expression on a row at a time. A column that the row lacks is NULL, and so is an aggregate, which has
-/// no value on one row. The only error is want of memory, which texts take.
+/// The value of an expression on a row at a time. A column that the row lacks is NULL, and so is an aggregate, which
+/// has no value on one row.
 pub fn eval(alloc: Global, typed: &Typed, row: &[Value], time: u64) -> Result<Value, AllocError>
     ensures { IfOk result (λ value. value ≡ value_of row.now time typed.now) }
 {
@@ -360,7 +360,7 @@ fn is_taken(operand: &Option<Operand>, cond: &Value) -> bool
     }
 }
 
-/// What an operator makes of two values, in the type of the whole. The only error is want of memory.
+/// What an operator makes of two values, in the type of the whole.
 fn applied<'a>(
     alloc: Global,
     ty: Option<SqlType>,
@@ -374,7 +374,7 @@ fn applied<'a>(
     Ok(Operand::Made(made))
 }
 
-/// What an operator makes of two values, in the type of the whole. The only error is want of memory.
+/// What an operator makes of two values, in the type of the whole.
 fn apply(
     alloc: Global,
     ty: Option<SqlType>,
@@ -403,7 +403,7 @@ fn apply(
     })
 }
 
-/// CAST of a value to a type. The only error is want of memory.
+/// CAST of a value to a type.
 fn cast<'a>(alloc: Global, to: SqlType, arg: Operand) -> Result<Operand<'a>, AllocError>
     ensures { IfOk result (λ made. worth made ≡ cast to (worth arg.entry)) }
 {
@@ -416,7 +416,7 @@ fn cast<'a>(alloc: Global, to: SqlType, arg: Operand) -> Result<Operand<'a>, All
     Ok(Operand::Made(made))
 }
 
-/// A function of one value, in the type of the whole. The only error is want of memory.
+/// A function of one value, in the type of the whole.
 fn of_one<'a>(
     alloc: Global,
     ty: Option<SqlType>,
@@ -437,7 +437,7 @@ fn of_one<'a>(
     Ok(Operand::Made(made))
 }
 
-/// A function of two values. The only error is want of memory.
+/// A function of two values.
 fn of_two<'a>(
     alloc: Global,
     fun: Fun,
@@ -453,7 +453,7 @@ fn of_two<'a>(
     }
 }
 
-/// A function of three values. The only error is want of memory.
+/// A function of three values.
 fn of_three<'a>(
     alloc: Global,
     fun: Fun,

@@ -4,7 +4,7 @@ ghost use Rattle.ksql_expr.specs.Value.{is_like, some_tail, is_value_like};
 
 use ksql_types::{Chars, Value};
 
-/// The first character of a text, and the text behind it.
+/// The first character of a text, and the text after it.
 fn first_char(text: &str) -> Option<(char, &str)>
     ensures first { MatchOption result (chars text.now ≡ []) (λ first. chars text.now ≡ first.0 ∷ chars first.1.now) }
     ensures utf8 { IfSome result (λ first. IsUtf8 first.1.now) }
@@ -42,7 +42,7 @@ fn is_like(pattern: &str, text: &str) -> bool
     first_char(left).is_none()
 }
 
-/// Whether a text, or what is left of it behind some characters, is like a pattern. Where the pattern fails, it is tried
+/// Whether a text, or what is left of it after some characters, is like a pattern. Where the pattern fails, it is tried
 /// again one character further on: from its last `%`, since what stands before that was found as early as it can be.
 fn ends_like(pattern: &str, text: &str) -> bool
     ensures { result ≡ some_tail (is_like (chars pattern.now)) (chars text.now) }

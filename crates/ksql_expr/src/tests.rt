@@ -31,7 +31,7 @@ fn truth(node: TypedNode) -> Typed {
     Typed { ty: BOOL, node }
 }
 
-// A literal: `NULL`, `true`, `false`, `7`, `7L` of BIGINT, or a text behind a mark `'`.
+// A literal: `NULL`, `true`, `false`, `7`, `7L` of BIGINT, or a text after a mark `'`.
 fn literal(alloc: Global, word: &str) -> Result<Typed, Fail> {
     if let Some(text) = word.strip_prefix('\'') {
         return Ok(typed(TEXT, Value::Txt(chars(alloc, text)?)));

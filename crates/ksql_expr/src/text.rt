@@ -9,7 +9,7 @@ use crate::number::{fitting, whole};
 use ksql_types::{Chars, CopyOf, LONGEST_VALUE, SqlType, Value};
 use std::alloc::{AllocError, Global};
 
-/// Two texts joined; NULL where one of them is NULL, or where they are too long. The only error is want of memory.
+/// Two texts joined; NULL where one of them is NULL, or where they are too long.
 #[tactic(auto, unfolding(ksql_types::specs::Text::longest_text))]
 pub fn joined(alloc: Global, left: &Value, right: &Value) -> Result<Value, AllocError>
     ensures { IfOk result (λ value. value ≡ joined left.now right.now) }
@@ -30,8 +30,7 @@ pub fn joined(alloc: Global, left: &Value, right: &Value) -> Result<Value, Alloc
     }
 }
 
-/// Puts a value's bytes behind a text, where the whole is not too long: answers whether. NULL has none. The only error is
-/// want of memory.
+/// Puts a value's bytes after a text, where the whole is not too long: answers whether. NULL has none.
 pub fn push_bytes(whole: &mut String, value: &Value) -> Result<bool, AllocError>
     requires { string_len whole.old ≤ longest_value }
     ensures test { IfOk result (λ fits. fits ≡ nat_le (length (string_bytes whole.old ++ bytes_of value.now)) longest_value) }
@@ -66,7 +65,7 @@ pub fn length_of(value: &Value) -> Value
     }
 }
 
-/// The text behind so many characters.
+/// The text after so many characters.
 fn behind(text: &str, count: usize) -> &str
     ensures value { result.now ≡ encode_utf8_all (drop count (chars text.now)) }
     ensures bound { length result.now ≤ length text.now }
@@ -123,7 +122,7 @@ fn part_of(text: &str, at: i64, len: Option<i64>) -> &str
     at_most(behind(text, index_of(count_of(text), at)), len)
 }
 
-/// SUBSTRING without a length: the text from a position on. The only error is want of memory.
+/// SUBSTRING without a length: the text from a position on.
 #[tactic(auto, unfolding(ksql_types::specs::Text::longest_text))]
 pub fn tail_of(alloc: Global, text: &Value, at: &Value) -> Result<Value, AllocError>
     ensures { IfOk result (λ value. value ≡ tail_of text.now at.now) }
@@ -137,7 +136,7 @@ pub fn tail_of(alloc: Global, text: &Value, at: &Value) -> Result<Value, AllocEr
     }
 }
 
-/// SUBSTRING with a length: at most so many characters from a position on. The only error is want of memory.
+/// SUBSTRING with a length: at most so many characters from a position on.
 #[tactic(auto, unfolding(ksql_types::specs::Text::longest_text))]
 pub fn middle_of(alloc: Global, text: &Value, at: &Value, len: &Value) -> Result<Value, AllocError>
     ensures { IfOk result (λ value. value ≡ middle_of text.now at.now len.now) }
@@ -175,7 +174,7 @@ fn before_spaces(text: &str) -> &str
     rest
 }
 
-/// TRIM: a text without the spaces at both ends; NULL of NULL. The only error is want of memory.
+/// TRIM: a text without the spaces at both ends; NULL of NULL.
 #[tactic(auto, unfolding(ksql_types::specs::Text::longest_text))]
 pub fn without_spaces(alloc: Global, value: &Value) -> Result<Value, AllocError>
     ensures { IfOk result (λ text. text ≡ without_spaces value.now) }
@@ -189,7 +188,7 @@ pub fn without_spaces(alloc: Global, value: &Value) -> Result<Value, AllocError>
     }
 }
 
-/// UCASE: a text with its ASCII letters in capitals; NULL of NULL. The only error is want of memory.
+/// UCASE: a text with its ASCII letters in capitals; NULL of NULL.
 pub fn in_capitals(alloc: Global, value: &Value) -> Result<Value, AllocError>
     ensures { IfOk result (λ text. text ≡ in_capitals value.now) }
 {
@@ -202,7 +201,7 @@ pub fn in_capitals(alloc: Global, value: &Value) -> Result<Value, AllocError>
     }
 }
 
-/// LCASE: a text with its ASCII letters small; NULL of NULL. The only error is want of memory.
+/// LCASE: a text with its ASCII letters small; NULL of NULL.
 pub fn in_small_letters(alloc: Global, value: &Value) -> Result<Value, AllocError>
     ensures { IfOk result (λ text. text ≡ in_small_letters value.now) }
 {
@@ -237,7 +236,7 @@ pub fn cast_number(to: SqlType, value: &Value) -> Value
     }
 }
 
-/// The decimal text of a number. The only error is want of memory.
+/// The decimal text of a number.
 #[tactic(auto, unfolding(ksql_types::specs::Text::longest_text))]
 fn decimal(alloc: Global, number: i64) -> Result<Value, AllocError>
     ensures { IfOk result (λ text. text ≡ Value.Txt (signed_decimal number)) }
@@ -253,7 +252,7 @@ fn truth_text(truth: bool) -> &'static str
     if truth { "true" } else { "false" }
 }
 
-/// CAST to VARCHAR. The only error is want of memory.
+/// CAST to VARCHAR.
 #[tactic(auto, unfolding(ksql_types::specs::Text::longest_text))]
 pub fn cast_text(alloc: Global, value: &Value) -> Result<Value, AllocError>
     ensures { IfOk result (λ text. text ≡ cast_text value.now) }

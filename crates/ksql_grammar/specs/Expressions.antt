@@ -27,20 +27,20 @@ abbrev pub ◌>>=◌ : {A B : Type 0} → Option A → (A → Option B) → Opti
 None >>= f = None
 (Some x) >>= f = f x
 
--- a reader gives a tree and the symbols behind it
+-- a reader gives a tree and the symbols after it
 abbrev pub Reader : Type 0 → Type 0
 Reader A = List Symbol → Option (A × List Symbol)
 
--- whether the arguments of a call are `*`, the arguments, and the symbols behind them
+-- whether the arguments of a call are `*`, the arguments, and the symbols after them
 abbrev pub with_arguments : (Bool × Vec Expr) × Bor (List Symbol) → (Bool × List Expr) × List Symbol
 with_arguments x = ((x.0.0, x.0.1.items), x.1.now)
 
--- the symbols behind this reserved word
+-- the symbols after this reserved word
 unfoldable pub behind_key : Keyword → List Symbol → Option (List Symbol)
 behind_key k (Key found ∷ ts) = if sameb the_keyword found k then Some ts else None
 behind_key k _ = None
 
--- behind this sign
+-- after this sign
 unfoldable pub behind_sign : Mark → List Symbol → Option (List Symbol)
 behind_sign m (Sign found ∷ ts) = if sameb the_mark found m then Some ts else None
 behind_sign m _ = None
@@ -60,7 +60,7 @@ unfoldable pub list_of : {A : Type 0} → Reader A → (List Symbol → Option (
 list_of item more zero ts = None
 list_of item more (suc n) ts = item ts >>= λ x. list_end x (list_of item more n) (more x.1)
 
--- an operand behind an operator, where there is one, and what goes on from both
+-- an operand after an operator, where there is one, and what goes on from both
 abbrev pub chain_step : Reader Expr → (Expr → Reader Expr) → Expr → List Symbol → Option (BinaryOp × List Symbol) → Option (Expr × List Symbol)
 chain_step operand others a ts None = Some (a, ts)
 chain_step operand others a ts (Some o) = operand o.1 >>= λ b. others (e.Binary o.0 a b.0) b.1
@@ -74,18 +74,18 @@ chain_with op operand (suc n) a ts = chain_step operand (chain_with op operand n
 unfoldable pub chain : (Symbol → Option BinaryOp) → Reader Expr → Reader Expr
 chain op operand ts = operand ts >>= λ a. chain_with op operand (suc (length a.1)) a.0 a.1
 
--- an expression behind NOT or a sign
+-- an expression after NOT or a sign
 abbrev pub behind_prefix : Symbol → Expr → Expr
 behind_prefix (Key k) a = e.Not a
 behind_prefix (Sign mark.Minus) a = e.Sign true a
 behind_prefix s a = e.Sign false a
 
--- an expression behind several of them, the nearest first
+-- an expression after several of them, the nearest first
 unfoldable pub behind_prefixes : List Symbol → Expr → Expr
 behind_prefixes [] a = a
 behind_prefixes (s ∷ ss) a = behind_prefix s (behind_prefixes ss a)
 
--- all symbols at the front that pass, and what stands behind them
+-- all symbols at the front that pass, and what stands after them
 unfoldable pub prefixed : (Symbol → Bool) → Reader Expr → Reader Expr
 prefixed test operand ts =
     let n = prefix_len test ts in operand (drop n ts) >>= λ a. Some (behind_prefixes (take n ts) a.0, a.1)
@@ -97,7 +97,7 @@ is_not _ = false
 abbrev pub is_sign : Symbol → Bool
 is_sign s = is_some (minus_of s)
 
--- whether NOT stands first, and what stands behind it
+-- whether NOT stands first, and what stands after it
 abbrev pub negation_of : List Symbol → Option (List Symbol) → Bool × List Symbol
 negation_of ts None = (false, ts)
 negation_of ts (Some us) = (true, us)
@@ -105,7 +105,7 @@ negation_of ts (Some us) = (true, us)
 unfoldable pub negation_at : List Symbol → Bool × List Symbol
 negation_at ts = negation_of ts (behind_key key.Not ts)
 
--- behind a name and `.`
+-- after a name and `.`
 unfoldable pub qualified : List ℕ → Reader Expr
 qualified qualifier ts = first name_of ts >>= λ n. Some (e.Name (Some qualifier) n.0, n.1)
 
@@ -113,11 +113,11 @@ abbrev pub text_of : Symbol → Option (List ℕ)
 text_of (Text content) = Some content
 text_of _ = None
 
--- behind an expression and LIKE
+-- after an expression and LIKE
 unfoldable pub like : Bool → Expr → Reader Expr
 like negated a ts = first text_of ts >>= λ pattern. Some (e.Like negated a pattern.0, pattern.1)
 
--- behind an expression and IS
+-- after an expression and IS
 unfoldable pub is_null : Expr → Reader Expr
 is_null a ts = do
   let n = negation_at ts
@@ -129,14 +129,14 @@ module _ (inner : Reader Expr) where
   unfoldable pub exprs : Reader (List Expr)
   exprs ts = list_of inner (behind_sign mark.Comma) (suc (length ts)) ts
 
-  -- behind `(`
+  -- after `(`
   unfoldable pub parens : Reader Expr
   parens ts = do
     a ← inner ts
     us ← behind_sign mark.Close a.1
     Some (a.0, us)
 
-  -- behind CAST
+  -- after CAST
   unfoldable pub cast : Reader Expr
   cast ts = do
     us ← behind_sign mark.Open ts
@@ -146,7 +146,7 @@ module _ (inner : Reader Expr) where
     ws ← behind_sign mark.Close t.1
     Some (e.Cast a.0 t.0, ws)
 
-  -- behind WHEN
+  -- after WHEN
   unfoldable pub when : Reader WhenText
   when ts = do
     c ← inner ts
@@ -163,7 +163,7 @@ module _ (inner : Reader Expr) where
   operand_at ts (Some us) = Some (None, ts)
   operand_at ts None = inner ts >>= λ a. Some (Some a.0, a.1)
 
-  -- behind CASE, before WHEN
+  -- after CASE, before WHEN
   unfoldable pub operand : Reader (Option Expr)
   operand ts = operand_at ts (behind_key key.When ts)
 
@@ -174,7 +174,7 @@ module _ (inner : Reader Expr) where
   unfoldable pub otherwise : Reader (Option Expr)
   otherwise ts = otherwise_at ts (behind_key key.Else ts)
 
-  -- behind CASE
+  -- after CASE
   unfoldable pub case : Reader Expr
   case ts = do
     x ← operand ts
@@ -183,7 +183,7 @@ module _ (inner : Reader Expr) where
     us ← behind_key key.End y.1
     Some (e.Case x.0 ws.0 y.0, us)
 
-  -- behind a reserved word
+  -- after a reserved word
   abbrev pub keyed : Keyword → Reader Expr
   keyed key.True ts = Some (e.Truth true, ts)
   keyed key.False ts = Some (e.Truth false, ts)
@@ -197,7 +197,7 @@ module _ (inner : Reader Expr) where
   arguments_at ts None (Some us) = Some ((true, []), us)
   arguments_at ts None None = exprs ts >>= λ es. Some ((false, es.0), es.1)
 
-  -- behind a name and `(`
+  -- after a name and `(`
   unfoldable pub arguments : Reader (Bool × List Expr)
   arguments ts = arguments_at ts (behind_sign mark.Close ts) (behind_sign mark.Star ts)
 
@@ -212,7 +212,7 @@ module _ (inner : Reader Expr) where
   named_at name ts None (Some us) = qualified name us
   named_at name ts None None = Some (e.Name None name, ts)
 
-  -- behind a name
+  -- after a name
   unfoldable pub named : List ℕ → Reader Expr
   named name ts = named_at name ts (behind_sign mark.Open ts) (behind_sign mark.Dot ts)
 
@@ -238,7 +238,7 @@ module _ (inner : Reader Expr) where
   unfoldable pub sum : Reader Expr
   sum = chain sum_of product
 
-  -- behind an expression and BETWEEN
+  -- after an expression and BETWEEN
   unfoldable pub between : Bool → Expr → Reader Expr
   between negated a ts = do
     low ← sum ts
@@ -246,7 +246,7 @@ module _ (inner : Reader Expr) where
     high ← sum us
     Some (e.Between negated a low.0 high.0, high.1)
 
-  -- behind an expression and IN
+  -- after an expression and IN
   unfoldable pub one_of : Bool → Expr → Reader Expr
   one_of negated a ts = do
     us ← behind_sign mark.Open ts
@@ -254,11 +254,11 @@ module _ (inner : Reader Expr) where
     vs ← behind_sign mark.Close es.1
     Some (e.OneOf negated a es.0, vs)
 
-  -- behind an expression and its operator
+  -- after an expression and its operator
   unfoldable pub compared : Expr → BinaryOp → Reader Expr
   compared a o ts = sum ts >>= λ b. Some (e.Binary o a b.0, b.1)
 
-  -- the test by which an expression goes on, behind its NOT
+  -- the test by which an expression goes on, after its NOT
   abbrev pub ranged : Bool → Expr → Reader Expr
   ranged negated a (Key key.Between ∷ ts) = between negated a ts
   ranged negated a (Key key.In ∷ ts) = one_of negated a ts
@@ -270,7 +270,7 @@ module _ (inner : Reader Expr) where
   tested_at a ts None (Some us) = is_null a us
   tested_at a ts None None = ranged (negation_at ts).0 a (negation_at ts).1
 
-  -- behind an expression
+  -- after an expression
   unfoldable pub tested : Expr → Reader Expr
   tested a ts = tested_at a ts (first comparison_of ts) (behind_key key.Is ts)
 

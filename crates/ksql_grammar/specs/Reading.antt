@@ -17,7 +17,7 @@ Gives seen (Ok x) read = read ≡ Some (seen x)
 Gives seen (Err Unspelled) read = read ≡ None
 Gives seen (Err OutOfMemory) read = Unit {0}
 
--- a tree, and the symbols behind it
+-- a tree, and the symbols after it
 abbrev pub with_rest : {A : Type 0} → A × Bor (List Symbol) → A × List Symbol
 with_rest x = (x.0, x.1.now)
 

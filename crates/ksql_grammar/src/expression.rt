@@ -41,7 +41,7 @@ fn operator(level: Level, symbol: &Symbol) -> Option<BinaryOp>
     }
 }
 
-/// An operator of the level, and the symbols behind it.
+/// An operator of the level, and the symbols after it.
 #[tactic(auto, unfolding(crate::specs::Expressions::first))]
 fn behind_operator(level: Level, symbols: &[Symbol]) -> Option<(BinaryOp, &[Symbol])>
     ensures { option_with_rest result ≡ read.first (read.operator_at level) symbols.now }
@@ -50,7 +50,7 @@ fn behind_operator(level: Level, symbols: &[Symbol]) -> Option<(BinaryOp, &[Symb
     Some((operator(level, symbol)?, rest))
 }
 
-/// The operator of a comparison, and the symbols behind it.
+/// The operator of a comparison, and the symbols after it.
 #[tactic(auto, unfolding(crate::specs::Expressions::first))]
 fn behind_comparison(symbols: &[Symbol]) -> Option<(BinaryOp, &[Symbol])>
     ensures { option_with_rest result ≡ read.first spec.comparison_of symbols.now }
@@ -59,7 +59,7 @@ fn behind_comparison(symbols: &[Symbol]) -> Option<(BinaryOp, &[Symbol])>
     Some((comparison_of(symbol)?, rest))
 }
 
-/// A type, and the symbols behind it.
+/// A type, and the symbols after it.
 #[tactic(auto, unfolding(crate::specs::Expressions::first))]
 fn behind_type(symbols: &[Symbol]) -> Option<(SqlType, &[Symbol])>
     ensures { option_with_rest result ≡ read.first spec.type_of symbols.now }
@@ -68,7 +68,7 @@ fn behind_type(symbols: &[Symbol]) -> Option<(SqlType, &[Symbol])>
     Some((type_of(symbol)?, rest))
 }
 
-/// Whether NOT stands first, and the symbols behind it.
+/// Whether NOT stands first, and the symbols after it.
 #[tactic(auto, unfolding(crate::specs::Expressions::negation_at))]
 fn negation(symbols: &[Symbol]) -> (bool, &[Symbol])
     ensures { with_rest result ≡ read.negation_at symbols.now }
@@ -95,7 +95,7 @@ fn sign_count(symbols: &[Symbol]) -> usize
     symbols.iter().take_while(|s| is_sign(s)).count()
 }
 
-/// The expression behind all of these prefixes.
+/// The expression after all of these prefixes.
 fn behind_all(alloc: Global, prefixes: &[Symbol], arg: Expr) -> Result<Expr, AllocError>
     ensures { IfOk result (λ e. e ≡ read.behind_prefixes prefixes.now arg) }
 {
@@ -132,7 +132,7 @@ fn like(
     }
 }
 
-/// What stands behind a source and `.`.
+/// What stands after a source and `.`.
 #[tactic(auto, unfolding(crate::specs::Expressions::qualified, crate::specs::Expressions::first))]
 fn qualified<'a>(
     alloc: Global,
@@ -205,7 +205,7 @@ impl<F: for<'a> Fn(Global, usize, &'a [Symbol]) -> Result<(Expr, &'a [Symbol]), 
         Ok((Some(arg), rest))
     }
 
-    /// What stands behind WHEN.
+    /// What stands after WHEN.
     #[tactic(auto, unfolding(crate::specs::Expressions::when))]
     fn when<'a>(&self, symbols: &'a [Symbol]) -> Result<(WhenText, &'a [Symbol]), ReadError>
         requires { Nests self.now.room (F.pre self.now.reader) (F.post self.now.reader) }
@@ -368,7 +368,7 @@ impl<F: for<'a> Fn(Global, usize, &'a [Symbol]) -> Result<(Expr, &'a [Symbol]), 
         }
     }
 
-    /// A primary behind any number of signs.
+    /// A primary after any number of signs.
     #[tactic(auto, unfolding(crate::specs::Expressions::unary, crate::specs::Expressions::prefixed))]
     fn unary<'a>(&self, symbols: &'a [Symbol]) -> Result<(Expr, &'a [Symbol]), ReadError>
         requires { Nests self.now.room (F.pre self.now.reader) (F.post self.now.reader) }
@@ -472,7 +472,7 @@ impl<F: for<'a> Fn(Global, usize, &'a [Symbol]) -> Result<(Expr, &'a [Symbol]), 
         Ok((node::binary(self.alloc, op, left, right)?, rest))
     }
 
-    /// What is read behind a sum: a comparison, IS, BETWEEN, IN or LIKE, or nothing.
+    /// What is read after a sum: a comparison, IS, BETWEEN, IN or LIKE, or nothing.
     #[tactic(auto, unfolding(crate::specs::Expressions::tested))]
     fn tested<'a>(
         &self,
@@ -502,7 +502,7 @@ impl<F: for<'a> Fn(Global, usize, &'a [Symbol]) -> Result<(Expr, &'a [Symbol]), 
         self.tested(arg, rest)
     }
 
-    /// A predicate behind any number of NOT.
+    /// A predicate after any number of NOT.
     #[tactic(auto, unfolding(crate::specs::Expressions::negations, crate::specs::Expressions::prefixed))]
     fn negations<'a>(&self, symbols: &'a [Symbol]) -> Result<(Expr, &'a [Symbol]), ReadError>
         requires { Nests self.now.room (F.pre self.now.reader) (F.post self.now.reader) }
@@ -562,7 +562,7 @@ fn expression(
     nested.disjunction(symbols)
 }
 
-/// The expression at the front of some symbols, as long as it goes on, and the symbols behind it.
+/// The expression at the front of some symbols, as long as it goes on, and the symbols after it.
 pub fn read_expression(alloc: Global, symbols: &[Symbol]) -> Result<(Expr, &[Symbol]), ReadError>
     ensures found { IfOk result (λ x. Spells (at expr x.0) symbols.now x.1.now) }
     ensures only { (e : Tree) (rest : List OneSymbol) → Spells (at expr e) symbols.now rest → EndsExpr rest
@@ -571,7 +571,7 @@ pub fn read_expression(alloc: Global, symbols: &[Symbol]) -> Result<(Expr, &[Sym
     expression(alloc, symbols.len() + 1, symbols)
 }
 
-/// One or more expressions with commas between them, as long as there are, and the symbols behind them.
+/// One or more expressions with commas between them, as long as there are, and the symbols after them.
 pub fn read_expressions(
     alloc: Global,
     symbols: &[Symbol],

@@ -5,7 +5,7 @@ use std::alloc::{AllocError, AllocFailed};
 pub enum ReadError {
     /// They don't spell what was to be read.
     Unspelled,
-    /// Want of memory.
+    /// Out of memory.
     OutOfMemory,
 }
 

@@ -1,4 +1,4 @@
-//! Expressions made of their parts. The only error is want of memory.
+//! Expressions made of their parts.
 
 ghost use Rattle.std.specs.Prelude.{◌≡◌, IfOk, List, Option};
 ghost use Rattle.ksql_grammar.specs.Grammar.{when_then};
@@ -18,7 +18,7 @@ pub fn binary(alloc: Global, op: BinaryOp, left: Expr, right: Expr) -> Result<Ex
     Ok(Expr::Binary { op, left, right })
 }
 
-/// The expression behind NOT or a sign.
+/// The expression after NOT or a sign.
 pub fn behind(alloc: Global, prefix: &Symbol, arg: Expr) -> Result<Expr, AllocError>
     ensures { IfOk result (λ e. e ≡ behind_prefix prefix.now arg) }
 {
@@ -149,7 +149,7 @@ pub fn name(alloc: Global, name: &Chars) -> Result<Expr, AllocError>
     })
 }
 
-/// A name behind a source and `.`.
+/// A name after a source and `.`.
 pub fn name_in(alloc: Global, qualifier: &Chars, name: &Chars) -> Result<Expr, AllocError>
     ensures { IfOk result (λ e. e ≡ Expr.Name (Option.Some qualifier.now) name.now) }
 {

@@ -69,7 +69,7 @@ pub enum Symbol {
     Sign(Mark),
 }
 
-/// The symbols behind this reserved word.
+/// The symbols after this reserved word.
 #[tactic(auto, unfolding(crate::specs::Expressions::behind_key))]
 pub fn behind_key(key: Keyword, symbols: &[Symbol]) -> Option<&[Symbol]>
     ensures { option_copied result ≡ read.behind_key key symbols.now }
@@ -80,7 +80,7 @@ pub fn behind_key(key: Keyword, symbols: &[Symbol]) -> Option<&[Symbol]>
     }
 }
 
-/// The symbols behind this sign.
+/// The symbols after this sign.
 #[tactic(auto, unfolding(crate::specs::Expressions::behind_sign))]
 pub fn behind_sign(sign: Mark, symbols: &[Symbol]) -> Option<&[Symbol]>
     ensures { option_copied result ≡ read.behind_sign sign symbols.now }

@@ -9,7 +9,7 @@ pub struct Statement {
     pub body: StatementBody,
 }
 
-/// What stands behind the name of a statement. Empty `props` mean that WITH is left out.
+/// What stands after the name of a statement. Empty `props` mean that WITH is left out.
 #[derive(Drop)]
 pub enum StatementBody {
     Declared {

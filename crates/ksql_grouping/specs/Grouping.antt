@@ -6,7 +6,7 @@ use Rattle.ksql_grammar.specs.declared.tree.Expr.{Expr, para-Expr, out-Expr}
 use Rattle.ksql_grammar.specs.declared.tree.Expr.TheVariants as e
 use Rattle.ksql_grammar.specs.declared.tree.Expr.TheOpen.{Expr-F}
 use Rattle.ksql_grammar.specs.declared.tree.WhenText.{WhenText}
-use Rattle.ksql_program.specs.Names.{is_among}
+use Rattle.ksql_types.specs.Names.{is_among}
 use Rattle.ksql_grouping.specs.declared.aggregates.Called.{Called}
 use Rattle.ksql_grouping.specs.declared.aggregates.Called.TheVariants.{Aggregate, Ordered, Unknown}
 use Rattle.ksql_grouping.specs.declared.regrouping.Replaced.{Replaced}
@@ -75,7 +75,7 @@ holds_inner a = of (out-Expr a)
 abbrev pub has_nested_aggregate : Expr → Bool
 has_nested_aggregate a = passes holds_inner a
 
--- an expression behind others, unless it is one of them
+-- an expression after others, unless it is one of them
 abbrev pub add_once : List Expr → Expr → List Expr
 add_once found a = if list_any (same_expr a) found then found else found ++ a ∷ []
 
@@ -95,12 +95,12 @@ place_from number (g ∷ gs) a = if same_expr g a then Some number else place_fr
 abbrev pub place_among : List Expr → Expr → Option ℕ
 place_among es a = place_from 0 es a
 
--- a column of the rows behind a grouping: it has no name that a script can write
+-- a column of the rows after a grouping: it has no name that a script can write
 abbrev pub late_column : ℕ → Expr
 late_column number = e.Name (Some []) (decimal number)
 
--- an expression behind a grouping: outside aggregates each largest part that is a group expression becomes the column of
--- the first such, an aggregate becomes its column, and one that has none is NULL
+-- an expression after a grouping: outside aggregates each largest part that is a group expression becomes the column of the first
+-- such, an aggregate becomes its column, and one that has none is NULL
 abbrev pub late_part : List Expr → List Expr → Expr → Option Expr
 late_part groups aggs a = of (place_among groups a) (place_among aggs a)
   where

@@ -7,9 +7,8 @@ ghost use Rattle.ksql_scope.specs.Uses.{all_of, calls, has_unknown_function, per
 ghost use Rattle.ksql_grouping.specs.Grouping as spec;
 
 use ksql_grammar::{Expr, ExprTexts, WhenTexts};
-use ksql_program::is_among;
 use ksql_scope::{aggregate_of, function_of};
-use ksql_types::{Boxed, Chars, CopyOf};
+use ksql_types::{Boxed, Chars, CopyOf, is_among};
 use ksql_walks::{Decides, passes};
 use std::alloc::{AllocError, Global};
 
@@ -99,7 +98,7 @@ pub fn is_aggregate_call(expr: &Expr) -> bool
     }
 }
 
-/// Puts the aggregates in an expression behind others. The only error is want of memory.
+/// Puts the aggregates in an expression after others.
 #[cycle(aggregates)]
 #[tactic(auto, using(crate::proofs::Gives::gives_forms))]
 fn add_aggregates(alloc: Global, expr: &Expr, found: &mut Vec<Expr>) -> Result<(), AllocError>
@@ -186,7 +185,7 @@ fn add_part(
     }
 }
 
-/// The aggregates in an expression, from the left; not those inside others. The only error is want of memory.
+/// The aggregates in an expression, from the left; not those inside others.
 pub fn aggregates_of(alloc: Global, expr: &Expr) -> Result<Vec<Expr>, AllocError>
     ensures { IfOk result (λ found. found.items ≡ spec.aggregates_of expr.now) }
 {

@@ -129,7 +129,7 @@ fn is_found(found: &[Expr], expr: &Expr) -> bool
     false
 }
 
-/// Each of some expressions once, in the order in which they first stand. The only error is want of memory.
+/// Each of some expressions once, in the order in which they first stand.
 pub fn once(alloc: Global, exprs: Vec<Expr>) -> Result<Vec<Expr>, AllocError>
     ensures { IfOk result (λ found. found.items ≡ spec.once_from [] exprs.items) }
 {

@@ -1,4 +1,4 @@
-//! Which expressions are one, and what stands in them: aggregates, bare columns, and the columns behind a grouping.
+//! Which expressions are one, and what stands in them: aggregates, bare columns, and the columns after a grouping.
 #![tactic(auto)]
 
 mod aggregates;

@@ -1,4 +1,4 @@
-//! What an expression becomes behind a grouping.
+//! What an expression becomes after a grouping.
 
 ghost use Rattle.std.specs.Prelude.{◌≡◌, IfOk};
 ghost use Rattle.ksql_grouping.specs.Grouping as spec;
@@ -10,7 +10,7 @@ use ksql_types::Chars;
 use ksql_walks::{Replaces, becomes};
 use std::alloc::{AllocError, Global};
 
-/// A column of the rows behind a grouping, by its number. The only error is want of memory.
+/// A column of the rows after a grouping, by its number.
 pub fn late_column(alloc: Global, number: usize) -> Result<Expr, AllocError>
     ensures { IfOk result (λ column. column ≡ spec.late_column number) }
 {
@@ -21,14 +21,14 @@ pub fn late_column(alloc: Global, number: usize) -> Result<Expr, AllocError>
     })
 }
 
-/// What a grouping replaces in the expressions behind it: its group expressions and its aggregates.
+/// What a grouping replaces in the expressions after it: its group expressions and its aggregates.
 #[derive(Clone, Copy)]
 struct Replaced<'a> {
     groups: &'a [Expr],
     aggs: &'a [Expr],
 }
 
-/// What an expression becomes behind a grouping as a whole: a group expression or an aggregate its column, and an
+/// What an expression becomes after a grouping as a whole: a group expression or an aggregate its column, and an
 /// aggregate that has none NULL.
 fn late_part(alloc: Global, replaced: Replaced<'_>, expr: &Expr) -> Result<Option<Expr>, AllocError>
     ensures { IfOk result (λ part. part ≡ spec.replacement replaced.entry expr.now) }
@@ -53,8 +53,8 @@ impl Replaces for Replaced<'_> {
     }
 }
 
-/// An expression behind a grouping: outside aggregates each largest part that is a group expression becomes the column of
-/// the first such, an aggregate becomes its column, and one that has none is NULL. The only error is want of memory.
+/// An expression after a grouping: outside aggregates each largest part that is a group expression becomes the column
+/// of the first such, an aggregate becomes its column, and one that has none is NULL.
 pub fn regrouped(
     alloc: Global,
     groups: &[Expr],

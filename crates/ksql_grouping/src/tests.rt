@@ -20,7 +20,7 @@ fn column(alloc: Global, name: &str) -> Result<Expr, Fail> {
     })
 }
 
-// A column behind a grouping: its source has no name.
+// A column after a grouping: its source has no name.
 fn late(alloc: Global, number: &str) -> Result<Expr, Fail> {
     let qualifier = Some(chars(alloc, "")?);
     let name = chars(alloc, number)?;
@@ -82,7 +82,7 @@ fn case(alloc: Global, stack: &mut Vec<Expr>) -> Result<Expr, Fail> {
     })
 }
 
-// What a word stands for behind the parts that stand before it.
+// What a word stands for after the parts that stand before it.
 fn part(alloc: Global, word: &str, stack: &mut Vec<Expr>) -> Result<Expr, Fail> {
     if let Ok(number) = word.parse::<u64>() {
         return Ok(Expr::Digits(number));
@@ -106,7 +106,7 @@ fn part(alloc: Global, word: &str, stack: &mut Vec<Expr>) -> Result<Expr, Fail> 
     }
 }
 
-// An expression, with each operator and each function behind its arguments and a blank between each two words.
+// An expression, with each operator and each function after its arguments and a blank between each two words.
 fn read(alloc: Global, text: &str) -> Result<Expr, Fail> {
     let mut stack = Vec::new(alloc);
     for word in text.split(' ') {
@@ -155,7 +155,7 @@ fn read_regrouped(alloc: Global, groups: &str, text: &str) -> Result<Expr, Fail>
     regrouped_by(alloc, &groups, &expr)
 }
 
-// Whether an expression becomes another behind a grouping by these groups and its own aggregates.
+// Whether an expression becomes another after a grouping by these groups and its own aggregates.
 fn becomes(alloc: Global, groups: &str, text: &str, want: &str) -> Result<bool, Fail> {
     let found = read_regrouped(alloc, groups, text)?;
     let want = read(alloc, want)?;

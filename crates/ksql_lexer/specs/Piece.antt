@@ -88,7 +88,7 @@ abbrev pub first_passes : (ℕ → Bool) → List ℕ → Bool
 first_passes test [] = false
 first_passes test (b ∷ bs) = test b
 
--- what may follow: behind digits neither a letter, a digit nor `_`
+-- what may follow: after digits neither a letter, a digit nor `_`
 abbrev pub MayFollow : Option TokenKind → List ℕ → Type 0
 MayFollow (Some (kind.Digits digits)) rest = first_passes is_word_byte rest ≡ false
 MayFollow _ rest = Unit {0}

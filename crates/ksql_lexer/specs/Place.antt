@@ -37,7 +37,7 @@ pub record IsBetween (quote : ℕ) (text inside rest : List ℕ) : Type 0 where
   pub whole : text ≡ quote ∷ (inside ++ quote ∷ rest)
   pub lacks : Lacks quote inside
 
--- the text doesn't begin with a quote behind which there is another
+-- the text doesn't begin with a quote after which there is another
 abbrev pub NoneBetween : ℕ → List ℕ → Type 0
 NoneBetween quote text = (inside rest : List ℕ) → text ≢ quote ∷ (inside ++ quote ∷ rest)
 
@@ -46,7 +46,7 @@ pub record IsUpToEnd (text inside rest : List ℕ) : Type 0 where
   pub whole : text ≡ inside ++ (codes "*/" ++ rest)
   pub lacks : ¬ (HasSubslice inside (codes "*/"))
 
--- no `/*` of the text has a `*/` behind it
+-- no `/*` of the text has a `*/` after it
 abbrev pub NoneCloses : List ℕ → Type 0
 NoneCloses text = (front inside rest : List ℕ) → text ≢ front ++ (codes "/*" ++ (inside ++ (codes "*/" ++ rest)))
 

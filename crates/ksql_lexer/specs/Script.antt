@@ -25,7 +25,7 @@ abbrev pub ended_from : Bool → List TokenKind → ℕ
 ended_from begun [] = 0
 ended_from begun (k ∷ ks) = if is_semicolon k then (if begun then 1 else 0) + ended_from false ks else ended_from true ks
 
--- the number of the statement that comes behind these tokens: one more than that of the non-empty lists that ended by `;`
+-- the number of the statement that comes after these tokens: one more than that of the non-empty lists that ended by `;`
 abbrev pub statement_behind : List TokenKind → ℕ
 statement_behind ks = 1 + ended_from false ks
 

@@ -7,7 +7,7 @@ pub enum LexFault {
     /// statement of the first such place: one more than the number of the non-empty lists of tokens that ended by
     /// `;` before it.
     Bad { statement: u32 },
-    /// Want of memory.
+    /// Out of memory.
     OutOfMemory,
 }
 

@@ -10,7 +10,7 @@ use crate::token::TokenKind;
 use ksql_types::Chars;
 use std::alloc::{AllocError, Global};
 
-/// What stands at a place: a token, or as `None` a blank or a comment; and the text behind it.
+/// What stands at a place: a token, or as `None` a blank or a comment; and the text after it.
 #[derive(Drop)]
 pub struct Found<'a> {
     pub kind: Option<TokenKind>,
@@ -72,7 +72,7 @@ fn read_quoted(alloc: Global, text: &str) -> Result<Option<Found<'_>>, AllocErro
     }))
 }
 
-// A quote directly behind the text's end stands for a quote inside, where a later one ends the text.
+// A quote directly after the text's end stands for a quote inside, where a later one ends the text.
 fn read_text(alloc: Global, text: &str) -> Result<Option<Found<'_>>, AllocError>
     requires short { length text.now ≤ longest_text }
     requires class { first_class text.now ≡ Some Class.Quote }
@@ -133,7 +133,7 @@ fn read_other<'a>(text: &'a str, closes: &mut bool) -> Option<Found<'a>>
 }
 
 /// What stands at the front of a text of at most 1,048,576 bytes: the longest that begins there, or `None` where
-/// nothing does. `closes` may be false only where no `/*` of the text has a `*/` behind it, and so it is afterwards.
+/// nothing does. `closes` may be false only where no `/*` of the text has a `*/` after it, and so it is afterwards.
 pub fn read_place<'a>(
     alloc: Global,
     text: &'a str,

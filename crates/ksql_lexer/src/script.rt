@@ -23,7 +23,7 @@ fn is_semicolon(kind: &TokenKind) -> bool
 }
 
 impl Numbering {
-    // Behind a token.
+    // After a token.
     fn behind(self, kind: &TokenKind) -> Numbering
         requires { self.statement < 2 ^ 31 }
         ensures { result ≡ moved self kind.now }
@@ -73,10 +73,9 @@ fn read_script(alloc: Global, text: &str) -> Result<Vec<Token>, LexFault>
     Ok(tokens)
 }
 
-/// The tokens of a text of at most 1,048,576 bytes, in their order: the longest token at each place, where blanks
-/// and comments are passed over. A `/*` with no `*/` behind it is the two signs `/` and `*`. A quote or backquote
-/// with no other behind it begins no token, nor do digits directly followed by a letter or `_`. Takes a time linear
-/// in the text.
+/// The tokens of a text of at most 1,048,576 bytes, in their order: the longest token at each place, where blanks and
+/// comments are passed over. A `/*` with no `*/` after it is the two signs `/` and `*`. A quote or backquote with no
+/// other after it begins no token, nor do digits directly followed by a letter or `_`. Takes a time linear in the text.
 pub fn tokens(alloc: Global, text: &str) -> Result<Vec<Token>, LexFault>
     requires { length text.now ≤ longest_text }
     // What is answered is so: these are its tokens, or this is the statement of its first bad place.

@@ -39,6 +39,6 @@ Rose old new = (old < new) ⊎ (2 ^ 64 - 1 ≤ new)
 abbrev pub followed_by : Option (List ℕ) → List ℕ → Option (List ℕ)
 followed_by known bytes = option_map (λ w. w ++ bytes) known
 
--- some first bytes of the piece were written behind what stood there
+-- some first bytes of the piece were written after what stood there
 abbrev pub WrotePrefix : Option (List ℕ) → Option (List ℕ) → List ℕ → Type 0
 WrotePrefix old new piece = (k : ℕ) × (k ≤ length piece) × (new ≡ followed_by old (take k piece))

@@ -11,7 +11,7 @@ pub(crate) const READ_LIMIT: usize = 67_108_865;
 pub enum ReadFail {
     /// The file is missing or couldn't be read: its name is now among the names that failed.
     Failed,
-    /// Want of memory.
+    /// Out of memory.
     OutOfMemory,
 }
 

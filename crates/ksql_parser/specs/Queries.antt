@@ -20,6 +20,6 @@ abbrev pub SpellsClauses : Clauses → List Symbol → List Symbol → Type 0
 SpellsClauses c ts us = (s0 s1 s2 : List Symbol) × Spells (filter c.filter) ts s0 × Spells (group c.group) s0 s1
     × Spells (partition c.partition) s1 s2 × Spells (having c.having) s2 us
 
--- behind JOIN, before which this word may stand
+-- after JOIN, before which this word may stand
 unfoldable pub behind_join : Keyword → List Symbol → Option (List Symbol)
 behind_join k ts = behind_key key.Join (behind_or_here ts (behind_key k ts))

@@ -24,16 +24,16 @@ use Rattle.ksql_grammar.specs.declared.tree.StatementBody.TheVariants.{Declared,
 use Rattle.ksql_grammar.specs.Grammar.{Spells, table_of, columns, props, with_props, select}
 use Rattle.ksql_grammar.specs.Expressions.{◌>>=◌, Reader, behind_key, behind_sign, first}
 
--- a value and the symbols behind it, both lent
+-- a value and the symbols after it, both lent
 abbrev pub lent : {A : Type 0} → Bor A × Bor (List Symbol) → A × List Symbol
 lent x = (x.0.now, x.1.now)
 
--- behind this word, which isn't reserved
+-- after this word, which isn't reserved
 unfoldable pub behind_word : List ℕ → List Symbol → Option (List Symbol)
 behind_word w (Word found ∷ ts) = if bytes_eq found w then Some ts else None
 behind_word w _ = None
 
--- behind both, one after the other
+-- after both, one after the other
 unfoldable pub behind_words : List ℕ → List ℕ → List Symbol → Option (List Symbol)
 behind_words v w ts = behind_word v ts >>= behind_word w
 
@@ -65,7 +65,7 @@ property ts = do
   v ← property_value us
   Some (record { name = n.0; value = v.0 }, v.1)
 
--- behind AS, a name
+-- after AS, a name
 unfoldable pub behind_as : Reader (List ℕ)
 behind_as ts = behind_key key.As ts >>= first name_of
 
@@ -129,7 +129,7 @@ size ts = do
   vs ← behind_word (codes "SIZE") us
   span vs
 
--- behind TUMBLING
+-- after TUMBLING
 unfoldable pub tumbling : Reader WindowText
 tumbling ts = do
   s ← size ts
@@ -144,7 +144,7 @@ advance ts = do
   ws ← behind_key key.By vs
   span ws
 
--- behind HOPPING
+-- after HOPPING
 unfoldable pub hopping : Reader WindowText
 hopping ts = do
   s ← size ts
@@ -157,7 +157,7 @@ window_at (Some us) _ = tumbling us
 window_at None (Some us) = hopping us
 window_at None None = None
 
--- behind WINDOW
+-- after WINDOW
 unfoldable pub window : Reader WindowText
 window ts = window_at (behind_word (codes "TUMBLING") ts) (behind_word (codes "HOPPING") ts)
 
@@ -169,7 +169,7 @@ windowed_at ts None = Some (None, ts)
 unfoldable pub windowed : Reader (Option WindowText)
 windowed ts = windowed_at ts (behind_key key.Window ts)
 
--- the rest behind an optional part
+-- the rest after an optional part
 abbrev pub behind_or_here : List Symbol → Option (List Symbol) → List Symbol
 behind_or_here ts (Some us) = us
 behind_or_here ts None = ts
@@ -220,7 +220,7 @@ abbrev pub BeginsFrom : ℕ → List Symbol → Type 0
 BeginsFrom n [] = Unit {0}
 BeginsFrom n (s ∷ ss) = n ≤ place_of s
 
--- behind an item stands a comma or FROM
+-- after an item stands a comma or FROM
 abbrev pub ends_item : Symbol → Bool
 ends_item (Sign mark.Comma) = true
 ends_item (Key key.From) = true
@@ -230,18 +230,18 @@ abbrev pub EndsItem : List Symbol → Type 0
 EndsItem [] = ⊥
 EndsItem (s ∷ ss) = ends_item s ≡ true
 
--- behind the name of a statement and `(`: columns, `)`, WITH and properties
+-- after the name of a statement and `(`: columns, `)`, WITH and properties
 abbrev pub SpellsDeclared : StatementBody → List Symbol → List Symbol → Type 0
 SpellsDeclared (Declared cs ps) ts vs =
     (us : List Symbol) × Spells (columns cs) ts (Sign mark.Close ∷ Key key.With ∷ us) × Spells (props ps) us vs
 SpellsDeclared (Query ps q) ts vs = ⊥
 
--- behind the name of a statement: [WITH props] AS select
+-- after the name of a statement: [WITH props] AS select
 abbrev pub SpellsQuery : StatementBody → List Symbol → List Symbol → Type 0
 SpellsQuery (Declared cs ps) ts vs = ⊥
 SpellsQuery (Query ps q) ts vs = (us : List Symbol) × Spells (with_props ps) ts (Key key.As ∷ us) × Spells (select q) us vs
 
--- behind the name of a statement
+-- after the name of a statement
 abbrev pub SpellsBody : StatementBody → List Symbol → List Symbol → Type 0
 SpellsBody (Declared cs ps) ts vs = (us : List Symbol) × (ts ≡ Sign mark.Open ∷ us) × SpellsDeclared (Declared cs ps) us vs
 SpellsBody (Query ps q) ts vs = SpellsQuery (Query ps q) ts vs

@@ -7,7 +7,7 @@ pub enum ParseFault {
     /// The first statement that a rule refuses, by its number from 1, and the code of its first rule: `Syntax`,
     /// `TooLarge` or `Unsupported`.
     Refused { statement: u32, code: Code },
-    /// Want of memory.
+    /// Out of memory.
     OutOfMemory,
 }
 

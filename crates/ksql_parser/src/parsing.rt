@@ -29,7 +29,7 @@ fn first_semicolon(tokens: &[Token]) -> Option<usize>
     tokens.iter().position(|token| is_semicolon(&token.kind))
 }
 
-/// The tokens up to the first `;`, and those behind it.
+/// The tokens up to the first `;`, and those after it.
 fn first_part(tokens: &[Token]) -> (&[Token], &[Token])
     ensures parts { statements (kinds tokens.now) ≡ filter is_filled (kinds result.0.now ∷ []) ++ statements (kinds result.1.now) }
     ensures shorter { 0 < length tokens.now → length result.1.now < length tokens.now }

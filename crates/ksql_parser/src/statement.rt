@@ -26,7 +26,7 @@ use ksql_lexer::Mark;
 use ksql_types::{Chars, CopyOf};
 use std::alloc::Global;
 
-/// Whether STREAM or TABLE stands first, and the symbols behind it: true for TABLE.
+/// Whether STREAM or TABLE stands first, and the symbols after it: true for TABLE.
 #[tactic(auto, unfolding(ksql_grammar::specs::Expressions::first))]
 fn table(symbols: &[Symbol]) -> Result<(bool, &[Symbol]), ReadError>
     ensures { Gives with_rest result (read.first creates symbols.now) }
@@ -38,7 +38,7 @@ fn table(symbols: &[Symbol]) -> Result<(bool, &[Symbol]), ReadError>
     }
 }
 
-/// CREATE, what it creates and its name: whether it is a table, the name, and the symbols behind it.
+/// CREATE, what it creates and its name: whether it is a table, the name, and the symbols after it.
 #[tactic(auto, unfolding(crate::specs::Statements::head))]
 fn head(alloc: Global, symbols: &[Symbol]) -> Result<((bool, Chars), &[Symbol]), ReadError>
     ensures { Gives with_rest result (part.head symbols.now) }
@@ -73,7 +73,7 @@ fn query(alloc: Global, symbols: &[Symbol]) -> Result<(StatementBody, &[Symbol])
     Ok((StatementBody::Query { props, select }, rest))
 }
 
-/// What stands behind the name of a statement.
+/// What stands after the name of a statement.
 fn body(alloc: Global, symbols: &[Symbol]) -> Result<(StatementBody, &[Symbol]), ReadError>
     ensures found { IfOk result (λ x. part.SpellsBody x.0 symbols.now x.1.now) }
     ensures only { (b : OneBody) → part.SpellsBody b symbols.now [] → Gives with_rest result (Some (b, [])) }

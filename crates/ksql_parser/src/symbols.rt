@@ -30,7 +30,7 @@ fn word_symbol(alloc: Global, word: &Chars) -> Result<Symbol, AllocError>
     }
 }
 
-/// The token as the grammar reads it. The only error is want of memory.
+/// The token as the grammar reads it.
 fn symbol_of(alloc: Global, kind: &TokenKind) -> Result<Symbol, AllocError>
     requires written { IsTrue (is_written kind.now) }
     requires fits { ¬ (IsTrue (is_too_large kind.now)) }
@@ -45,7 +45,7 @@ fn symbol_of(alloc: Global, kind: &TokenKind) -> Result<Symbol, AllocError>
     }
 }
 
-/// The tokens as the grammar reads them. The only error is want of memory.
+/// The tokens as the grammar reads them.
 pub(crate) fn symbols_of(alloc: Global, tokens: &[Token]) -> Result<Vec<Symbol>, AllocError>
     requires written { AreWritten (kinds tokens.now) }
     requires fit { ¬ (HasTooLarge (kinds tokens.now)) }

@@ -30,8 +30,8 @@ abbrev pub greatest : List ℕ → ℕ
 greatest [] = 0
 greatest (n ∷ ns) = max n (greatest ns)
 
--- The stamps of one partition's records in one feed, the first of which has the offset first. Each has behind its feed
--- the greatest time of its partition up to and including it; before are the times of the records in front.
+-- The stamps of one partition's records in one feed, the first of which has the offset first. Each has after its feed the
+-- greatest time of its partition up to and including it; before are the times of the records in front.
 unfoldable pub stamped : (feed topic part first : ℕ) (before times : List ℕ) → List Stamp
 stamped feed topic part first before [] = []
 stamped feed topic part first before (time ∷ times) =

@@ -46,8 +46,7 @@ pub fn cmp_between(a: &Place, ra: u32, b: &Place, rb: u32) -> Ordering
         .then_with(|| a.path.items().cmp(b.path.items()))
 }
 
-/// The stamps of all records that a feed brings to these partitions, in the order of consumption. The only error is
-/// want of memory.
+/// The stamps of all records that a feed brings to these partitions, in the order of consumption.
 pub fn stamps_of(alloc: Global, feed: u64, parts: &[PartTimes]) -> Result<Vec<Stamp>, AllocError>
     requires { All HasOffsets parts.now }
     ensures { IfOk result (λ stamps. stamps.items ≡ stamps_of feed parts.now) }
@@ -80,7 +79,7 @@ fn push_stamps(stamps: &mut Vec<Stamp>, feed: u64, part: &PartTimes) -> Result<(
 }
 
 /// The order of consumption of these records: ascending by their stamps. Records of the same stamp keep their order.
-/// Takes of the order of n log n steps. The only error is want of memory.
+/// Takes of the order of n log n steps.
 pub fn order_of(mut records: Vec<SourceRecord>) -> Result<Vec<SourceRecord>, AllocError>
     ensures { IfOk result (λ order. order.items ≡ ascending (λ r. r.stamp) records.items) }
 {

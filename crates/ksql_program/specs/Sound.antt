@@ -25,15 +25,12 @@ use Rattle.ksql_program.specs.declared.query.JoinKind.TheVariants.{Inner, Left, 
 use Rattle.ksql_program.specs.declared.query.Query.{Query}
 use Rattle.ksql_program.specs.declared.query.Shape.{Shape}
 use Rattle.ksql_program.specs.declared.query.Shape.TheVariants as shape
-use Rattle.ksql_program.specs.declared.query.Window.{Window}
-use Rattle.ksql_program.specs.Names.{are_column_names, are_distinct, is_topic_name}
+use Rattle.ksql_types.specs.declared.relation.Window.{Window}
+use Rattle.ksql_types.specs.Columns.{columns}
+use Rattle.ksql_types.specs.Names.{are_column_names, are_distinct, is_topic_name}
 use Rattle.ksql_program.specs.Program.{relations, relation_at}
 
 -- ---- relations
-
--- the columns of a relation: those of its key, and then those of its value
-abbrev pub columns : Relation → List Column
-columns r = r.schema.keys ++ r.schema.values
 
 abbrev pub column_types : List Column → List (Option SqlType)
 column_types cs = map (λ c. Some c.ty) cs
@@ -149,8 +146,8 @@ abbrev pub argument_type : Option Typed → Option (Option SqlType)
 argument_type None = None
 argument_type (Some e) = Some e.ty
 
--- aggregates over rows of these columns, and the types of the columns that they have behind a grouping; one that has only
--- NULL's type has no column there
+-- aggregates over rows of these columns, and the types of the columns that they have after a grouping; one that has only NULL's
+-- type has no column there
 pub data Aggregates (over : Kind) (types : List (Option SqlType)) : List Agg → List (Option SqlType) → Type 0 where
   none : Aggregates over types [] []
   more : {a : Agg} {gs : List Agg} {t : SqlType} {ts : List (Option SqlType)} → IsAggOver over a.fun → IsArgument types a.arg
@@ -223,22 +220,22 @@ pub data Makes (over : Relation) (types : List (Option SqlType)) : Shape → Rel
       → IsCondition (map (λ k. k.ty) ks ++ ats ++ window_types w) h → AreColumns (map (λ k. k.ty) ks ++ ats ++ window_types w) vs out.schema.values
       → out.kind ≡ grouped_kind w → Makes over types (shape.Group ks w gs h vs) out
 
--- a query behind some items
+-- a query after some items
 pub data IsSoundQuery (before : List Item) : Query → Type 0 where
   query : {q : Query} {types : List (Option SqlType)} {left : Relation} → Reads before q.from types left → IsCondition types q.filter
       → Makes left types q.shape q.out → HasItsKey before q.from q.shape → q.out.declared ≡ false → IsSoundQuery before q
 
--- an item behind others
+-- an item after others
 abbrev pub IsSoundItem : List Item → Item → Type 0
 IsSoundItem before (Declared r) = IsSoundRelation (length before) r × IsSoundDeclaration r
 IsSoundItem before (Started q) = IsSoundRelation (length before) q.out × IsSoundQuery before q
 
--- each item, behind those in front of it
+-- each item, after those in front of it
 abbrev pub AreSoundItems : List Item → List Item → Type 0
 AreSoundItems before [] = Unit {0}
 AreSoundItems before (i ∷ is) = IsSoundItem before i × AreSoundItems (before ++ i ∷ []) is
 
--- a sound program: at most 200 relations, whose names differ, as do their topics, each sound behind those before it
+-- a sound program: at most 200 relations, whose names differ, as do their topics, each sound after those before it
 pub record IsSound (items : List Item) : Type 0 where
   pub few : length items ≤ 200
   pub names_differ : IsTrue (are_distinct (map (λ r. r.name) (relations items)))

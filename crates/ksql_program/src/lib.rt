@@ -1,11 +1,9 @@
-//! A script as it is run: its relations and its queries, and the names that these can have.
+//! A script as it is run: its relations and its queries.
 #![tactic(auto)]
 
 mod copies;
-mod names;
 mod program;
 mod query;
 
-pub use names::{are_column_names, is_among, is_topic_name};
 pub use program::{Item, Program, ProgramItems, relation_of};
-pub use query::{Agg, Aggs, From, JoinKind, Query, Shape, Window};
+pub use query::{Agg, Aggs, From, JoinKind, Query, Shape};

@@ -1,5 +1,5 @@
 use ksql_expr::{AggFun, Exprs, Typed};
-use ksql_types::{Items, Relation};
+use ksql_types::{Items, Relation, Window};
 
 /// A persistent query: what it reads, WHERE, what it makes of the rows, and its result. A row in `from` has the key
 /// columns and then the value columns of the left and then of the right relation, then, in a FULL join, ROWKEY.
@@ -34,7 +34,7 @@ pub enum JoinKind {
 }
 
 /// What a query makes of its rows. A plain query's keys and values are over a row in `from`. A grouped query's keys,
-/// and the arguments of its aggregates, are over a row in `from`; its `having` and `values` are over a row behind the
+/// and the arguments of its aggregates, are over a row in `from`; its `having` and `values` are over a row after the
 /// grouping, which has the keys, the aggregates that have a type and, where there is a window, its start and end.
 #[derive(Debug, Drop)]
 pub enum Shape {
@@ -60,12 +60,3 @@ pub struct Agg {
 
 /// The aggregates of a grouped query: those of the items and then those of HAVING, equal ones once.
 pub type Aggs = Items<Agg>;
-
-/// The windows of a grouped query, in milliseconds: they start at the multiples of `advance` and last `size`. A record
-/// comes too late for a window that ended `grace` before stream time.
-#[derive(Clone, Copy, Debug, PartialEq, Eq)]
-pub struct Window {
-    pub size: u64,
-    pub advance: u64,
-    pub grace: u64,
-}

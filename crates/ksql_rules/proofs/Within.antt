@@ -11,7 +11,7 @@ use Rattle.ksql_types.specs.declared.relation.Relation.{Relation}
 use Rattle.ksql_grammar.specs.declared.tree.JoinText.{JoinText}
 use Rattle.ksql_grammar.specs.declared.tree.Select.{Select}
 use Rattle.ksql_grammar.specs.declared.tree.Source.{Source}
-use Rattle.ksql_program.specs.Sound.{columns}
+use Rattle.ksql_types.specs.Columns.{columns}
 use Rattle.ksql_clauses.specs.declared.sources.Known.{Known}
 use Rattle.ksql_clauses.specs.Items.{HasShortNames}
 use Rattle.ksql_clauses.specs.Sources.{alias_of, sources, known, all_known, is_full, scope_columns, scope_column, rowkey, rowkey_of, from_columns}

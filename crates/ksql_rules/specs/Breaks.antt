@@ -20,8 +20,8 @@ use Rattle.ksql_grammar.specs.declared.tree.StatementBody.TheVariants.{Declared,
 use Rattle.ksql_grammar.specs.declared.tree.WindowText.{WindowText}
 use Rattle.ksql_types.specs.declared.code.Code.{Code}
 use Rattle.ksql_types.specs.declared.code.Code.TheVariants as code
-use Rattle.ksql_program.specs.Names.{are_column_names, is_topic_name}
-use Rattle.ksql_program.specs.Sound.{columns}
+use Rattle.ksql_types.specs.Names.{are_column_names, is_topic_name}
+use Rattle.ksql_types.specs.Columns.{columns}
 use Rattle.ksql_grouping.specs.Grouping.{has_aggregate, has_ordered_aggregate, has_nested_aggregate, has_bare_column}
 use Rattle.ksql_clauses.specs.declared.items.Named.{Named}
 use Rattle.ksql_clauses.specs.declared.sources.Known.{Known}

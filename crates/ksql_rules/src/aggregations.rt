@@ -45,7 +45,7 @@ fn one_has_unknown(exprs: &[&Expr]) -> bool
     exprs.iter().any(|expr| has_unknown_function(expr))
 }
 
-/// Some expressions with resolved names. The only error is want of memory.
+/// Some expressions with resolved names.
 pub fn each_resolved(alloc: Global, scope: &Scope, exprs: &[Expr]) -> Result<Vec<Expr>, AllocError>
     ensures { IfOk result (λ each. each.items ≡ map (names.resolved scope.now) exprs.now) }
 {
@@ -82,8 +82,7 @@ fn is_having_bare(
     }
 }
 
-/// Whether a column of the result, or HAVING, has a column that is neither in an aggregate nor in a group expression. The
-/// only error is want of memory.
+/// Whether a column of the result, or HAVING, has a column that is neither in an aggregate nor in a group expression.
 fn has_bare(alloc: Global, findings: &Findings) -> Result<bool, AllocError>
     requires { AreFindings findings.now }
     ensures { let q = findings.now.select.now in let ks = findings.now.known.items in
@@ -123,7 +122,7 @@ fn has_ordered(findings: &Findings) -> bool
     one_has_ordered(&findings.late)
 }
 
-/// Whether a query uses aggregates where it can't, or groups without them. The only error is want of memory.
+/// Whether a query uses aggregates where it can't, or groups without them.
 pub fn misuses_aggregates(alloc: Global, findings: &Findings) -> Result<bool, AllocError>
     requires { AreFindings findings.now }
     ensures { IfOk result (λ misused. misused ≡ spec.misuses_aggregates findings.now.select.now findings.now.known.items) }

@@ -31,7 +31,7 @@ pub enum Body<'a> {
     Query(&'a [Property], Findings<'a>),
 }
 
-/// The body of a statement over the relations of a catalog. The only error is want of memory.
+/// The body of a statement over the relations of a catalog.
 pub fn body_of<'a>(
     alloc: Global,
     catalog: &Catalog,
@@ -52,7 +52,7 @@ pub fn body_of<'a>(
     }
 }
 
-/// Whether a query breaks the rule of a code. The only error is want of memory.
+/// Whether a query breaks the rule of a code.
 fn query_breaks(
     alloc: Global,
     catalog: &Catalog,
@@ -115,7 +115,7 @@ fn body_breaks(
     }
 }
 
-/// Whether a statement, whose body is this, breaks the rule of a code. The only error is want of memory.
+/// Whether a statement, whose body is this, breaks the rule of a code.
 pub fn breaks(
     alloc: Global,
     catalog: &Catalog,

@@ -3,14 +3,13 @@
 ghost use Rattle.std.specs.Prelude.{◌≡◌, ◌↔◌, IfOk, IsTrue, filter, length, map, not, unwrap_or};
 ghost use Rattle.std.specs.List.{list_any};
 ghost use Rattle.ksql_clauses.specs.Properties as properties;
-ghost use Rattle.ksql_program.specs.Names as names;
+ghost use Rattle.ksql_types.specs.Names as names;
 ghost use Rattle.ksql_rules.specs.Breaks as spec;
 
 use crate::topics::{has_bad_topic, has_many_partitions, is_taken};
 use ksql_clauses::{are_bad, format_in, topic_in};
 use ksql_grammar::{ColumnText, KeyMark, Property, Statement};
-use ksql_program::are_column_names;
-use ksql_types::{Catalog, Chars, Code, Format};
+use ksql_types::{Catalog, Chars, Code, Format, are_column_names};
 use std::alloc::{AllocError, Global};
 
 /// The most columns of a relation.
@@ -71,7 +70,7 @@ fn names_of<'a>(alloc: Global, columns: &'a [ColumnText]) -> Result<Vec<&'a Char
     Ok(found)
 }
 
-/// Whether two columns share a name, or one has a name that no column can have. The only error is want of memory.
+/// Whether two columns share a name, or one has a name that no column can have.
 fn has_bad_names(alloc: Global, columns: &[ColumnText]) -> Result<bool, AllocError>
     ensures { IfOk result (λ bad. bad ≡ not (names.are_column_names (map (λ c. c.name) columns.now))) }
 {
@@ -98,7 +97,7 @@ fn is_declaration_bad(columns: &[ColumnText], props: &[Property]) -> bool
         || (is_delimited(props) && has_only_keys(columns))
 }
 
-/// Whether a declaration breaks the rule of a code. The only error is want of memory.
+/// Whether a declaration breaks the rule of a code.
 pub fn declaration_breaks(
     alloc: Global,
     catalog: &Catalog,

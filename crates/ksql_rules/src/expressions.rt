@@ -38,7 +38,7 @@ fn on_exprs<'a>(alloc: Global, select: &'a Select) -> Result<Vec<&'a Expr>, Allo
     Ok(found)
 }
 
-/// The expressions of a query but those of its items and of HAVING. The only error is want of memory.
+/// The expressions of a query but those of its items and of HAVING.
 pub fn early_exprs<'a>(alloc: Global, select: &'a Select) -> Result<Vec<&'a Expr>, AllocError>
     ensures { IfOk result (λ all. map (λ a. a.now) all.items ≡ sources.early_exprs select.now) }
 {
@@ -60,7 +60,7 @@ fn item_exprs<'a>(alloc: Global, items: &'a [SelectItem]) -> Result<Vec<&'a Expr
     Ok(found)
 }
 
-/// The expressions of a query's items and of HAVING. The only error is want of memory.
+/// The expressions of a query's items and of HAVING.
 pub fn late_exprs<'a>(alloc: Global, select: &'a Select) -> Result<Vec<&'a Expr>, AllocError>
     ensures { IfOk result (λ all. map (λ a. a.now) all.items ≡ sources.late_exprs select.now) }
 {

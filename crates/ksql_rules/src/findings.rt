@@ -44,7 +44,7 @@ pub struct Findings<'a> {
     pub in_late: Found,
 }
 
-/// What is found out of an expression in a scope. The only error is want of memory.
+/// What is found out of an expression in a scope.
 fn judged(alloc: Global, scope: &Scope, expr: &Expr) -> Result<Judged, AllocError>
     requires small { IsSmall expr.now }
     requires columns { length scope.now.columns ≤ 2 ^ 32 - 2 }
@@ -53,7 +53,7 @@ fn judged(alloc: Global, scope: &Scope, expr: &Expr) -> Result<Judged, AllocErro
     judge(alloc, scope, scope.windowed, expr)
 }
 
-/// The types that an expression can have in a scope. The only error is want of memory.
+/// The types that an expression can have in a scope.
 pub fn types_of(alloc: Global, scope: &Scope, expr: &Expr) -> Result<Types, AllocError>
     requires small { IsSmall expr.now }
     requires columns { length scope.now.columns ≤ 2 ^ 32 - 2 }
@@ -63,7 +63,7 @@ pub fn types_of(alloc: Global, scope: &Scope, expr: &Expr) -> Result<Types, Allo
     Ok(found.types)
 }
 
-/// What is found out of some expressions in a scope. The only error is want of memory.
+/// What is found out of some expressions in a scope.
 #[tactic(auto, unfolding(ksql_typing::specs::Judged::judged))]
 fn found_in(alloc: Global, scope: &Scope, exprs: &[&Expr]) -> Result<Found, AllocError>
     requires small { All IsSmall (map (λ a. a.now) exprs.now) }
@@ -86,7 +86,7 @@ fn found_in(alloc: Global, scope: &Scope, exprs: &[&Expr]) -> Result<Found, Allo
     Ok(found)
 }
 
-/// What is found out of a query over the relations of a catalog. The only error is want of memory.
+/// What is found out of a query over the relations of a catalog.
 pub fn find_out<'a>(
     alloc: Global,
     catalog: &Catalog,

@@ -30,7 +30,7 @@ pub fn on_sides(on: &Expr) -> Option<(&Expr, &Expr)>
     }
 }
 
-/// A column of the relation that is known by an alias, as an expression. The only error is want of memory.
+/// A column of the relation that is known by an alias, as an expression.
 fn column_expr(alloc: Global, alias: &Chars, column: &Column) -> Result<Expr, AllocError>
     ensures { IfOk result (λ key. key ≡ Expr.Name (Some alias.now) column.now.name) }
 {
@@ -42,7 +42,7 @@ fn column_expr(alloc: Global, alias: &Chars, column: &Column) -> Result<Expr, Al
     })
 }
 
-/// Whether an expression is a relation's only key column. The only error is want of memory.
+/// Whether an expression is a relation's only key column.
 fn is_only_key(alloc: Global, scope: &Scope, known: &Known, expr: &Expr) -> Result<bool, AllocError>
     ensures { IfOk result (λ only. only ≡ spec.is_only_key scope.now known.now expr.now) }
 {
@@ -72,7 +72,7 @@ fn is_left_side(alloc: Global, scope: &Scope, left: &Known, expr: &Expr) -> Resu
     is_only_key(alloc, scope, left, expr)
 }
 
-/// Whether these two are the left side's key and the right relation's. The only error is want of memory.
+/// Whether these two are the left side's key and the right relation's.
 fn are_sides(
     alloc: Global,
     scope: &Scope,
@@ -107,8 +107,7 @@ fn left_key<'a>(
     Ok(None)
 }
 
-/// The left side's join key where ON is of the form `a = b`, in one of the two orders. The scope is that of FROM. The
-/// only error is want of memory.
+/// The left side's join key where ON is of the form `a = b`, in one of the two orders. The scope is that of FROM.
 pub fn join_key<'a>(
     alloc: Global,
     scope: &Scope,
@@ -130,7 +129,7 @@ pub fn join_key<'a>(
     }
 }
 
-/// For each of some expressions, itself alone. The only error is want of memory.
+/// For each of some expressions, itself alone.
 fn alone(alloc: Global, expr: Expr) -> Result<Vec<Expr>, AllocError>
     ensures { IfOk result (λ one. one.items ≡ expr ∷ []) }
 {
@@ -139,7 +138,7 @@ fn alone(alloc: Global, expr: Expr) -> Result<Vec<Expr>, AllocError>
     Ok(one)
 }
 
-/// Each of some expressions alone, with resolved names. The only error is want of memory.
+/// Each of some expressions alone, with resolved names.
 fn resolved_alone(
     alloc: Global,
     scope: &Scope,
@@ -154,7 +153,7 @@ fn resolved_alone(
     Ok(each)
 }
 
-/// Each key column of a relation alone. The only error is want of memory.
+/// Each key column of a relation alone.
 fn each_key(alloc: Global, known: &Known) -> Result<Vec<Vec<Expr>>, AllocError>
     ensures { IfOk result (λ each. map (λ es. es.items) each.items ≡ spec.alone (spec.key_exprs known.now)) }
 {
@@ -165,8 +164,7 @@ fn each_key(alloc: Global, known: &Known) -> Result<Vec<Vec<Expr>>, AllocError>
     Ok(each)
 }
 
-/// The key columns of the left relation one by one, each beside that of the right one, where there is one. The only
-/// error is want of memory.
+/// The key columns of the left relation one by one, each beside that of the right one, where there is one.
 fn beside(alloc: Global, left: &Known, right: &Known) -> Result<Vec<Vec<Expr>>, AllocError>
     ensures { IfOk result (λ each. map (λ es. es.items) each.items ≡ spec.beside (spec.key_exprs left.now) (spec.key_exprs right.now)) }
 {
@@ -202,7 +200,7 @@ fn rowkey(alloc: Global) -> Result<Expr, AllocError>
     })
 }
 
-/// What the key of a join of two tables needs. The only error is want of memory.
+/// What the key of a join of two tables needs.
 fn tables_need(
     alloc: Global,
     word: JoinWord,
@@ -222,8 +220,7 @@ fn tables_need(
     }
 }
 
-/// What the key of a join of a stream and a table needs, where the stream's side of ON is this. The only error is want
-/// of memory.
+/// What the key of a join of a stream and a table needs, where the stream's side of ON is this.
 fn stream_needs(
     alloc: Global,
     word: JoinWord,
@@ -243,8 +240,7 @@ fn stream_needs(
     Ok(needs)
 }
 
-/// What the key of a query without GROUP BY and PARTITION BY needs. The scope is that of FROM. The only error is want
-/// of memory.
+/// What the key of a query without GROUP BY and PARTITION BY needs. The scope is that of FROM.
 fn join_needs(
     alloc: Global,
     scope: &Scope,
@@ -276,7 +272,7 @@ fn join_needs(
 }
 
 /// For each column of the key that a query's result needs, the expressions of which one has to stand among the items.
-/// The scope is that of FROM. The only error is want of memory.
+/// The scope is that of FROM.
 fn needs(
     alloc: Global,
     scope: &Scope,
@@ -320,7 +316,7 @@ fn first_of(exprs: &[Expr], columns: &[Named]) -> Option<usize>
 }
 
 /// The numbers of the key's columns among those of a query's result; nothing for one that is missing. The scope is that
-/// of FROM. The only error is want of memory.
+/// of FROM.
 pub fn key_places(
     alloc: Global,
     scope: &Scope,
@@ -349,7 +345,7 @@ fn column_at(columns: &[Named], place: Option<usize>) -> Option<&Named>
     }
 }
 
-/// The columns of a result at some places: those of its key, where these are the key's. The only error is want of memory.
+/// The columns of a result at some places: those of its key, where these are the key's.
 pub fn key_columns<'a>(
     alloc: Global,
     columns: &'a [Named],
@@ -373,8 +369,7 @@ fn is_place(number: usize, places: &[Option<usize>]) -> bool
     places.iter().any(|place| *place == Some(number))
 }
 
-/// The columns of a result at no such place: those of its value, where these are the key's. The only error is want of
-/// memory.
+/// The columns of a result at no such place: those of its value, where these are the key's.
 #[tactic(auto, unfolding(crate::specs::Breaks::besides))]
 pub fn value_columns<'a>(
     alloc: Global,

@@ -29,7 +29,7 @@ const CODES: [Code; 15] = [
     Code::BadProperty,
 ];
 
-/// The first of some codes whose rule a statement breaks. The only error is want of memory.
+/// The first of some codes whose rule a statement breaks.
 fn first_broken(
     alloc: Global,
     catalog: &Catalog,
@@ -51,7 +51,7 @@ fn first_broken(
 }
 
 /// The lowest code of the rules that a statement breaks, where the relations of the catalog stand before it; None where
-/// it breaks none. The only error is want of memory.
+/// it breaks none.
 pub fn lowest_code(
     alloc: Global,
     catalog: &Catalog,

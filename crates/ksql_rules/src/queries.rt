@@ -15,8 +15,7 @@ use ksql_clauses::{
     is_too_large, is_windowed, joined_streams, reads_stream,
 };
 use ksql_grammar::{Property, Select, SelectItem, WindowText};
-use ksql_program::are_column_names;
-use ksql_types::{Chars, Format};
+use ksql_types::{Chars, Format, are_column_names};
 use std::alloc::{AllocError, Global};
 
 /// The most columns of a relation.
@@ -116,8 +115,7 @@ fn with_names<'a>(
     Ok(found)
 }
 
-/// Whether two columns of a result share a name, or one has a name that no column can have. The only error is want of
-/// memory.
+/// Whether two columns of a result share a name, or one has a name that no column can have.
 pub fn has_bad_names(alloc: Global, findings: &Findings) -> Result<bool, AllocError>
     requires { AreFindings findings.now }
     ensures { IfOk result (λ bad. bad ≡ spec.has_bad_names findings.now.select.now findings.now.known.items) }
@@ -260,7 +258,7 @@ fn is_delimited(format: Format) -> bool
     matches!(format, Format::Delimited)
 }
 
-/// Whether the properties of a query are wrong. The only error is want of memory.
+/// Whether the properties of a query are wrong.
 pub fn is_query_bad(
     alloc: Global,
     name: &Chars,

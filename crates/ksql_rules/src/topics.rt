@@ -8,8 +8,7 @@ ghost use Rattle.ksql_rules.specs.Breaks as spec;
 
 use ksql_clauses::{has_topic, partitions_in, topic_in};
 use ksql_grammar::{Property, Statement, StatementBody};
-use ksql_program::is_topic_name;
-use ksql_types::{Catalog, Chars};
+use ksql_types::{Catalog, Chars, is_topic_name};
 
 /// The most partitions of a topic.
 const MOST_PARTITIONS: u64 = 64;

@@ -17,7 +17,7 @@ use ksql_grammar::{Expr, Select};
 use ksql_scope::{Scope, can_agree, can_be_true, has_value};
 use std::alloc::{AllocError, Global};
 
-/// Whether a part, where it is there, has a type that fits BOOLEAN. The only error is want of memory.
+/// Whether a part, where it is there, has a type that fits BOOLEAN.
 fn fits_truth(alloc: Global, scope: &Scope, part: &Option<Expr>) -> Result<bool, AllocError>
     requires small { All IsSmall (sources.there part.now) }
     requires columns { length scope.now.columns ≤ 2 ^ 32 - 2 }
@@ -29,7 +29,7 @@ fn fits_truth(alloc: Global, scope: &Scope, part: &Option<Expr>) -> Result<bool,
     }
 }
 
-/// Whether each column of a result has a type other than that of NULL alone. The only error is want of memory.
+/// Whether each column of a result has a type other than that of NULL alone.
 fn are_valued(alloc: Global, scope: &Scope, columns: &[Named]) -> Result<bool, AllocError>
     requires small { All (λ c. IsSmall c.expr) columns.now }
     requires columns { length scope.now.columns ≤ 2 ^ 32 - 2 }
@@ -43,7 +43,7 @@ fn are_valued(alloc: Global, scope: &Scope, columns: &[Named]) -> Result<bool, A
     Ok(valued)
 }
 
-/// Whether the sides of ON have types that agree. The only error is want of memory.
+/// Whether the sides of ON have types that agree.
 fn do_sides_agree(alloc: Global, scope: &Scope, on: &Expr) -> Result<bool, AllocError>
     requires small { IsSmall on.now }
     requires columns { length scope.now.columns ≤ 2 ^ 32 - 2 }
@@ -70,7 +70,7 @@ fn does_on_agree(alloc: Global, scope: &Scope, select: &Select) -> Result<bool, 
     }
 }
 
-/// Whether the expressions of a query have the types that their places want. The only error is want of memory.
+/// Whether the expressions of a query have the types that their places want.
 pub fn is_query_typed(alloc: Global, findings: &Findings) -> Result<bool, AllocError>
     requires { AreFindings findings.now }
     ensures { IfOk result (λ typed. IsTrue typed ↔ breaks.IsQueryTyped findings.now.select.now findings.now.known.items) }

@@ -7,13 +7,13 @@ use Rattle.ksql_expr.specs.declared.typed.TypedNode.TheVariants as n
 use Rattle.ksql_scope.specs.declared.scope.Scope.{Scope}
 use Rattle.ksql_scope.specs.declared.scope.ScopeColumn.{ScopeColumn}
 
--- whether what is known by an alias can be named behind a qualifier, where one is written
+-- whether what is known by an alias can be named after a qualifier, where one is written
 abbrev pub is_qualified : Option (List ℕ) → Option (List ℕ) → Bool
 is_qualified None alias = true
 is_qualified (Some q) None = false
 is_qualified (Some q) (Some alias) = bytes_eq alias q
 
--- whether a column is known by a name behind a qualifier
+-- whether a column is known by a name after a qualifier
 abbrev pub is_known_as : Option (List ℕ) → List ℕ → ScopeColumn → Bool
 is_known_as q name c = is_qualified q c.alias && bytes_eq c.column.name name
 
@@ -37,7 +37,7 @@ abbrev pub row_time : Scope → Option (List ℕ) → List ℕ → List Meaning
 row_time s q name =
     if s.stream && bytes_eq name (codes "ROWTIME") && is_qualified q (first_alias s.columns) then (n.RowTime, sql.Big) ∷ [] else []
 
--- WINDOWSTART and WINDOWEND, behind the columns
+-- WINDOWSTART and WINDOWEND, after the columns
 abbrev pub window_bounds : Scope → Option (List ℕ) → List ℕ → List Meaning
 window_bounds s (Some q) name = []
 window_bounds s None name =

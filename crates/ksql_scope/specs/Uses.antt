@@ -16,7 +16,7 @@ perhaps (Some xs) = xs
 abbrev pub all_of : {A : Type 0} → List (List A) → List A
 all_of xss = flat_map (λ xs. xs) xss
 
--- the lists of a form's parts, one behind the other
+-- the lists of a form's parts, one after the other
 abbrev pub gathered : {A : Type 0} → Expr-F (List A) (List A) → List A
 gathered (Expr-F.Digits number) = []
 gathered (Expr-F.Text content) = []

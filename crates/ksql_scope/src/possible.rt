@@ -96,7 +96,7 @@ fn sign_can(arg: Types, ty: Option<SqlType>) -> bool
         .any(|x| arg.has(*x) && is_one(sign_type(*x), ty))
 }
 
-/// The types behind a sign.
+/// The types after a sign.
 pub fn sign(arg: Types) -> Types
     ensures { result ≡ spec.sign_types arg }
 {

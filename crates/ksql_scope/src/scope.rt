@@ -1,7 +1,7 @@
 use ksql_types::{Chars, Column, Items};
 
 /// What names can stand for: the columns of a row; where `stream` is true the row's time ROWTIME, which the alias of
-/// the first column may qualify; and where `windowed` is true WINDOWSTART and WINDOWEND, the two columns behind those of
+/// the first column may qualify; and where `windowed` is true WINDOWSTART and WINDOWEND, the two columns after those of
 /// `columns`, outside aggregates.
 #[derive(Debug, Drop)]
 pub struct Scope {

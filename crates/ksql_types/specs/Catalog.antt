@@ -36,6 +36,6 @@ are_numbered first (relation ∷ more) = (relation.number == first) && are_numbe
 abbrev pub IsCatalog : List Relation → Type 0
 IsCatalog relations = IsTrue (are_numbered 0 relations && are_distinct relations)
 
--- each relation stands behind its own name
+-- each relation stands after its own name
 abbrev pub AreNamed : List (List ℕ × Relation) → Type 0
 AreNamed entries = IsTrue (list_all (λ entry. bytes_eq entry.0 entry.1.name) entries)

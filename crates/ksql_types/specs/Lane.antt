@@ -13,11 +13,11 @@ value_bytes (Big number) = to_be_bytes w64 (cast_unsigned w64 number)
 value_bytes (Txt bytes) = bytes
 value_bytes (Bool truth) = (if truth then 1 else 0) ∷ []
 
--- bytes behind their length, which is written as 4 bytes, big-endian
+-- bytes after their length, which is written as 4 bytes, big-endian
 abbrev pub behind_length : List ℕ → List ℕ
 behind_length bytes = to_be_bytes w32 (length bytes) ++ bytes
 
--- the bytes of a key: those of its one value alone, and of several values each behind its length
+-- the bytes of a key: those of its one value alone, and of several values each after its length
 abbrev pub key_bytes : List Value → List ℕ
 key_bytes [] = []
 key_bytes (value ∷ []) = value_bytes value

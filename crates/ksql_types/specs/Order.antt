@@ -1,9 +1,10 @@
--- The order of keys.
+-- The order of keys and of tasks.
 use Rattle.std.specs.Prelude.{List, Bool, true, false, IsTrue}
 use Rattle.std.specs.declared.cmp.Ordering.{Ordering}
 use Rattle.std.specs.declared.cmp.Ordering.TheVariants.{Equal}
-use Rattle.std.specs.Ordering.{nat_cmp, int_cmp, bool_cmp}
+use Rattle.std.specs.Ordering.{nat_cmp, int_cmp, bool_cmp, ordering_then}
 use Rattle.std.specs.Cmp.Lexicographic.{pointwise, slice_cmp}
+use Rattle.ksql_types.specs.declared.relation.TaskName.{TaskName}
 use Rattle.ksql_types.specs.declared.value.Value.{Value}
 use Rattle.ksql_types.specs.declared.value.Value.TheVariants.{Int, Big, Txt, Bool as Truth}
 
@@ -30,3 +31,7 @@ value_cmp _ _ = Equal
 -- how two keys compare: the first values that differ decide
 abbrev pub key_cmp : List Value → List Value → Ordering
 key_cmp = slice_cmp value_cmp
+
+-- how two tasks compare: by the sub-topology, and then by the partition
+abbrev pub task_cmp : TaskName → TaskName → Ordering
+task_cmp a b = ordering_then (nat_cmp a.sub b.sub) (nat_cmp a.part b.part)

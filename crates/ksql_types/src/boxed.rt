@@ -36,7 +36,7 @@ impl<T> Boxed<T> {
 }
 
 impl<T: Drop> Boxed<T> {
-    /// Puts the value on the heap. The only error is want of memory.
+    /// Puts the value on the heap.
     pub fn of(alloc: Global, value: T) -> Result<Boxed<T>, AllocError>
         ensures { IfOk result (λ boxed. boxed ≡ value) }
     {

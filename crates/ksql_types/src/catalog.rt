@@ -9,7 +9,7 @@ use indexmap::IndexMap;
 use std::alloc::{AllocError, AllocFailed, Global};
 use std::marker::Model;
 
-/// Why a relation isn't added: a relation has its name or its topic, or want of memory.
+/// Why a relation isn't added: a relation has its name or its topic, or out of memory.
 #[derive(Clone, Copy, Debug, PartialEq, Eq)]
 pub enum AddRefusal {
     NameTaken,
@@ -46,7 +46,7 @@ impl Catalog {
         }
     }
 
-    /// Adds a relation behind the others. Where it answers an error the catalog is as before.
+    /// Adds a relation after the others. Where it answers an error the catalog is as before.
     pub fn add(&mut self, alloc: Global, relation: Relation) -> Result<(), AddRefusal>
         requires { relation.number ≡ length self.old }
         ensures added { OnOk result (self.new ≡ self.old ++ relation ∷ []) }

@@ -4,7 +4,7 @@ use std::alloc::{AllocError, Global};
 
 /// Plain data that can be copied: the copy equals what it copies, as contracts see both.
 pub trait CopyOf: Drop {
-    /// An equal value. The only error is want of memory.
+    /// An equal value.
     fn copy(&self, alloc: Global) -> Result<Self, AllocError>
     where
         Self: Sized,

@@ -47,7 +47,7 @@ impl<T> Items<T> {
 
 impl<T: CopyOf> CopyOf for Items<T> {
     fn copy(&self, alloc: Global) -> Result<Items<T>, AllocError> {
-        let mut copied = Vec::new(alloc);
+        let mut copied = Vec::with_capacity(alloc, self.items().len())?;
         for item in self.items() {
             copied.push(item.copy(alloc)?)?;
         }

@@ -8,9 +8,8 @@ use crate::key::Key;
 use crate::value::Value;
 use std::alloc::{AllocError, Global};
 
-/// The bytes of a key: of one value its own bytes, and of several values each one's behind their length as 4 bytes.
-/// A text is its UTF-8, an INTEGER 4 and a BIGINT 8 bytes, a BOOLEAN one byte; numbers are big-endian. The only error
-/// is want of memory.
+/// The bytes of a key: of one value its own bytes, and of several values each one's after their length as 4 bytes. A
+/// text is its UTF-8, an INTEGER 4 and a BIGINT 8 bytes, a BOOLEAN one byte; numbers are big-endian.
 pub fn key_bytes(alloc: Global, key: &Key) -> Result<Bytes, AllocError>
     ensures { IfOk result (λ bytes. bytes ≡ spec.key_bytes key.now) }
 {
@@ -50,7 +49,7 @@ fn put_value(out: &mut Vec<u8>, value: &Value) -> Result<(), AllocError>
     }
 }
 
-/// Appends the bytes of each value behind their length.
+/// Appends the bytes of each value after their length.
 fn put_values(out: &mut Vec<u8>, values: &[Value]) -> Result<(), AllocError>
     ensures { OnOk result (out.new.items ≡ out.old.items ++ flat_map (λ v. behind_length (value_bytes v)) values.now) }
 {
@@ -97,7 +96,7 @@ fn hash_value(before: u32, value: &Value) -> u32
     }
 }
 
-/// The hash of the bytes of values, each behind its length.
+/// The hash of the bytes of values, each after its length.
 #[tactic(auto, unfolding(crate::specs::Lane::hash))]
 fn hash_values(values: &[Value]) -> u32
     ensures { result ≡ spec.hash (flat_map (λ v. behind_length (value_bytes v)) values.now) }

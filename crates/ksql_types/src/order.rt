@@ -1,9 +1,10 @@
 ghost use Rattle.std.specs.Prelude.{◌≡◌, List, ◌↔◌};
 ghost use Rattle.std.specs.Ordering.{ordering_reverse};
 ghost use Rattle.ksql_types.specs.declared.value.Value.{Value as OneValue};
-ghost use Rattle.ksql_types.specs.Order.{AreAlike, key_cmp, value_cmp};
+ghost use Rattle.ksql_types.specs.Order.{AreAlike, key_cmp, task_cmp, value_cmp};
 
 use crate::key::Key;
+use crate::relation::TaskName;
 use crate::value::Value;
 use std::cmp::Ordering;
 
@@ -33,6 +34,13 @@ fn cmp_value(a: &Value, b: &Value) -> Ordering
         (Value::Bool(first), Value::Bool(second)) => first.cmp(second),
         _ => Ordering::Equal,
     }
+}
+
+/// How two tasks compare: by the sub-topology, and then by the partition. Takes no memory.
+pub fn cmp_task(a: &TaskName, b: &TaskName) -> Ordering
+    ensures { result ≡ task_cmp a.now b.now }
+{
+    a.cmp(b)
 }
 
 /// The order of keys is a total one: a key equals itself and no other key of its types, two keys the other way round

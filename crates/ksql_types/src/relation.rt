@@ -57,6 +57,15 @@ pub struct Span {
     pub end: u64,
 }
 
+/// The windows of a grouped query, in milliseconds: they start at the multiples of `advance` and last `size`. A record
+/// comes too late for a window that ended `grace` before stream time.
+#[derive(Clone, Copy, Debug, PartialEq, Eq)]
+pub struct Window {
+    pub size: u64,
+    pub advance: u64,
+    pub grace: u64,
+}
+
 /// A task: the partition `part` of the sub-topology `sub`.
 #[derive(Clone, Copy, Debug, PartialEq, Eq, PartialOrd, Ord)]
 pub struct TaskName {

@@ -13,7 +13,7 @@ pub enum TypeFault {
     TypeMismatch,
     /// A function is unknown.
     Unsupported,
-    /// Want of memory.
+    /// Out of memory.
     OutOfMemory,
 }
 

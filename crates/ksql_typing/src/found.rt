@@ -122,7 +122,7 @@ pub fn there(part: Found<Judged>) -> Found<Perhaps>
     Ok(Perhaps::there(part))
 }
 
-/// With one more expression behind them.
+/// With one more expression after them.
 pub fn with_part(parts: Parts, part: Found<Judged>) -> Found<Parts>
     ensures { (x : OneJudged) (xs : List OneJudged) → IfOk part (λ a. a ≡ x) → AreOf parts xs
         → IfOk result (λ all. AreOf all (xs ++ x ∷ [])) }
@@ -131,7 +131,7 @@ pub fn with_part(parts: Parts, part: Found<Judged>) -> Found<Parts>
     parts.with(part)
 }
 
-/// With one more WHEN behind them.
+/// With one more WHEN after them.
 pub fn with_when(parts: WhenParts, cond: Found<Judged>, then: Found<Judged>) -> Found<WhenParts>
     ensures { (x y : OneJudged) (ws : List JudgedWhen) → IfOk cond (λ a. a ≡ x) → IfOk then (λ a. a ≡ y)
         → AreOfWhens parts ws → IfOk result (λ all. AreOfWhens all (ws ++ spec.when x y ∷ [])) }

@@ -106,7 +106,7 @@ impl Parts {
         }
     }
 
-    /// With one more expression behind them. The only error is want of memory.
+    /// With one more expression after them.
     pub fn with(self, part: Judged) -> Result<Parts, AllocError>
         ensures { IfOk result (λ all. (xs : List OneJudged) → AreOf self xs → AreOf all (xs ++ part ∷ [])) }
     {
@@ -134,7 +134,7 @@ impl WhenParts {
         }
     }
 
-    /// With one more WHEN behind them. The only error is want of memory.
+    /// With one more WHEN after them.
     pub fn with(self, cond: Judged, then: Judged) -> Result<WhenParts, AllocError>
         ensures { IfOk result (λ all. (ws : List JudgedWhen) → AreOfWhens self ws
             → AreOfWhens all (ws ++ spec.when cond then ∷ [])) }

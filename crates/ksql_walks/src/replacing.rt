@@ -17,12 +17,12 @@ pub trait Replaces {
     // What stands in the place of an expression, where it is replaced as a whole.
     ghost decide: { Self → Tree → Option Tree };
 
-    /// What stands in the place of an expression, where it is replaced. The only error is want of memory.
+    /// What stands in the place of an expression, where it is replaced.
     fn replacement(&self, alloc: Global, expr: &Expr) -> Result<Option<Expr>, AllocError>
         ensures { IfOk result (λ part. part ≡ decide self.now expr.now) };
 }
 
-/// An expression with its largest parts that are replaced in their place. The only error is want of memory.
+/// An expression with its largest parts that are replaced in their place.
 #[cycle(becomes)]
 pub fn becomes<R: Replaces>(alloc: Global, replaces: &R, expr: &Expr) -> Result<Expr, AllocError>
     ensures { IfOk result (λ made. made ≡ spec.becomes (R.decide replaces.now) expr.now) }

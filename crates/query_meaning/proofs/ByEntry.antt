@@ -16,7 +16,7 @@ use Rattle.ksql_program.specs.declared.query.From.TheVariants.{One, Join}
 use Rattle.ksql_program.specs.declared.query.JoinKind.{JoinKind}
 use Rattle.ksql_program.specs.declared.query.Shape.{Shape}
 use Rattle.ksql_program.specs.declared.query.Shape.TheVariants.{Plain, Group}
-use Rattle.ksql_program.specs.declared.query.Window.{Window}
+use Rattle.ksql_types.specs.declared.relation.Window.{Window}
 use Rattle.query_meaning.specs.Meaning.{results, stream_gives, records_of, declared_changes, Entry, node_meaning, where_gives, select_gives, with_key_cells, row_of, key_columns, changes_at, read_changes, filtered, shaped, query_changes}
 use Rattle.query_meaning.specs.Steps.{declared_gives, query_gives}
 

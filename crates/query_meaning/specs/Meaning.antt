@@ -136,7 +136,7 @@ abbrev pub item_changes : List Item → List SourceRecord → List (List Change)
 item_changes items order lists (Declared relation) = declared_changes relation order
 item_changes items order lists (Started query) = query_changes items lists query
 
--- one list of changes for each item, in their order, behind those of the items before
+-- one list of changes for each item, in their order, after those of the items before
 unfoldable pub meaning_from : List Item → List SourceRecord → List (List Change) → List Item → List (List Change)
 meaning_from items order lists [] = lists
 meaning_from items order lists (i ∷ is) = meaning_from items order (lists ++ item_changes items order lists i ∷ []) is

@@ -25,7 +25,7 @@ struct Plain<'a> {
 }
 
 /// The meaning of a program on the records that were fed, by going through them once for each declared relation, and
-/// through the changes of its source once for each query. The only error is want of memory.
+/// through the changes of its source once for each query.
 pub fn slow_meaning(
     alloc: Global,
     program: &Program,

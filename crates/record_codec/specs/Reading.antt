@@ -24,7 +24,7 @@ abbrev pub Gives : {X Y : Type 0} → (X → Y) → Result X ReadError → Optio
 Gives seen (Ok x) read = read ≡ Some (seen x)
 Gives seen (Err e) read = Fails e read
 
--- what was read, and the bytes behind it
+-- what was read, and the bytes after it
 abbrev pub with_rest : {A : Type 0} → A × Bor (List ℕ) → A × List ℕ
 with_rest x = (x.0, x.1.now)
 
@@ -37,7 +37,7 @@ abbrev pub ◌>>=◌ : {A B : Type 0} → Option A → (A → Option B) → Opti
 None >>= f = None
 (Some x) >>= f = f x
 
--- a reader gives what stands at the front, and the bytes behind it
+-- a reader gives what stands at the front, and the bytes after it
 abbrev pub Reader : Type 0 → Type 0
 Reader A = List ℕ → Option (A × List ℕ)
 
@@ -129,7 +129,7 @@ span_at = where_true (λ s. nat_lt s.start s.end) (seen_as span_of (both eight_a
 unfoldable pub window_at : Bool → Reader (Option Span)
 window_at of_table = where_true (λ o. of_table || not (is_some o)) (optional_at span_at)
 
--- the version, and whether a change of a table stands behind it
+-- the version, and whether a change of a table stands after it
 unfoldable pub head_at : Reader Bool
 head_at [] = None
 head_at (zero ∷ rest) = None
@@ -143,7 +143,7 @@ unfoldable pub body_at : Bool → Reader Body
 body_at false = seen_as Said row_at
 body_at true = seen_as (λ rows. Turned rows.0 rows.1) rows_at
 
--- the parts of a change, one behind the other
+-- the parts of a change, one after the other
 abbrev pub Parts : Type 0
 Parts = Bool × (Stamp × (List ℕ × (ℕ × (Option Span × (List Value × Body)))))
 
@@ -159,6 +159,6 @@ change_of p = record {
 unfoldable pub change_at : Reader Change
 change_at = seen_as change_of (both head_at (λ of_table. both stamp_at (λ _. both path_at (λ _. both eight_at (λ _. both (window_at of_table) (λ _. both key_at (λ _. body_at of_table)))))))
 
--- what all of the bytes are, and nothing behind it
+-- what all of the bytes are, and nothing after it
 abbrev pub whole : {A : Type 0} → Reader A → List ℕ → Option A
 whole read bytes = read bytes >>= λ x. if length x.1 == 0 then Some x.0 else None

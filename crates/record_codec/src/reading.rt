@@ -249,7 +249,7 @@ fn optional_row(alloc: Global, bytes: &[u8]) -> Result<(Option<Row>, &[u8]), Rea
     }
 }
 
-/// The version, and whether a change of a table stands behind it.
+/// The version, and whether a change of a table stands after it.
 #[tactic(auto, unfolding(crate::specs::Reading::head_at))]
 fn head(bytes: &[u8]) -> Result<(bool, &[u8]), ReadError>
     ensures { Gives with_rest result (read.head_at bytes.now) }
@@ -332,7 +332,7 @@ fn whole_row(alloc: Global, bytes: &[u8]) -> Result<Row, ReadError>
     Ok(row)
 }
 
-/// The change that the bytes spell, or `None` where they spell no change. The only error is want of memory.
+/// The change that the bytes spell, or `None` where they spell no change.
 pub fn decode(alloc: Global, bytes: &[u8]) -> Result<Option<Change>, AllocError>
     ensures found { IfOk result (λ o. IfSome o (λ c. IsSpellable c × (bytes.now ≡ spelling c))) }
     ensures only { (c : OneChange) → IsSpellable c → bytes.now ≡ spelling c → IfOk result (λ o. o ≡ Some c) }
@@ -344,7 +344,7 @@ pub fn decode(alloc: Global, bytes: &[u8]) -> Result<Option<Change>, AllocError>
     }
 }
 
-/// The row that the bytes spell, or `None` where they spell no row. The only error is want of memory.
+/// The row that the bytes spell, or `None` where they spell no row.
 pub fn decode_row(alloc: Global, bytes: &[u8]) -> Result<Option<Row>, AllocError>
     ensures found { IfOk result (λ o. IfSome o (λ r. IsSpellableRow r × (bytes.now ≡ values r))) }
     ensures only { (r : List OneValue) → IsSpellableRow r → bytes.now ≡ values r → IfOk result (λ o. o ≡ Some r) }

@@ -146,7 +146,7 @@ fn put_head(out: &mut Vec<u8>, body: &Body) -> Result<(), AllocError>
     Ok(())
 }
 
-/// The one spelling of a change. The only error is want of memory.
+/// The one spelling of a change.
 #[tactic(auto, unfolding(crate::specs::Spelling::spelling))]
 pub fn encode(alloc: Global, change: &Change) -> Result<Bytes, AllocError>
     requires { IsWithinLimits change.now }
@@ -164,7 +164,7 @@ pub fn encode(alloc: Global, change: &Change) -> Result<Bytes, AllocError>
     Ok(Items::of(out))
 }
 
-/// The one spelling of a row: how many values it has, and each. The only error is want of memory.
+/// The one spelling of a row: how many values it has, and each.
 pub fn encode_row(alloc: Global, row: &Row) -> Result<Bytes, AllocError>
     requires { IsShortRow row.now }
     ensures bytes { IfOk result (λ bytes. bytes ≡ spelled.values row.now) }

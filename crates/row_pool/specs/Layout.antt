@@ -5,7 +5,7 @@ use Rattle.std.specs.FinMap as map
 use Rattle.row_pool.specs.Pool.{blocks_of, blocks_in}
 use Rattle.row_pool.specs.declared.block.Block.{Block}
 
--- what stands behind the last block: no bytes, and no text begins there
+-- what stands after the last block: no bytes, and no text begins there
 abbrev pub no_block : Block
 no_block = record { bytes = []; next = 0; text_len = None }
 
@@ -21,7 +21,7 @@ next_at blocks i = (slice_index_or blocks i no_block).next
 abbrev pub len_at : List Block → ℕ → Option ℕ
 len_at blocks i = (slice_index_or blocks i no_block).text_len
 
--- the block that lies n links behind a block
+-- the block that lies n links after a block
 abbrev pub after : List Block → ℕ → ℕ → ℕ
 after blocks i zero = i
 after blocks i (suc n) = after blocks (next_at blocks i) n

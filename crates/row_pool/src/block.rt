@@ -54,7 +54,7 @@ pub(crate) fn blocks_for(len: usize) -> usize
     len.div_ceil(BLOCK).max(1)
 }
 
-/// Puts a text into the blocks from `first` on, and answers the block behind its last.
+/// Puts a text into the blocks from `first` on, and answers the block after its last.
 pub(crate) fn put_text(blocks: &mut [Block], first: usize, text: &[u8]) -> usize
     requires { IsChain blocks.old first (blocks_of (length text.now)) }
     ensures put { IsPut blocks.old blocks.new first text.now }
@@ -65,7 +65,7 @@ pub(crate) fn put_text(blocks: &mut [Block], first: usize, text: &[u8]) -> usize
     behind
 }
 
-// Writes a text into the blocks from `first` on, and answers the block behind its last.
+// Writes a text into the blocks from `first` on, and answers the block after its last.
 fn write_text(blocks: &mut [Block], first: usize, text: &[u8]) -> usize
     requires { IsChain blocks.old first (blocks_of (length text.now)) }
     ensures stored { text_from blocks.new first (length text.now) ≡ text.now }

@@ -67,7 +67,7 @@ impl Pool {
         }
     }
 
-    /// Makes `spare` at least `n`. After an `Err`, which is want of memory, it may have grown all the same.
+    /// Makes `spare` at least `n`. After an `Err`, which is out of memory, it may have grown all the same.
     pub fn reserve(&mut self, n: u64) -> Result<(), AllocError>
         ensures ok { OnOk result (n ≤ self.new.spare) }
         ensures enough { n ≤ self.old.spare → IsOk result }

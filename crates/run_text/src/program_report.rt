@@ -11,9 +11,9 @@ use ksql_types::{Kind, Relation};
 use std::alloc::{AllocError, Global};
 use topic_files::labels;
 
-/// The report on a program's relations: the records that were fed in their order, a head line and the changes of
-/// each relation, and a last line. `lists` has the changes of each relation at its number, and `closed` is the feed
-/// that each head line shows. The only error is want of memory.
+/// The report on a program's relations: the records that were fed in their order, a head line and the changes of each
+/// relation, and a last line. `lists` has the changes of each relation at its number, and `closed` is the feed that
+/// each head line shows.
 #[tactic(auto, using(crate::proofs::ReportLemmas::appends), unfolding(crate::specs::Report::report))]
 pub fn report(
     alloc: Global,

@@ -14,9 +14,8 @@ use Rattle.topic_files.specs.declared.topic.TopicLines.{TopicLines}
 abbrev pub in_part : ℕ → List SourceRecord → List SourceRecord
 in_part part records = filter (λ r. r.stamp.part == part) records
 
--- A record behind those of its topic's file in one feed. It stands in the lane of its key, or without a key in that of
--- its number in the file. Offsets count from 0 in each partition, and its high is the greatest time of its partition up
--- to and including it.
+-- A record after those of its topic's file in one feed. It stands in the lane of its key, or without a key in that of its number
+-- in the file. Offsets count from 0 in each partition, and its high is the greatest time of its partition up to and including it.
 abbrev pub fed_behind : ℕ → Relation → List SourceRecord → Fed → SourceRecord
 fed_behind feed relation before fed =
     let part = lane fed.key relation.partitions (length before) in
@@ -34,7 +33,7 @@ fed_behind feed relation before fed =
       value = fed.value;
     }
 
--- the records of a file in one feed, behind those before them
+-- the records of a file in one feed, after those before them
 unfoldable pub fed_from : ℕ → Relation → List SourceRecord → List Fed → List SourceRecord
 fed_from feed relation before [] = []
 fed_from feed relation before (fed ∷ feds) =

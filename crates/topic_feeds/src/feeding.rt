@@ -16,7 +16,7 @@ struct Reached {
 
 /// Adds the records of a relation's topic file, which are all in the feed of this number: each with its partition, its
 /// offset from 0 and the greatest time of its partition up to it. The relation has 1 to 64 partitions. Takes steps in
-/// proportion to the records. The only error is want of memory.
+/// proportion to the records.
 pub fn push_fed(
     alloc: Global,
     records: &mut Vec<SourceRecord>,

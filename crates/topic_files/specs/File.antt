@@ -14,7 +14,7 @@ use Rattle.topic_files.specs.Lines.{is_blank, lines_of, record_lines}
 use Rattle.topic_files.specs.Record.{fed_of}
 use Rattle.topic_files.specs.TopicLine.{data_of, topic_time}
 
--- how many bytes lines have, a line feed behind each counted
+-- how many bytes lines have, a line feed after each counted
 abbrev pub bytes_of : List (List ℕ) → ℕ
 bytes_of [] = 0
 bytes_of (line ∷ lines) = length line + 1 + bytes_of lines
@@ -31,12 +31,12 @@ passes room file lines = nat_lt room.records (length (record_lines lines)) || na
 abbrev pub is_topic_line : List ℕ → Bool
 is_topic_line line = is_some (option_and_then topic_time (data_of line))
 
--- what is wrong with a line of a file behind these lines: that the room is passed there, or else that it is neither
--- blank nor a topic line
+-- what is wrong with a line of a file after these lines: that the room is passed there, or else that it is neither blank nor a
+-- topic line
 abbrev pub fault : Room → List ℕ → List (List ℕ) → List ℕ → Option LineWhy
 fault room file before line = if passes room file (before ++ line ∷ []) then Some TooLarge else (if is_blank line || is_topic_line line then None else Some BadLine)
 
--- the first fault of these lines, which stand behind those before them, with the number of its line
+-- the first fault of these lines, which stand after those before them, with the number of its line
 abbrev pub first_fault_behind : Room → List ℕ → List (List ℕ) → List (List ℕ) → Option (ℕ × LineWhy)
 first_fault_behind room file before [] = None
 first_fault_behind room file before (line ∷ more) =

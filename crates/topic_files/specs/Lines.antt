@@ -12,7 +12,7 @@ without_empty_end [] = []
 without_empty_end (piece ∷ []) = if length piece == 0 then [] else piece ∷ []
 without_empty_end (piece ∷ next ∷ more) = piece ∷ without_empty_end (next ∷ more)
 
--- the lines of a file: the pieces between its line feeds, and what stands behind the last one if it isn't empty
+-- the lines of a file: the pieces between its line feeds, and what stands after the last one if it isn't empty
 abbrev pub lines_of : List ℕ → List (List ℕ)
 lines_of file = without_empty_end (slice_split is_line_feed file)
 

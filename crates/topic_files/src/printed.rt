@@ -11,8 +11,7 @@ use ksql_types::{Bytes, Column, Items, Relation, Value};
 use serde_json::Value as Json;
 use std::alloc::{AllocError, Global};
 
-/// The printed value of a row of the relation: a JSON object of its value columns in their order, without blanks. The
-/// only error is want of memory.
+/// The printed value of a row of the relation: a JSON object of its value columns in their order, without blanks.
 pub fn value_text(alloc: Global, relation: &Relation, row: &[Value]) -> Result<Bytes, AllocError>
     requires { length row.now ≡ length relation.now.schema.values }
     ensures { IfOk result (λ text. text ≡ object_text relation.now.schema.values row.now) }
@@ -23,7 +22,7 @@ pub fn value_text(alloc: Global, relation: &Relation, row: &[Value]) -> Result<B
     Ok(Items::of(out.into_bytes()))
 }
 
-/// The labels of columns: of each its name as a JSON text and a colon. The only error is want of memory.
+/// The labels of columns: of each its name as a JSON text and a colon.
 pub fn labels(alloc: Global, columns: &[Column]) -> Result<Vec<String>, AllocError>
     ensures { IfOk result (λ labels. map string_bytes labels.items ≡ labels_of columns.now) }
 {
@@ -45,8 +44,7 @@ fn label(alloc: Global, column: &Column) -> Result<String, AllocError>
     Ok(label)
 }
 
-/// Appends a row as a JSON object of the columns that have these labels, without blanks. The only error is want of
-/// memory.
+/// Appends a row as a JSON object of the columns that have these labels, without blanks.
 #[tactic(auto, using(crate::proofs::Texts::appends), unfolding(crate::specs::Printed::object_text))]
 pub fn push_object(
     out: &mut String,
@@ -82,7 +80,7 @@ fn push_fields(
     Ok(())
 }
 
-/// Appends a value as JSON. The only error is want of memory.
+/// Appends a value as JSON.
 #[tactic(auto, unfolding(crate::specs::Printed::printed))]
 pub fn push_printed(out: &mut String, alloc: Global, value: &Value) -> Result<(), AllocError>
     ensures { OnOk result (string_bytes out.new ≡ string_bytes out.old ++ printed value.now) }

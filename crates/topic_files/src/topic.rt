@@ -37,7 +37,7 @@ pub enum LineWhy {
     TooLarge,
 }
 
-/// Why a file isn't read: its first bad line, counted from 1, or want of memory.
+/// Why a file isn't read: its first bad line, counted from 1, or out of memory.
 #[derive(Debug, Drop, Error)]
 pub enum FileFault {
     #[error("line {line}: {why:?}")]

@@ -33,7 +33,7 @@ pub(crate) fn read_source(
     Ok((Source { name, alias }, rest))
 }
 
-/// The symbols behind JOIN, before which this reserved word may stand.
+/// The symbols after JOIN, before which this reserved word may stand.
 #[tactic(auto, unfolding(crate::specs::Queries::behind_join))]
 fn behind_join(word: Keyword, symbols: &[Symbol]) -> Option<&[Symbol]>
     ensures { option_copied result ≡ query.behind_join word symbols.now }
@@ -44,7 +44,7 @@ fn behind_join(word: Keyword, symbols: &[Symbol]) -> Option<&[Symbol]>
     }
 }
 
-/// How the next source is joined, where one is, and the symbols behind JOIN.
+/// How the next source is joined, where one is, and the symbols after JOIN.
 fn join_words(symbols: &[Symbol]) -> Option<(JoinWord, &[Symbol])>
     ensures { option_with_rest result ≡ part.join_words symbols.now }
 {
@@ -141,7 +141,7 @@ fn behind_changes(symbols: &[Symbol]) -> Option<&[Symbol]>
     behind_word("CHANGES", rest)
 }
 
-/// The symbols behind EMIT CHANGES, where it is there.
+/// The symbols after EMIT CHANGES, where it is there.
 #[tactic(auto, unfolding(crate::specs::Statements::emit))]
 pub(crate) fn behind_emit(symbols: &[Symbol]) -> &[Symbol]
     ensures { result.now ≡ part.emit symbols.now }

@@ -20,7 +20,7 @@ use ksql_lexer::Mark;
 use ksql_types::{CopyOf, Items};
 use std::alloc::Global;
 
-/// Which mark of a key stands first, and the symbols behind it.
+/// Which mark of a key stands first, and the symbols after it.
 #[tactic(auto, unfolding(crate::specs::Statements::key_mark))]
 fn key_mark(symbols: &[Symbol]) -> (KeyMark, &[Symbol])
     ensures { with_rest result ≡ part.key_mark symbols.now }

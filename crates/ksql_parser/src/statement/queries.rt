@@ -1,4 +1,4 @@
-//! SELECT and what stands behind it.
+//! SELECT and what stands after it.
 
 ghost use Rattle.std.specs.Prelude.{◌≡◌, List, [], ◌∷◌, Some, IfOk, option_map};
 ghost use Rattle.ksql_grammar.specs.declared.symbol.Keyword.TheVariants as key;
@@ -27,7 +27,7 @@ use ksql_lexer::Mark;
 use ksql_types::{Chars, CopyOf, Items};
 use std::alloc::Global;
 
-/// The name before `. *`, and the symbols behind.
+/// The name before `. *`, and the symbols after.
 #[tactic(auto, unfolding(crate::specs::Statements::star_of))]
 fn behind_star_of(symbols: &[Symbol]) -> Option<(&Chars, &[Symbol])>
     ensures { option_map lent result ≡ part.star_of symbols.now }
@@ -73,7 +73,7 @@ fn read_items(alloc: Global, symbols: &[Symbol]) -> Result<(SelectItems, &[Symbo
     }
 }
 
-/// What a query reads and selects: SELECT and what stands behind it up to the window.
+/// What a query reads and selects: SELECT and what stands after it up to the window.
 #[derive(Drop)]
 struct Front {
     items: SelectItems,
@@ -82,7 +82,7 @@ struct Front {
     window: Option<WindowText>,
 }
 
-/// What stands behind the window of a query.
+/// What stands after the window of a query.
 #[derive(Drop)]
 struct Clauses {
     filter: Option<Expr>,

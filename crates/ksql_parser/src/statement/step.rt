@@ -12,21 +12,21 @@ use ksql_lexer::Mark;
 use ksql_types::{Chars, CopyOf, SqlType};
 use std::alloc::Global;
 
-/// The symbols behind this reserved word, which has to stand there.
+/// The symbols after this reserved word, which has to stand there.
 pub(crate) fn key(key: Keyword, symbols: &[Symbol]) -> Result<&[Symbol], ReadError>
     ensures { Gives (λ rest. rest.now) result (read.behind_key key symbols.now) }
 {
     behind_key(key, symbols).ok_or(ReadError::Unspelled)
 }
 
-/// The symbols behind this sign, which has to stand there.
+/// The symbols after this sign, which has to stand there.
 pub(crate) fn sign(sign: Mark, symbols: &[Symbol]) -> Result<&[Symbol], ReadError>
     ensures { Gives (λ rest. rest.now) result (read.behind_sign sign symbols.now) }
 {
     behind_sign(sign, symbols).ok_or(ReadError::Unspelled)
 }
 
-/// The symbols behind this word.
+/// The symbols after this word.
 #[tactic(auto, unfolding(crate::specs::Statements::behind_word))]
 pub(crate) fn behind_word<'a>(word: &str, symbols: &'a [Symbol]) -> Option<&'a [Symbol]>
     ensures { option_copied result ≡ part.behind_word word.now symbols.now }
@@ -37,7 +37,7 @@ pub(crate) fn behind_word<'a>(word: &str, symbols: &'a [Symbol]) -> Option<&'a [
     }
 }
 
-/// The symbols behind these two words.
+/// The symbols after these two words.
 #[tactic(auto, unfolding(crate::specs::Statements::behind_words))]
 pub(crate) fn behind_words<'a>(
     word: &str,
@@ -50,7 +50,7 @@ pub(crate) fn behind_words<'a>(
     behind_word(next, rest)
 }
 
-/// The symbols behind this reserved word and BY.
+/// The symbols after this reserved word and BY.
 #[tactic(auto, unfolding(crate::specs::Statements::behind_by))]
 pub(crate) fn behind_by(key: Keyword, symbols: &[Symbol]) -> Option<&[Symbol]>
     ensures { option_copied result ≡ part.behind_by key symbols.now }
@@ -59,14 +59,14 @@ pub(crate) fn behind_by(key: Keyword, symbols: &[Symbol]) -> Option<&[Symbol]>
     behind_key(Keyword::By, rest)
 }
 
-/// The symbols behind this word, which has to stand there.
+/// The symbols after this word, which has to stand there.
 pub(crate) fn word<'a>(word: &str, symbols: &'a [Symbol]) -> Result<&'a [Symbol], ReadError>
     ensures { Gives (λ rest. rest.now) result (part.behind_word word.now symbols.now) }
 {
     behind_word(word, symbols).ok_or(ReadError::Unspelled)
 }
 
-/// A name, and the symbols behind it.
+/// A name, and the symbols after it.
 #[tactic(auto, unfolding(ksql_grammar::specs::Expressions::first))]
 pub(crate) fn behind_name(symbols: &[Symbol]) -> Option<(&Chars, &[Symbol])>
     ensures { option_map part.lent result ≡ read.first named symbols.now }
@@ -75,14 +75,14 @@ pub(crate) fn behind_name(symbols: &[Symbol]) -> Option<(&Chars, &[Symbol])>
     Some((name_of(symbol)?, rest))
 }
 
-/// A name, which has to stand there, and the symbols behind it.
+/// A name, which has to stand there, and the symbols after it.
 pub(crate) fn name(symbols: &[Symbol]) -> Result<(&Chars, &[Symbol]), ReadError>
     ensures { Gives part.lent result (read.first named symbols.now) }
 {
     behind_name(symbols).ok_or(ReadError::Unspelled)
 }
 
-/// A type, and the symbols behind it.
+/// A type, and the symbols after it.
 #[tactic(auto, unfolding(ksql_grammar::specs::Expressions::first))]
 pub(crate) fn sql_type(symbols: &[Symbol]) -> Result<(SqlType, &[Symbol]), ReadError>
     ensures { Gives with_rest result (read.first typed symbols.now) }
@@ -92,7 +92,7 @@ pub(crate) fn sql_type(symbols: &[Symbol]) -> Result<(SqlType, &[Symbol]), ReadE
     Ok((ty, rest))
 }
 
-/// The name behind AS, and the symbols behind it.
+/// The name after AS, and the symbols after it.
 #[tactic(auto, unfolding(crate::specs::Statements::behind_as))]
 fn behind_as(symbols: &[Symbol]) -> Option<(&Chars, &[Symbol])>
     ensures { option_map part.lent result ≡ part.behind_as symbols.now }
@@ -101,7 +101,7 @@ fn behind_as(symbols: &[Symbol]) -> Option<(&Chars, &[Symbol])>
     behind_name(rest)
 }
 
-/// An alias, where there is one, and the symbols behind it.
+/// An alias, where there is one, and the symbols after it.
 #[tactic(auto, unfolding(crate::specs::Statements::alias))]
 pub(crate) fn alias(
     alloc: Global,

@@ -1,4 +1,4 @@
-//! WINDOW and what stands behind it.
+//! WINDOW and what stands after it.
 
 ghost use Rattle.std.specs.Prelude.{◌≡◌};
 ghost use Rattle.std.specs.Option.{option_copied};
@@ -37,7 +37,7 @@ fn unit_of(symbol: &Symbol) -> Option<Unit>
     }
 }
 
-/// A unit of time, and the symbols behind it.
+/// A unit of time, and the symbols after it.
 #[tactic(auto, unfolding(ksql_grammar::specs::Expressions::first))]
 fn unit(symbols: &[Symbol]) -> Result<(Unit, &[Symbol]), ReadError>
     ensures { Gives with_rest result (read.first spec.unit_of symbols.now) }
@@ -47,7 +47,7 @@ fn unit(symbols: &[Symbol]) -> Result<(Unit, &[Symbol]), ReadError>
     Ok((unit, rest))
 }
 
-/// A number, and the symbols behind it.
+/// A number, and the symbols after it.
 #[tactic(auto, unfolding(ksql_grammar::specs::Expressions::first))]
 fn digits(symbols: &[Symbol]) -> Result<(u64, &[Symbol]), ReadError>
     ensures { Gives with_rest result (read.first part.digits_of symbols.now) }
@@ -58,7 +58,7 @@ fn digits(symbols: &[Symbol]) -> Result<(u64, &[Symbol]), ReadError>
     }
 }
 
-/// A span of time, and the symbols behind it.
+/// A span of time, and the symbols after it.
 #[tactic(auto, unfolding(crate::specs::Statements::span))]
 fn span(symbols: &[Symbol]) -> Result<(SpanText, &[Symbol]), ReadError>
     ensures { Gives with_rest result (part.span symbols.now) }
@@ -170,7 +170,7 @@ fn hopping(symbols: &[Symbol]) -> Result<(WindowText, &[Symbol]), ReadError>
     Ok((window, rest))
 }
 
-/// What stands behind WINDOW.
+/// What stands after WINDOW.
 #[tactic(auto, unfolding(crate::specs::Statements::window))]
 fn window(symbols: &[Symbol]) -> Result<(WindowText, &[Symbol]), ReadError>
     ensures { Gives with_rest result (part.window symbols.now) }

@@ -82,7 +82,7 @@ fn shown(alloc: Global, expr: &Expr) -> Result<String, Fail> {
     }
 }
 
-// The tree of an expression, as its copy shows it, with the number of symbols behind it.
+// The tree of an expression, as its copy shows it, with the number of symbols after it.
 fn tree(alloc: Global, text: &str) -> Result<String, Fail> {
     let symbols = symbols(alloc, text)?;
     let Ok((expr, rest)) = read_expression(alloc, &symbols) else {

@@ -1,7 +1,8 @@
 use Rattle.std.proofs.Common.{◌≡◌, take}
 use Rattle.std.specs.BTreeMap.{get}
 use Rattle.ksql_types.specs.declared.relation.TaskName.{TaskName}
-use Rattle.assignor.specs.Rule.{owner_of, task_cmp}
+use Rattle.ksql_types.specs.Order.{task_cmp}
+use Rattle.assignor.specs.Rule.{owner_of}
 use Rattle.assignor.proofs.previous.owners_by_task.Given as goal
 
 abbrev pub invariant-loop-owned : goal.invariant-loop-owned

@@ -1,5 +1,5 @@
 use Rattle.std.proofs.Common.{◌≡◌, ℕ, List, map, length, bytes_eq}
-use Rattle.ksql_program.specs.Names.{are_distinct}
+use Rattle.ksql_types.specs.Names.{are_distinct}
 use Rattle.ksql_clauses.specs.Properties.{name_of, has_kind, value_of}
 use Rattle.ksql_clauses.proofs.properties.are_distinct.Given as goal
 

@@ -1,6 +1,6 @@
 use Rattle.std.proofs.Common.{◌≡◌, ℕ, List, map, length, bytes_eq}
 use Rattle.std.specs.Str.{str_to_ascii_uppercase}
-use Rattle.ksql_program.specs.Names.{is_among}
+use Rattle.ksql_types.specs.Names.{is_among}
 use Rattle.ksql_clauses.specs.Properties.{name_of, has_kind, value_of}
 use Rattle.ksql_clauses.proofs.properties.is_named_among.Given as goal
 

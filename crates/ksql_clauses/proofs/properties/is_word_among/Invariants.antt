@@ -1,6 +1,6 @@
 use Rattle.std.proofs.Common.{◌≡◌, ℕ, List, map, length, bytes_eq}
 use Rattle.std.specs.Str.{str_to_ascii_uppercase}
-use Rattle.ksql_program.specs.Names.{is_among}
+use Rattle.ksql_types.specs.Names.{is_among}
 use Rattle.ksql_clauses.proofs.properties.is_word_among.Given as goal
 
 -- what is left decides

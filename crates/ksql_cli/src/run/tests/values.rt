@@ -1,5 +1,5 @@
 //! Two or three values of each form of expression: the ends of the types, NULL in each place, signs, characters of
-//! several bytes, positions before and behind a text.
+//! several bytes, positions before and after a text.
 
 use super::{STREAM, run_on};
 use std::alloc::{AllocError, Global};

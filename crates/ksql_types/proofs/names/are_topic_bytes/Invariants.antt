@@ -1,7 +1,7 @@
-use Rattle.std.proofs.Common.{◌≡◌, ℕ, List, map, length, bytes_eq}
+use Rattle.std.proofs.Common.{◌≡◌, length}
 use Rattle.std.specs.List.{list_all}
-use Rattle.ksql_program.specs.Names.{is_topic_byte}
-use Rattle.ksql_program.proofs.names.are_topic_bytes.Given as goal
+use Rattle.ksql_types.specs.Names.{is_topic_byte}
+use Rattle.ksql_types.proofs.names.are_topic_bytes.Given as goal
 
 -- what is left decides
 abbrev pub invariant-loop-bytes : goal.invariant-loop-bytes

@@ -2,9 +2,9 @@
 
 ghost use Rattle.std.specs.Prelude.{◌≡◌, map, not};
 ghost use Rattle.std.specs.List.{list_all};
-ghost use Rattle.ksql_program.specs.Names as spec;
+ghost use Rattle.ksql_types.specs.Names as spec;
 
-use ksql_types::Chars;
+use crate::chars::Chars;
 
 /// Names that no column has.
 const RESERVED_COLUMNS: [&str; 4] = ["ROWTIME", "ROWKEY", "WINDOWSTART", "WINDOWEND"];

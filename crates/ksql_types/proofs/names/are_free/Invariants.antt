@@ -1,8 +1,8 @@
-use Rattle.std.proofs.Common.{◌≡◌, ℕ, List, map, length, bytes_eq}
+use Rattle.std.proofs.Common.{◌≡◌, map, length}
 use Rattle.std.specs.List.{list_all}
 use Rattle.std.specs.Prelude.{not}
-use Rattle.ksql_program.specs.Names.{is_among, reserved_columns}
-use Rattle.ksql_program.proofs.names.are_free.Given as goal
+use Rattle.ksql_types.specs.Names.{is_among, reserved_columns}
+use Rattle.ksql_types.proofs.names.are_free.Given as goal
 
 -- what is left decides
 abbrev pub invariant-loop-names : goal.invariant-loop-names

@@ -1,6 +1,6 @@
-use Rattle.std.proofs.Common.{◌≡◌, ℕ, List, map, length, bytes_eq}
-use Rattle.ksql_program.specs.Names.{is_among}
-use Rattle.ksql_program.proofs.names.is_among.Given as goal
+use Rattle.std.proofs.Common.{◌≡◌, map, length}
+use Rattle.ksql_types.specs.Names.{is_among}
+use Rattle.ksql_types.proofs.names.is_among.Given as goal
 
 -- what is left decides
 abbrev pub invariant-loop-words : goal.invariant-loop-words

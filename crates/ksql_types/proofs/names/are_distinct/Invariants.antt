@@ -1,6 +1,6 @@
-use Rattle.std.proofs.Common.{◌≡◌, ℕ, List, map, length, bytes_eq}
-use Rattle.ksql_program.specs.Names.{are_distinct}
-use Rattle.ksql_program.proofs.names.are_distinct.Given as goal
+use Rattle.std.proofs.Common.{◌≡◌, map, length}
+use Rattle.ksql_types.specs.Names.{are_distinct}
+use Rattle.ksql_types.proofs.names.are_distinct.Given as goal
 
 -- what is left decides
 abbrev pub invariant-loop-names : goal.invariant-loop-names
