@@ -1,4 +1,5 @@
 pub mod Like
 pub mod Loops
 pub mod Texts
+pub mod Times
 pub mod Values

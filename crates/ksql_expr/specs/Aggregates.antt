@@ -1,4 +1,4 @@
--- What stands in an expression: aggregates and columns.
+-- What stands in an expression: aggregates, columns and the row's time.
 use Rattle.std.specs.Prelude.{◌≡◌, Bool, true, false, ◌||◌, nat_lt, length, Option, Some, None}
 use Rattle.std.specs.List.{list_any}
 use Rattle.ksql_types.specs.declared.value.Value.TheVariants.{Txt}
@@ -66,3 +66,15 @@ holds_column = holds is_column
 -- an expression holds a column
 abbrev pub HoldsColumn : Typed → Type 0
 HoldsColumn e = holds_column e ≡ true
+
+abbrev pub is_row_time : TypedNode-F Bool Bool Bool → Bool
+is_row_time TypedNode-F.RowTime = true
+is_row_time form = false
+
+-- whether an expression holds the row's time
+unfoldable pub holds_row_time : Typed → Bool
+holds_row_time = holds is_row_time
+
+-- an expression holds no row's time
+abbrev pub IsTimeless : Typed → Type 0
+IsTimeless e = holds_row_time e ≡ false

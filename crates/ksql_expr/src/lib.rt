@@ -4,6 +4,7 @@
 mod comparison;
 mod copies;
 mod evaluation;
+mod laws;
 mod number;
 mod pattern;
 mod rules;
@@ -11,6 +12,7 @@ mod text;
 mod typed;
 
 pub use evaluation::eval;
+pub use laws::timeless_values;
 pub use rules::{
     agg_type, are_comparable, are_ordered, binary_type, can_be_when, can_cast, case_type, fits,
     fun_type, is_between_typed, is_in_typed, is_number, joint, joint_type, same_type, sign_type,
