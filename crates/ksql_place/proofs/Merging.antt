@@ -11,9 +11,11 @@ use Rattle.std.proofs.lemmas.Bool.Decides.{nat_tests}
 use Rattle.std.proofs.lemmas.Cmp.{then_total, on_total, nat_cmp_total, upto, tied_itself}
 use Rattle.std.proofs.lemmas.List.Elements.{recursion_from_All, All-from_recursion}
 use Rattle.ksql_place.specs.declared.stamp.Stamp.{Stamp}
-use Rattle.ksql_place.specs.Order.{stamp_cmp, ascending}
+use Rattle.ksql_place.specs.Ascending.{ascending}
+use Rattle.ksql_place.specs.Order.{stamp_cmp}
 use Rattle.ksql_place.specs.Merge.{Waiting, Queue, head_cmp, IsNoLater, Takes, here, behind, Taken, done, next}
-use Rattle.ksql_place.proofs.Ascending.{NoneBefore, NoneBefore-lower, Ascends, Ascends-ascending, tied, tied-same, same_by_ties, filter-ascending}
+use Rattle.ksql_place.proofs.Ascending.{NoneBefore, NoneBefore-lower, Ascends, Ascends-ascending, tied, same_by_ties, filter-tied}
+use Rattle.ksql_place.proofs.Orders.{stamp_total, stamps-tied}
 
 -- one comparison and then another
 then-low : (a b : ℕ) (o : Ordering) → is_gt (ordering_then (nat_cmp a b) o) ≡ false → (a ≤ b) × (a ≡ b → is_gt o ≡ false)
@@ -273,13 +275,13 @@ taken-left m (behind {q} {qs} {rest} {w} t) fits parts apart first =
     }
 
 -- the stamps come ascending
-pub taken-ascends : (m : Stamp) {qs : List Queue} {stamps : List Stamp} → Taken qs stamps → IsLeft m qs → NoneBefore (λ s. s) m stamps × Ascends (λ s. s) stamps
+pub taken-ascends : (m : Stamp) {qs : List Queue} {stamps : List Stamp} → Taken qs stamps → IsLeft m qs → NoneBefore stamp_cmp m stamps × Ascends stamp_cmp stamps
 taken-ascends m (done empty) left = (tt, tt)
 taken-ascends m (next {qs} {rest} {w} {stamps} t first more) left =
     let least = recursion_from_All (IsNoLater w) qs first in
     let head = taken-head m t left.fits left.parts in
     let up = taken-ascends w.stamp more (taken-left m t left.fits left.parts left.apart least) in
-    ((head.fits.low, NoneBefore-lower (λ (s : Stamp). s) m w.stamp stamps head.fits.low up.0), up)
+    ((head.fits.low, NoneBefore-lower stamp_total m w.stamp stamps head.fits.low up.0), up)
 
 -- the stamps of all that waits
 abbrev pub queue_stamps : Queue → List Stamp
@@ -289,7 +291,7 @@ abbrev pub waiting_stamps : List Queue → List Stamp
 waiting_stamps qs = flat_map queue_stamps qs
 
 abbrev same : Stamp → Stamp → Bool
-same = tied (λ (s : Stamp). s)
+same = tied stamp_cmp
 
 swapped-same : (c d : Bool) (a b : Stamp) (ss : List Stamp) → (c ≡ true → d ≡ true → a ≡ b) →
     cond c (a ∷ cond d (b ∷ ss) ss) (cond d (b ∷ ss) ss) ≡ cond d (b ∷ cond c (a ∷ ss) ss) (cond c (a ∷ ss) ss)
@@ -304,7 +306,7 @@ filter-middle x w [] ys = refl
 filter-middle x w (a ∷ xs) ys =
     ap (λ (ss : List Stamp). cond (same x a) (a ∷ ss) ss) (filter-middle x w xs ys)
     ∙ swapped-same (same x a) (same x w) a w (filter (same x) (xs ++ ys))
-    (λ with-a with-w. sym (tied-same (λ (s : Stamp). s) x a with-a) ∙ tied-same (λ (s : Stamp). s) x w with-w)
+    (λ with-a with-w. sym (stamps-tied x a with-a) ∙ stamps-tied x w with-w)
 
 filter-behind : (x : Stamp) (xs us vs : List Stamp) → filter (same x) us ≡ filter (same x) vs → filter (same x) (xs ++ us) ≡ filter (same x) (xs ++ vs)
 filter-behind x [] us vs equal = equal
@@ -326,11 +328,11 @@ taken-members x (next {qs} {rest} {w} {stamps} t first more) =
     ap (λ (ss : List Stamp). cond (same x w.stamp) (w.stamp ∷ ss) ss) (taken-members x more) ∙ sym (takes-members x t)
 
 -- so what is taken is the stamps ascending
-pub taken-only : (m : Stamp) (qs : List Queue) (stamps : List Stamp) → Taken qs stamps → IsLeft m qs → stamps ≡ ascending (λ s. s) (waiting_stamps qs)
+pub taken-only : (m : Stamp) (qs : List Queue) (stamps : List Stamp) → Taken qs stamps → IsLeft m qs → stamps ≡ ascending stamp_cmp (waiting_stamps qs)
 taken-only m qs stamps taken left =
-    same_by_ties (λ (s : Stamp). s) stamps (ascending (λ s. s) (waiting_stamps qs)) (taken-ascends m taken left).1
-    (Ascends-ascending (λ (s : Stamp). s) (waiting_stamps qs))
-    (λ x. taken-members x taken ∙ sym (filter-ascending (λ (s : Stamp). s) x (waiting_stamps qs)))
+    same_by_ties stamp_total stamps (ascending stamp_cmp (waiting_stamps qs)) (taken-ascends m taken left).1
+    (Ascends-ascending stamp_total (waiting_stamps qs))
+    (λ x. taken-members x taken ∙ sym (filter-tied stamp_total x (waiting_stamps qs)))
 
 head_total : IsTotalOrder head_cmp
 head_total =

@@ -7,10 +7,11 @@ use Rattle.std.proofs.lemmas.List.{append-nil}
 use Rattle.std.proofs.lemmas.List.Elements.{recursion_from_All, All-from_recursion, filter-append}
 use Rattle.ksql_place.specs.declared.stamp.Stamp.{Stamp}
 use Rattle.ksql_place.specs.declared.order.PartTimes.{PartTimes}
-use Rattle.ksql_place.specs.Order.{ascending, greatest, stamped, part_stamps, stamps_of, AreDistinct}
+use Rattle.ksql_place.specs.Ascending.{ascending}
+use Rattle.ksql_place.specs.Order.{stamp_cmp, greatest, stamped, part_stamps, stamps_of, AreDistinct}
 use Rattle.ksql_place.specs.Merge.{Waiting, Queue, Taken, waiting, queue, queues, is_of}
-use Rattle.ksql_place.proofs.Ascending.{NoneBefore, NoneBefore-lower, Ascends, ascending-kept}
-use Rattle.ksql_place.proofs.TwoLists.{filter-of_ascending}
+use Rattle.ksql_place.proofs.Ascending.{NoneBefore, NoneBefore-lower, Ascends, ascending-kept, filter-ascending}
+use Rattle.ksql_place.proofs.Orders.{stamp_total}
 use Rattle.ksql_place.proofs.Stamps.{greatest-append}
 use Rattle.ksql_place.proofs.Merging.{Fits, Follows, IsPart, AreApart, AllApart, IsLeft, queue_stamps, waiting_stamps, follows-low, cmp-from_low, taken-only, taken-some}
 
@@ -107,7 +108,7 @@ queues-left feed parts distinct =
 -- what is taken is the order of consumption
 pub only_order : (feed : ℕ) (parts : List PartTimes) (taken : List Stamp) → AreDistinct parts → Taken (queues feed parts) taken → taken ≡ stamps_of feed parts
 only_order feed parts taken distinct t =
-    taken-only (feed_start feed) (queues feed parts) taken t (queues-left feed parts distinct) ∙ ap (ascending (λ (s : Stamp). s)) (queues-stamps feed parts)
+    taken-only (feed_start feed) (queues feed parts) taken t (queues-left feed parts distinct) ∙ ap (ascending stamp_cmp) (queues-stamps feed parts)
 
 pub order_taken : (feed : ℕ) (parts : List PartTimes) → AreDistinct parts → Taken (queues feed parts) (stamps_of feed parts)
 order_taken feed parts distinct =
@@ -115,19 +116,19 @@ order_taken feed parts distinct =
     subst (Taken (queues feed parts)) (only_order feed parts some.stamps distinct some.taken) some.taken
 
 -- a partition's own stamps ascend
-run-none_before : (w : Waiting) (q : Queue) → Follows w q → Ascends (λ s. s) (queue_stamps q) → NoneBefore (λ s. s) w.stamp (queue_stamps q)
+run-none_before : (w : Waiting) (q : Queue) → Follows w q → Ascends stamp_cmp (queue_stamps q) → NoneBefore stamp_cmp w.stamp (queue_stamps q)
 run-none_before w [] on up = tt
-run-none_before w (v ∷ q) on up = (follows-low w v on, NoneBefore-lower (λ (s : Stamp). s) w.stamp v.stamp (queue_stamps q) (follows-low w v on) up.0)
+run-none_before w (v ∷ q) on up = (follows-low w v on, NoneBefore-lower stamp_total w.stamp v.stamp (queue_stamps q) (follows-low w v on) up.0)
 
-part-ascends : (q : Queue) → IsPart q → Ascends (λ s. s) (queue_stamps q)
+part-ascends : (q : Queue) → IsPart q → Ascends stamp_cmp (queue_stamps q)
 part-ascends [] part = tt
 part-ascends (w ∷ q) part = let up = part-ascends q part.2 in (run-none_before w q part.1 up, up)
 
-pub part_stamps-kept : (feed : ℕ) (p : PartTimes) → ascending (λ s. s) (part_stamps feed p) ≡ part_stamps feed p
+pub part_stamps-kept : (feed : ℕ) (p : PartTimes) → ascending stamp_cmp (part_stamps feed p) ≡ part_stamps feed p
 part_stamps-kept feed p =
     let same : queue_stamps (queue feed p) ≡ part_stamps feed p = line-stamps feed p.topic p.part p.first [] p.times in
-    ascending-kept (λ (s : Stamp). s) (part_stamps feed p)
-    (subst (Ascends (λ (s : Stamp). s)) same (part-ascends (queue feed p) (line-part feed p.topic p.part p.first [] p.times)))
+    ascending-kept stamp_total (part_stamps feed p)
+    (subst (Ascends stamp_cmp) same (part-ascends (queue feed p) (line-part feed p.topic p.part p.first [] p.times)))
 
 -- whose stamp it is
 first_so : (a b : Bool) → (a && b) ≡ true → a ≡ true
@@ -198,6 +199,6 @@ filter-parts feed p (q ∷ ps) (suc i) other below at =
 -- each partition's order is kept
 pub part_kept : (feed : ℕ) (parts : List PartTimes) (p : PartTimes) → AreDistinct parts → Contains parts p → filter (is_of p) (stamps_of feed parts) ≡ part_stamps feed p
 part_kept feed parts p distinct among =
-    filter-of_ascending (λ (s : Stamp). s) (is_of p) (flat_map (part_stamps feed) parts)
-    ∙ ap (ascending (λ (s : Stamp). s)) (filter-parts feed p parts among.0 (AllOther-from_distinct parts distinct) among.1 among.2)
+    filter-ascending stamp_total (is_of p) (flat_map (part_stamps feed) parts)
+    ∙ ap (ascending stamp_cmp) (filter-parts feed p parts among.0 (AllOther-from_distinct parts distinct) among.1 among.2)
     ∙ part_stamps-kept feed p

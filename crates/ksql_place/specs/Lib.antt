@@ -1,2 +1,4 @@
-pub mod Order
+pub mod Ascending
 pub mod Merge
+pub mod Order
+pub mod Said

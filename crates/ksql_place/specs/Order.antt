@@ -1,12 +1,14 @@
 -- Where records and changes stand, and the order of consumption (Kafka Streams developer guide: the head with the smallest timestamp is taken first).
-use Rattle.std.specs.Prelude.{◌≡◌, ℕ, List, [], ◌∷◌, ◌++◌, ◌+◌, ◌≤◌, ◌^◌, length, max, if◌then◌else◌}
+use Rattle.std.specs.Prelude.{◌≡◌, ℕ, List, [], ◌∷◌, ◌++◌, ◌+◌, ◌≤◌, ◌^◌, length, max}
 use Rattle.std.specs.List.{flat_map, AllPairs}
 use Rattle.std.specs.declared.cmp.Ordering.{Ordering}
-use Rattle.std.specs.Ordering.{nat_cmp, ordering_then, is_gt}
+use Rattle.std.specs.Ordering.{nat_cmp, ordering_then}
 use Rattle.std.specs.Cmp.Lexicographic.{slice_cmp}
 use Rattle.ksql_place.specs.declared.stamp.Stamp.{Stamp}
 use Rattle.ksql_place.specs.declared.stamp.Place.{Place}
+use Rattle.ksql_place.specs.declared.change.SourceRecord.{SourceRecord}
 use Rattle.ksql_place.specs.declared.order.PartTimes.{PartTimes}
+use Rattle.ksql_place.specs.Ascending.{ascending}
 
 -- stamps are compared field by field
 abbrev pub stamp_cmp : Stamp → Stamp → Ordering
@@ -43,20 +45,13 @@ stamped feed topic part first before (time ∷ times) =
 abbrev pub part_stamps : ℕ → PartTimes → List Stamp
 part_stamps feed p = stamped feed p.topic p.part p.first [] p.times
 
--- a member put among members that ascend by their stamps, before those of the same stamp
-abbrev pub placed : {A : Type 0} → (A → Stamp) → A → List A → List A
-placed stamp_of a [] = a ∷ []
-placed stamp_of a (b ∷ bs) =
-    if is_gt (stamp_cmp (stamp_of a) (stamp_of b)) then b ∷ placed stamp_of a bs else a ∷ b ∷ bs
-
--- the members ascending by their stamps, in which those of the same stamp keep their order
-abbrev pub ascending : {A : Type 0} → (A → Stamp) → List A → List A
-ascending stamp_of [] = []
-ascending stamp_of (a ∷ bs) = placed stamp_of a (ascending stamp_of bs)
+-- records are compared by their stamps
+abbrev pub record_cmp : SourceRecord → SourceRecord → Ordering
+record_cmp a b = stamp_cmp a.stamp b.stamp
 
 -- the stamps of all records of one feed, ascending
 abbrev pub stamps_of : ℕ → List PartTimes → List Stamp
-stamps_of feed parts = ascending (λ s. s) (flat_map (part_stamps feed) parts)
+stamps_of feed parts = ascending stamp_cmp (flat_map (part_stamps feed) parts)
 
 -- no two of the partitions are the same partition of the same topic
 abbrev pub AreDistinct : List PartTimes → Type 0

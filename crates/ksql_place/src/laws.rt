@@ -1,13 +1,16 @@
 //! Laws of the orders. None of these functions does anything.
-ghost use Rattle.std.specs.Prelude.{◌≡◌, ◌↔◌, ◌++◌, ◌<◌, ℕ, All, Bool, Contains, List, filter, map};
-ghost use Rattle.std.specs.List.Sorted.{IsPermutation, IsSortedByKey, IsStableByKey};
-ghost use Rattle.std.specs.Ordering.{ordering_reverse};
+ghost use Rattle.std.specs.Prelude.{◌≡◌, ◌↔◌, ◌∷◌, ◌++◌, ◌<◌, ℕ, All, AllPairs, Bool, Contains, List, filter, map, not, true, false};
+ghost use Rattle.std.specs.List.Sorted.{IsPermutation, IsSorted, IsSortedByKey, IsStable, IsStableByKey};
+ghost use Rattle.std.specs.Cmp.{IsTotalOrder};
+ghost use Rattle.std.specs.Ordering.{is_gt, ordering_reverse};
+ghost use Rattle.std.specs.declared.cmp.Ordering.{Ordering as Answer};
 ghost use Rattle.ksql_place.specs.declared.change.SourceRecord.{SourceRecord as OneRecord};
 ghost use Rattle.ksql_place.specs.declared.order.PartTimes.{PartTimes as OnePart};
 ghost use Rattle.ksql_place.specs.declared.stamp.Place.{Place as OnePlace};
 ghost use Rattle.ksql_place.specs.declared.stamp.Stamp.{Stamp as OneStamp};
+ghost use Rattle.ksql_place.specs.Ascending.{ascending, PassesFirst, Rises};
 ghost use Rattle.ksql_place.specs.Merge.{is_of, queues, Taken};
-ghost use Rattle.ksql_place.specs.Order.{ascending, between_cmp, part_stamps, place_cmp, stamp_cmp, stamps_of, AreDistinct};
+ghost use Rattle.ksql_place.specs.Order.{between_cmp, part_stamps, place_cmp, record_cmp, stamp_cmp, stamps_of, AreDistinct};
 
 use std::cmp::Ordering;
 
@@ -37,29 +40,60 @@ pub fn places_between_are_ordered()
         → between_cmp b rb c rc ≡ Ordering.Less → between_cmp a ra c rc ≡ Ordering.Less }
 {}
 
+/// The order by any comparison that is total has the members that were given, each as often; it ascends, and members that
+/// tie keep their order. A list that ascends already stays as it is. A part of the order is the order of that part. Where
+/// none of a second list is before any of the first, the order of the first stands before that of the second; the second
+/// may be put in order by itself first. Two lists that ascend are merged by their heads, of which that of the first goes
+/// first where they tie. A list whose members that pass a test stand first is those members and then the others. A list
+/// that ascends, of which no two members tie, rises, and two lists that rise are equal where they have the same members.
+pub fn lists_ascend<T>()
+    ensures members { (cmp : T → T → Answer) → IsTotalOrder cmp → (xs : List T) → IsPermutation xs (ascending cmp xs) }
+    ensures ascends { (cmp : T → T → Answer) → IsTotalOrder cmp → (xs : List T) → IsSorted cmp (ascending cmp xs) }
+    ensures stable { (cmp : T → T → Answer) → IsTotalOrder cmp → (xs : List T) → IsStable cmp xs (ascending cmp xs) }
+    ensures kept { (cmp : T → T → Answer) → IsTotalOrder cmp → (xs : List T) → IsSorted cmp xs → ascending cmp xs ≡ xs }
+    ensures part { (cmp : T → T → Answer) → IsTotalOrder cmp → (passes : T → Bool) (xs : List T) →
+        filter passes (ascending cmp xs) ≡ ascending cmp (filter passes xs) }
+    ensures follow { (cmp : T → T → Answer) → IsTotalOrder cmp → (xs ys : List T) →
+        All (λ x. All (λ y. is_gt (cmp x y) ≡ false) ys) xs → ascending cmp (xs ++ ys) ≡ ascending cmp xs ++ ascending cmp ys }
+    ensures again { (cmp : T → T → Answer) → IsTotalOrder cmp → (xs ys : List T) →
+        ascending cmp (xs ++ ascending cmp ys) ≡ ascending cmp (xs ++ ys) }
+    ensures first_head { (cmp : T → T → Answer) → IsTotalOrder cmp → (x y : T) (xs ys : List T) →
+        is_gt (cmp x y) ≡ false → IsSorted cmp (x ∷ xs) → IsSorted cmp (y ∷ ys) →
+        ascending cmp ((x ∷ xs) ++ y ∷ ys) ≡ x ∷ ascending cmp (xs ++ y ∷ ys) }
+    ensures second_head { (cmp : T → T → Answer) → IsTotalOrder cmp → (x y : T) (xs ys : List T) →
+        is_gt (cmp x y) ≡ true → IsSorted cmp (x ∷ xs) → IsSorted cmp (y ∷ ys) →
+        ascending cmp ((x ∷ xs) ++ y ∷ ys) ≡ y ∷ ascending cmp ((x ∷ xs) ++ ys) }
+    ensures cut { (passes : T → Bool) (xs : List T) → PassesFirst passes xs →
+        xs ≡ filter passes xs ++ filter (λ x. not (passes x)) xs }
+    ensures rises { (cmp : T → T → Answer) → IsTotalOrder cmp → (xs : List T) → IsSorted cmp xs →
+        AllPairs (λ x y. ¬ (cmp x y ≡ Ordering.Equal)) xs → Rises cmp xs }
+    ensures same { (cmp : T → T → Answer) → IsTotalOrder cmp → (xs ys : List T) → Rises cmp xs → Rises cmp ys →
+        ((x : T) → Contains xs x ↔ Contains ys x) → xs ≡ ys }
+{}
+
 /// The order of consumption has the records that were fed, each as often, and ascends by their stamps. Records of the
 /// same stamp keep their order, and records that ascend already stay as they are. The stamps of the order are the order
 /// of the stamps, and a part of the order is the order of that part.
 pub fn order_is_sorted()
-    ensures members { (records : List OneRecord) → IsPermutation records (ascending (λ r. r.stamp) records) }
+    ensures members { (records : List OneRecord) → IsPermutation records (ascending record_cmp records) }
     ensures ascends { (records : List OneRecord) →
-        IsSortedByKey (λ r. r.stamp) stamp_cmp (ascending (λ r. r.stamp) records) }
+        IsSortedByKey (λ r. r.stamp) stamp_cmp (ascending record_cmp records) }
     ensures stable { (records : List OneRecord) →
-        IsStableByKey (λ r. r.stamp) stamp_cmp records (ascending (λ r. r.stamp) records) }
+        IsStableByKey (λ r. r.stamp) stamp_cmp records (ascending record_cmp records) }
     ensures kept { (records : List OneRecord) →
-        IsSortedByKey (λ r. r.stamp) stamp_cmp records → ascending (λ r. r.stamp) records ≡ records }
-    ensures stamps { (records : List OneRecord) → map (λ r. r.stamp) (ascending (λ r. r.stamp) records)
-        ≡ ascending (λ s. s) (map (λ r. r.stamp) records) }
+        IsSortedByKey (λ r. r.stamp) stamp_cmp records → ascending record_cmp records ≡ records }
+    ensures stamps { (records : List OneRecord) → map (λ r. r.stamp) (ascending record_cmp records)
+        ≡ ascending stamp_cmp (map (λ r. r.stamp) records) }
     ensures part { (records : List OneRecord) (passes : OneRecord → Bool) →
-        filter passes (ascending (λ r. r.stamp) records) ≡ ascending (λ r. r.stamp) (filter passes records) }
+        filter passes (ascending record_cmp records) ≡ ascending record_cmp (filter passes records) }
 {}
 
 /// The order of the records of earlier feeds stands whole before that of the records of later feeds.
 pub fn feeds_follow()
     ensures { (earlier later : List OneRecord) →
         All (λ e. All (λ l. e.stamp.feed < l.stamp.feed) later) earlier →
-        ascending (λ r. r.stamp) (earlier ++ later)
-        ≡ ascending (λ r. r.stamp) earlier ++ ascending (λ r. r.stamp) later }
+        ascending record_cmp (earlier ++ later)
+        ≡ ascending record_cmp earlier ++ ascending record_cmp later }
 {}
 
 /// The merge law: the stamps of one feed, ascending, are what comes of taking again and again the head with the smallest

@@ -4,14 +4,16 @@
 mod change;
 mod laws;
 mod order;
+mod said;
 mod stamp;
 
 pub use change::{Body, Change, Changes, Decoded, SourceRecord};
 pub use laws::{
-    feeds_follow, order_is_merged, order_is_sorted, places_are_ordered, places_between_are_ordered,
-    stamps_are_ordered,
+    feeds_follow, lists_ascend, order_is_merged, order_is_sorted, places_are_ordered,
+    places_between_are_ordered, stamps_are_ordered,
 };
 pub use order::{PartTimes, cmp_between, cmp_place, order_of, stamps_of};
+pub use said::{is_skipped, said_by};
 pub use stamp::{Path, Place, Stamp};
 
 #[cfg(test)]

@@ -1,6 +1,7 @@
 ghost use Rattle.std.specs.Prelude.{◌≡◌, ◌++◌, IfOk, OnOk};
 ghost use Rattle.std.specs.List.{All};
-ghost use Rattle.ksql_place.specs.Order.{ascending, between_cmp, part_stamps, place_cmp, stamps_of, HasOffsets};
+ghost use Rattle.ksql_place.specs.Ascending.{ascending};
+ghost use Rattle.ksql_place.specs.Order.{between_cmp, part_stamps, place_cmp, record_cmp, stamps_of, HasOffsets};
 
 use crate::change::SourceRecord;
 use crate::stamp::{Place, Stamp};
@@ -81,7 +82,7 @@ fn push_stamps(stamps: &mut Vec<Stamp>, feed: u64, part: &PartTimes) -> Result<(
 /// The order of consumption of these records: ascending by their stamps. Records of the same stamp keep their order.
 /// Takes of the order of n log n steps.
 pub fn order_of(mut records: Vec<SourceRecord>) -> Result<Vec<SourceRecord>, AllocError>
-    ensures { IfOk result (λ order. order.items ≡ ascending (λ r. r.stamp) records.items) }
+    ensures { IfOk result (λ order. order.items ≡ ascending record_cmp records.items) }
 {
     records.sort_by_key(|record| record.stamp)?;
     Ok(records)

@@ -1,5 +1,5 @@
 use super::*;
-use ksql_types::{CopyOf, Items, Key, Row, Span, Value};
+use ksql_types::{Chars, CopyOf, Format, Items, Key, Kind, Relation, Row, Schema, Span, Value};
 use std::alloc::Global;
 use std::cmp::Ordering;
 use std::fmt::Debug;
@@ -86,6 +86,58 @@ fn records_are_put_in_order(rt: HostRuntime) -> Result<(), Fail> {
 
 fn row(alloc: Global) -> Result<Row, Fail> {
     Ok(Items::of(vec![in alloc; Value::Int(1), Value::Null]?))
+}
+
+// For a good row, a tombstone and a value that couldn't be read: whether there is a row, where the record isn't skipped.
+fn said(kind: Kind, key: &Key, good: &Decoded) -> [Option<bool>; 3] {
+    [
+        said_by(kind, key, good).map(|row| row.is_some()),
+        said_by(kind, key, &Decoded::Tombstone).map(|row| row.is_some()),
+        said_by(kind, key, &Decoded::Skipped).map(|row| row.is_some()),
+    ]
+}
+
+#[test]
+fn records_say_by_kind_key_and_value(rt: HostRuntime) -> Result<(), Fail> {
+    let alloc = rt.alloc();
+    let good = Decoded::Good(row(alloc)?);
+    let without = Key::of(Vec::new(alloc));
+    let with = Key::of(vec![in alloc; Value::Big(7)]?);
+    let said_to_stream = [Some(true), None, None];
+    let said_to_table = [Some(true), Some(false), None];
+    let nothing = [None, None, None];
+    assert!(rt; said(Kind::Stream, &without, &good) == said_to_stream);
+    assert!(rt; said(Kind::Stream, &with, &good) == said_to_stream);
+    assert!(rt; said(Kind::Table, &without, &good) == nothing);
+    assert!(rt; said(Kind::Table, &with, &good) == said_to_table);
+    assert!(rt; said(Kind::Windowed, &without, &good) == nothing);
+    assert!(rt; said(Kind::Windowed, &with, &good) == nothing);
+    Ok(())
+}
+
+fn table(alloc: Global, number: u32) -> Result<Relation, Fail> {
+    Ok(Relation {
+        number,
+        name: Chars::of(String::new(alloc)),
+        kind: Kind::Table,
+        schema: Schema {
+            keys: Items::of(Vec::new(alloc)),
+            values: Items::of(Vec::new(alloc)),
+        },
+        topic: Chars::of(String::new(alloc)),
+        partitions: 1,
+        format: Format::Json,
+        declared: true,
+    })
+}
+
+#[test]
+fn a_record_without_a_key_is_skipped_by_its_own_table(rt: HostRuntime) -> Result<(), Fail> {
+    let alloc = rt.alloc();
+    let keyless = record(alloc, stamp(9, 1, 0));
+    assert!(rt; is_skipped(&table(alloc, 0)?, &keyless));
+    assert!(rt; !is_skipped(&table(alloc, 1)?, &keyless));
+    Ok(())
 }
 
 fn written<T: Debug>(alloc: Global, value: &T) -> Result<String, Fail> {

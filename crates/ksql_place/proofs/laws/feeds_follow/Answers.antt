@@ -1,6 +1,5 @@
-use Rattle.ksql_place.specs.declared.change.SourceRecord.{SourceRecord}
 use Rattle.ksql_place.proofs.Feeds.{ascending-feeds}
 use Rattle.ksql_place.proofs.laws.feeds_follow.Goals as goal
 
 pub returns : goal.returns
-returns c = ascending-feeds (λ (r : SourceRecord). r.stamp)
+returns c = ascending-feeds

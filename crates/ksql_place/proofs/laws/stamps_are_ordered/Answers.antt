@@ -1,7 +1,7 @@
 use Rattle.std.proofs.Common.{◌∙◌, ap, sym}
 use Rattle.std.proofs.lemmas.Cmp.{tied_itself}
 use Rattle.ksql_place.specs.Order.{stamp_cmp}
-use Rattle.ksql_place.proofs.Ascending.{stamp_total, stamp_cmp-equal}
+use Rattle.ksql_place.proofs.Orders.{stamp_total, stamp_cmp-equal}
 use Rattle.ksql_place.proofs.laws.stamps_are_ordered.Goals as goal
 
 pub returns : goal.returns
