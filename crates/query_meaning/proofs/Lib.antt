@@ -1,1 +1,2 @@
-pub mod ByEntry
+pub mod ChangeByChange
+pub mod EachBuilt

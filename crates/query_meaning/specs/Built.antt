@@ -1,4 +1,4 @@
--- The forms that have a meaning as yet: streams of JSON values, and queries over one stream without a grouping.
+-- The forms that are run as yet: streams of JSON values, and queries over one stream without a grouping.
 use Rattle.std.specs.Prelude.{ℕ, ◌+◌, Bool, true, false, ◌&&◌, if◌then◌else◌, IsTrue, List, [], ◌∷◌, Option, Some, None, is_none}
 use Rattle.ksql_types.specs.declared.relation.Format.{Format}
 use Rattle.ksql_types.specs.declared.relation.Format.TheVariants.{Json, Delimited}
@@ -33,20 +33,20 @@ is_plain (Group keys window aggs having values) = false
 abbrev pub is_built_relation : Relation → Bool
 is_built_relation r = is_stream r.kind && is_json r.format
 
--- whether an item has a meaning
+-- whether an item is run
 abbrev pub is_built : Item → Bool
 is_built (Declared r) = is_built_relation r
 is_built (Started q) = reads_one q.from && is_plain q.shape && is_built_relation q.out
 
--- the number of the first item that has none, where the first of these has this number
+-- the number of the first item that isn't run, where the first of these has this number
 abbrev pub first_unbuilt_from : ℕ → List Item → Option ℕ
 first_unbuilt_from number [] = None
 first_unbuilt_from number (i ∷ is) = if is_built i then first_unbuilt_from (number + 1) is else Some number
 
--- the number of the first statement, from 1, whose item has no meaning yet
+-- the number of the first statement, from 1, whose item isn't run yet
 abbrev pub first_unbuilt : List Item → Option ℕ
 first_unbuilt items = first_unbuilt_from 1 items
 
--- each item has a meaning
+-- each item is run
 abbrev pub AreBuilt : List Item → Type 0
 AreBuilt items = IsTrue (is_none (first_unbuilt items))

@@ -1,3 +1,4 @@
 pub mod Built
 pub mod Meaning
-pub mod Steps
+pub mod Plain
+pub mod Queries

@@ -1,4 +1,4 @@
-ghost use Rattle.std.specs.Prelude.{◌≡◌, ◌&&◌};
+ghost use Rattle.std.specs.Prelude.{◌≡◌};
 ghost use Rattle.query_meaning.specs.Built.{first_unbuilt, is_built, is_built_relation, is_plain, reads_one};
 
 use ksql_program::{From, Item, Program, Shape};

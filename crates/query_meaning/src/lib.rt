@@ -5,7 +5,7 @@ mod built;
 mod meaning;
 
 pub use built::first_unbuilt;
-pub use meaning::{Lists, partition_of, slow_meaning};
+pub use meaning::{Listed, Lists, partition_of, slow_meaning};
 
 #[cfg(test)]
 mod tests;

@@ -1,21 +1,34 @@
-ghost use Rattle.std.specs.Prelude.{◌≡◌, ◌<◌, ◌≤◌, ◌++◌, map, replicate, IfOk, OnOk};
+ghost use Rattle.std.specs.Prelude.{◌≡◌, ◌<◌, ◌≤◌, [], ◌∷◌, ◌++◌, ◌&&◌, map, option_and_then, replicate, IfOk, OnOk, IsTrue};
 ghost use Rattle.std.specs.List.{flat_map};
 ghost use Rattle.ksql_types.specs.declared.value.Value.TheVariants.{Null};
-ghost use Rattle.ksql_expr.specs.Value.{is_true_value, value_of};
-ghost use Rattle.query_meaning.specs.Built.{AreBuilt};
-ghost use Rattle.query_meaning.specs.Meaning.{changes_at, declared_changes, item_changes, key_columns, key_of, meaning, partition_of, query_changes};
-ghost use Rattle.query_meaning.specs.Steps.{declared_gives, passes, query_gives, selected, whole_row};
+ghost use Rattle.ksql_place.specs.declared.change.Body.TheVariants as body;
+ghost use Rattle.ksql_expr.specs.Value.{is_true_value};
+ghost use Rattle.ksql_nodes.specs.Rows.{key_of, turned, values};
+ghost use Rattle.query_meaning.specs.Built.{is_built, is_plain, reads_one, AreBuilt};
+ghost use Rattle.query_meaning.specs.Meaning.{item_changes, meaning, partition_of};
+ghost use Rattle.query_meaning.specs.Plain.{change_at, changes_of, passes, plain_gives, row_left, rows_said};
+ghost use Rattle.query_meaning.specs.Queries.{key_cells, key_columns, query_changes};
 
 use ksql_expr::{Typed, eval};
-use ksql_place::{Body, Change, Changes, Decoded, Place, SourceRecord};
+use ksql_place::{Body, Change, Changes, Path, Place, SourceRecord, Stamp, said_by};
 use ksql_program::{From, Item, Program, Query, Shape, relation_of};
-use ksql_types::{CopyOf, Items, Key, Relation, Value, lane};
+use ksql_types::{CopyOf, Items, Key, Kind, Relation, Row, Span, Value, lane};
 use std::alloc::{AllocError, Global};
 
-/// One list of changes for each relation of a program, in the order of its items.
-pub type Lists = Items<Changes>;
+/// The changes of a relation: what the records of its topic say to a declared stream, lent, or a list that was made.
+#[derive(Drop)]
+pub enum Listed<'a> {
+    Lent {
+        number: u32,
+        order: &'a [SourceRecord],
+    },
+    Made(Changes),
+}
 
-/// A query over one stream without a grouping: how many key columns the stream has, WHERE, and the select list.
+/// One list of changes for each relation of a program, in the order of its items.
+pub type Lists<'a> = Vec<Listed<'a>>;
+
+/// A query over one relation without a grouping: how many key columns the relation has, WHERE, and the select list.
 #[derive(Drop)]
 struct Plain<'a> {
     columns: usize,
@@ -24,22 +37,32 @@ struct Plain<'a> {
     values: &'a [Typed],
 }
 
-/// The meaning of a program on the records that were fed, by going through them once for each declared relation, and
-/// through the changes of its source once for each query.
-pub fn slow_meaning(
+/// Where a change stands, its time, its key and its window.
+#[derive(Clone, Copy, Drop)]
+struct At<'a> {
+    stamp: Stamp,
+    path: &'a Path,
+    time: u64,
+    key: &'a Key,
+    span: Option<Span>,
+}
+
+/// The meaning of a program on the records that were fed, by going through the changes of its source once for each
+/// query. The changes of a declared stream lie in the records.
+pub fn slow_meaning<'a>(
     alloc: Global,
     program: &Program,
-    order: &[SourceRecord],
-) -> Result<Lists, AllocError>
+    order: &'a [SourceRecord],
+) -> Result<Lists<'a>, AllocError>
     requires built { AreBuilt program.now.items }
-    ensures { IfOk result (λ lists. lists ≡ meaning program.now.items order.now) }
+    ensures { IfOk result (λ lists. map changes_of lists.items ≡ meaning program.now.items order.now) }
 {
     let mut lists = Vec::new(alloc);
     for item in program.items.items() {
-        let changes = item_changes(alloc, program, order, &lists, item)?;
-        lists.push(Items::of(changes))?;
+        let listed = item_changes(alloc, program, order, lists.as_slice(), item)?;
+        lists.push(listed)?;
     }
-    Ok(Items::of(lists))
+    Ok(lists)
 }
 
 /// The partition of a relation's topic in which a change stands: the lane of its key among the relation's partitions,
@@ -54,82 +77,43 @@ pub fn partition_of(relation: &Relation, change: &Change) -> u32
 }
 
 /// The changes of an item, from those of the items before it.
-fn item_changes(
+fn item_changes<'a>(
     alloc: Global,
     program: &Program,
-    order: &[SourceRecord],
-    lists: &[Changes],
+    order: &'a [SourceRecord],
+    lists: &[Listed<'a>],
     item: &Item,
-) -> Result<Vec<Change>, AllocError>
-    ensures { IfOk result (λ changes. changes.items ≡ item_changes program.now.items order.now lists.now item.now) }
+) -> Result<Listed<'a>, AllocError>
+    requires { IsTrue (is_built item.now) }
+    ensures { IfOk result (λ listed. changes_of listed ≡ item_changes program.now.items order.now (map changes_of lists.now) item.now) }
 {
     match item {
-        Item::Declared(relation) => declared_changes(alloc, relation, order),
-        Item::Started(query) => query_changes(alloc, program, lists, query),
-    }
-}
-
-/// The changes of a declared stream.
-fn declared_changes(
-    alloc: Global,
-    relation: &Relation,
-    order: &[SourceRecord],
-) -> Result<Vec<Change>, AllocError>
-    ensures { IfOk result (λ changes. changes.items ≡ declared_changes relation.now order.now) }
-{
-    let mut changes = Vec::new(alloc);
-    for fed in order {
-        push_declared(alloc, &mut changes, relation, fed)?;
-    }
-    Ok(changes)
-}
-
-/// Adds what a record gives to a declared stream.
-fn push_declared(
-    alloc: Global,
-    changes: &mut Vec<Change>,
-    relation: &Relation,
-    fed: &SourceRecord,
-) -> Result<(), AllocError>
-    ensures { OnOk result (changes.new.items ≡ changes.old.items ++ declared_gives relation.now fed.now) }
-{
-    if fed.stamp.topic != relation.number {
-        return Ok(());
-    }
-    match &fed.value {
-        Decoded::Good(row) => {
-            let change = Change {
-                place: Place {
-                    stamp: fed.stamp,
-                    path: Items::of(Vec::new(alloc)),
-                },
-                time: fed.time,
-                key: fed.key.copy(alloc)?,
-                span: None,
-                body: Body::Said(row.copy(alloc)?),
-            };
-            changes.push(change)?;
-            Ok(())
+        Item::Declared(relation) => Ok(Listed::Lent {
+            number: relation.number,
+            order,
+        }),
+        Item::Started(query) => {
+            let changes = query_changes(alloc, program, lists, query)?;
+            Ok(Listed::Made(Items::of(changes)))
         }
-        Decoded::Tombstone | Decoded::Skipped => Ok(()),
     }
 }
 
-/// The changes of a query's result, from those of the relations before it; none of a join and of a grouping, which have
-/// no meaning yet.
+/// The changes of the result of a query over one relation without a grouping. No other query is built.
 fn query_changes(
     alloc: Global,
     program: &Program,
-    lists: &[Changes],
+    lists: &[Listed],
     query: &Query,
 ) -> Result<Vec<Change>, AllocError>
-    ensures { IfOk result (λ changes. changes.items ≡ query_changes program.now.items lists.now query.now) }
+    requires { IsTrue (reads_one query.now.from && is_plain query.now.shape) }
+    ensures { IfOk result (λ changes. changes.items ≡ query_changes program.now.items (map changes_of lists.now) query.now) }
 {
     let From::One { relation } = &query.from else {
-        return Ok(Vec::new(alloc));
+        unreachable!()
     };
     let Shape::Plain { keys, values } = &query.shape else {
-        return Ok(Vec::new(alloc));
+        unreachable!()
     };
     let plain = Plain {
         columns: key_columns(program, *relation),
@@ -137,19 +121,10 @@ fn query_changes(
         keys: keys.items(),
         values: values.items(),
     };
-    results_of(alloc, &plain, changes_at(lists, *relation))
-}
-
-/// What the changes of a query's source give to its result.
-fn results_of(alloc: Global, plain: &Plain, source: &[Change]) -> Result<Vec<Change>, AllocError>
-    ensures { IfOk result (λ changes. changes.items ≡ flat_map (query_gives plain.now.columns plain.now.filter.now plain.now.keys.now plain.now.values.now) source.now) }
-{
-    let mut changes = Vec::new(alloc);
-    let mut row = Vec::new(alloc);
-    for change in source {
-        push_result(alloc, &mut changes, &mut row, plain, change)?;
+    match lists.get(*relation as usize) {
+        Some(source) => results_of(alloc, &plain, source),
+        None => Ok(Vec::new(alloc)),
     }
-    Ok(changes)
 }
 
 /// How many key columns a relation has.
@@ -162,51 +137,210 @@ fn key_columns(program: &Program, relation: u32) -> usize
     }
 }
 
-/// The changes of a relation; none where there is no such relation.
-fn changes_at(lists: &[Changes], relation: u32) -> &[Change]
-    ensures { result.now ≡ changes_at lists.now relation }
+/// What the changes of a relation give to a query.
+fn results_of(alloc: Global, plain: &Plain, source: &Listed) -> Result<Vec<Change>, AllocError>
+    ensures { IfOk result (λ changes. changes.items ≡ flat_map (plain_gives plain.now.columns plain.now.filter.now plain.now.keys.now plain.now.values.now) (changes_of source.now)) }
 {
-    match lists.get(relation as usize) {
-        Some(changes) => changes.items(),
-        None => &[],
+    match source {
+        Listed::Lent { number, order } => results_of_records(alloc, plain, *number, order),
+        Listed::Made(changes) => results_of_changes(alloc, plain, changes.items()),
     }
 }
 
-/// Adds what a change gives to a query's result. What `row` held before doesn't matter.
+/// What the records of a stream's topic give to a query.
+fn results_of_records(
+    alloc: Global,
+    plain: &Plain,
+    number: u32,
+    order: &[SourceRecord],
+) -> Result<Vec<Change>, AllocError>
+    ensures { IfOk result (λ changes. changes.items ≡ flat_map (plain_gives plain.now.columns plain.now.filter.now plain.now.keys.now plain.now.values.now) (rows_said number order.now)) }
+{
+    let mut changes = Vec::new(alloc);
+    let mut whole = Vec::new(alloc);
+    for fed in order {
+        push_record(alloc, &mut changes, &mut whole, plain, number, fed)?;
+    }
+    Ok(changes)
+}
+
+/// What changes give to a query.
+fn results_of_changes(
+    alloc: Global,
+    plain: &Plain,
+    source: &[Change],
+) -> Result<Vec<Change>, AllocError>
+    ensures { IfOk result (λ changes. changes.items ≡ flat_map (plain_gives plain.now.columns plain.now.filter.now plain.now.keys.now plain.now.values.now) source.now) }
+{
+    let mut changes = Vec::new(alloc);
+    let mut whole = Vec::new(alloc);
+    for change in source {
+        push_result(alloc, &mut changes, &mut whole, plain, change)?;
+    }
+    Ok(changes)
+}
+
+/// Adds what a record gives to a query over a stream of this number. What `whole` held before doesn't matter.
+fn push_record(
+    alloc: Global,
+    changes: &mut Vec<Change>,
+    whole: &mut Vec<Value>,
+    plain: &Plain,
+    number: u32,
+    fed: &SourceRecord,
+) -> Result<(), AllocError>
+    ensures { OnOk result (changes.new.items ≡ changes.old.items ++ flat_map (plain_gives plain.now.columns plain.now.filter.now plain.now.keys.now plain.now.values.now) (rows_said number (fed.now ∷ []))) }
+{
+    if fed.stamp.topic != number {
+        return Ok(());
+    }
+    let Some(Some(row)) = said_by(Kind::Stream, &fed.key, &fed.value) else {
+        return Ok(());
+    };
+    let path = Items::of(Vec::new(alloc));
+    let at = At {
+        stamp: fed.stamp,
+        path: &path,
+        time: fed.time,
+        key: &fed.key,
+        span: None,
+    };
+    push_said(alloc, changes, whole, plain, at, row.items())
+}
+
+/// Adds what a change gives to a query. What `whole` held before doesn't matter.
 fn push_result(
     alloc: Global,
     changes: &mut Vec<Change>,
-    row: &mut Vec<Value>,
+    whole: &mut Vec<Value>,
     plain: &Plain,
     change: &Change,
 ) -> Result<(), AllocError>
-    ensures { OnOk result (changes.new.items ≡ changes.old.items ++ query_gives plain.now.columns plain.now.filter.now plain.now.keys.now plain.now.values.now change.now) }
+    ensures { OnOk result (changes.new.items ≡ changes.old.items ++ plain_gives plain.now.columns plain.now.filter.now plain.now.keys.now plain.now.values.now change.now) }
 {
-    fill(alloc, row, plain.columns, change)?;
-    if passes(alloc, plain.filter, row.as_slice(), change.time)? {
-        changes.push(selected(alloc, plain.keys, plain.values, row.as_slice(), change)?)?;
+    let at = At {
+        stamp: change.place.stamp,
+        path: &change.place.path,
+        time: change.time,
+        key: &change.key,
+        span: change.span,
+    };
+    match &change.body {
+        Body::Said(row) => push_said(alloc, changes, whole, plain, at, row.items()),
+        Body::Turned { old, new } => push_turned(alloc, changes, whole, plain, at, old, new),
     }
+}
+
+/// Adds what a stream's change gives. What `whole` held before doesn't matter.
+fn push_said(
+    alloc: Global,
+    changes: &mut Vec<Change>,
+    whole: &mut Vec<Value>,
+    plain: &Plain,
+    at: At,
+    row: &[Value],
+) -> Result<(), AllocError>
+    ensures { OnOk result (changes.new.items ≡ changes.old.items ++ plain_gives plain.now.columns plain.now.filter.now plain.now.keys.now plain.now.values.now (change_at at.entry (body.Said row.now))) }
+{
+    fill(alloc, whole, plain.columns, at.key, row)?;
+    if !passes(alloc, plain.filter, whole.as_slice(), at.time)? {
+        return Ok(());
+    }
+    let key = key_of(
+        alloc,
+        values_of(alloc, plain.keys, whole.as_slice(), at.time)?,
+    );
+    let said = values_of(alloc, plain.values, whole.as_slice(), at.time)?;
+    changes.push(result_at(alloc, at, key, Body::Said(Items::of(said)))?)?;
     Ok(())
 }
 
-/// Makes `row` the row of a change with its key columns in front.
+/// Adds what a table's change gives. What `whole` held before doesn't matter.
+fn push_turned(
+    alloc: Global,
+    changes: &mut Vec<Change>,
+    whole: &mut Vec<Value>,
+    plain: &Plain,
+    at: At,
+    old: &Option<Row>,
+    new: &Option<Row>,
+) -> Result<(), AllocError>
+    ensures { OnOk result (changes.new.items ≡ changes.old.items ++ plain_gives plain.now.columns plain.now.filter.now plain.now.keys.now plain.now.values.now (change_at at.entry (body.Turned old.now new.now))) }
+{
+    let old = row_of(alloc, whole, plain, at, old)?;
+    let new = row_of(alloc, whole, plain, at, new)?;
+    let Some(body) = turned(old, new) else {
+        return Ok(());
+    };
+    let key = at.key.copy(alloc)?;
+    changes.push(result_at(alloc, at, key, body)?)?;
+    Ok(())
+}
+
+/// What a table's change says, from one row to another; from absent to absent it is none.
+fn turned(old: Option<Row>, new: Option<Row>) -> Option<Body>
+    ensures { result ≡ turned old new }
+{
+    if old.is_none() && new.is_none() {
+        None
+    } else {
+        Some(Body::Turned { old, new })
+    }
+}
+
+/// What the select list makes of a table's row, where there is one that passes WHERE.
+fn row_of(
+    alloc: Global,
+    whole: &mut Vec<Value>,
+    plain: &Plain,
+    at: At,
+    row: &Option<Row>,
+) -> Result<Option<Row>, AllocError>
+    ensures { IfOk result (λ left. left ≡ option_and_then (row_left plain.now.columns plain.now.filter.now plain.now.values.now at.entry.time at.entry.key.now) row.now) }
+{
+    let Some(row) = row else {
+        return Ok(None);
+    };
+    fill(alloc, whole, plain.columns, at.key, row.items())?;
+    if !passes(alloc, plain.filter, whole.as_slice(), at.time)? {
+        return Ok(None);
+    }
+    let values = values_of(alloc, plain.values, whole.as_slice(), at.time)?;
+    Ok(Some(Items::of(values)))
+}
+
+/// A change that stands where another does, with this key, and says this.
+fn result_at(alloc: Global, at: At, key: Key, body: Body) -> Result<Change, AllocError>
+    ensures { IfOk result (λ made. made ≡ record (change_at at.entry body) { key = key }) }
+{
+    Ok(Change {
+        place: Place {
+            stamp: at.stamp,
+            path: at.path.copy(alloc)?,
+        },
+        time: at.time,
+        key,
+        span: at.span,
+        body,
+    })
+}
+
+/// Makes `whole` the row with its key columns in front.
 fn fill(
     alloc: Global,
-    row: &mut Vec<Value>,
+    whole: &mut Vec<Value>,
     columns: usize,
-    change: &Change,
+    key: &Key,
+    row: &[Value],
 ) -> Result<(), AllocError>
-    ensures { OnOk result (row.new.items ≡ whole_row columns change.now) }
+    ensures { OnOk result (whole.new.items ≡ key_cells columns key.now ++ row.now) }
 {
-    row.clear();
-    match change.key.items() {
-        [] => push_nulls(row, columns)?,
-        cells => push_copies(alloc, row, cells)?,
+    whole.clear();
+    match key.items() {
+        [] => push_nulls(whole, columns)?,
+        cells => push_copies(alloc, whole, cells)?,
     }
-    match &change.body {
-        Body::Said(said) => push_copies(alloc, row, said.items()),
-        Body::Turned { .. } => Ok(()),
-    }
+    push_copies(alloc, whole, row)
 }
 
 /// Adds so many NULLs.
@@ -251,27 +385,6 @@ fn is_true_value(value: &Value) -> bool
     matches!(value, Value::Bool(true))
 }
 
-/// What the select list makes of a row.
-fn selected(
-    alloc: Global,
-    keys: &[Typed],
-    values: &[Typed],
-    row: &[Value],
-    change: &Change,
-) -> Result<Change, AllocError>
-    ensures { IfOk result (λ made. made ≡ selected keys.now values.now row.now change.now) }
-{
-    let key = key_of(alloc, values_of(alloc, keys, row, change.time)?);
-    let said = values_of(alloc, values, row, change.time)?;
-    Ok(Change {
-        place: change.place.copy(alloc)?,
-        time: change.time,
-        key,
-        span: change.span,
-        body: Body::Said(Items::of(said)),
-    })
-}
-
 /// The values of expressions on a row at a time.
 fn values_of(
     alloc: Global,
@@ -279,9 +392,9 @@ fn values_of(
     row: &[Value],
     time: u64,
 ) -> Result<Vec<Value>, AllocError>
-    ensures { IfOk result (λ values. values.items ≡ map (value_of row.now time) expressions.now) }
+    ensures { IfOk result (λ made. made.items ≡ values expressions.now time row.now) }
 {
-    let mut values = Vec::new(alloc);
+    let mut values = Vec::with_capacity(alloc, expressions.len())?;
     for expression in expressions {
         values.push(eval(alloc, expression, row, time)?)?;
     }

@@ -1,0 +1,10 @@
+pub mod Keys
+pub mod Lists
+pub mod Results
+pub mod Cuts
+pub mod Stamps
+pub mod Locality
+pub mod Held
+pub mod Regrouped
+pub mod OneStep
+pub mod WorkedRows

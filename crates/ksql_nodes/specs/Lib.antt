@@ -1,0 +1,9 @@
+pub mod Entries
+pub mod Rows
+pub mod Joins
+pub mod Groups
+pub mod Aggregates
+pub mod Windows
+pub mod Nodes
+pub mod TableAggregates
+pub mod Steps
