@@ -1,3 +1,4 @@
-pub mod Partitions
+pub mod Feeds
 pub mod Merged
+pub mod Partitions
 pub mod Reaching

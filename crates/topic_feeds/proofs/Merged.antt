@@ -1,4 +1,4 @@
--- The stamps of some files' records, ascending, are those of their partitions.
+-- The stamps of the records that a feed brings to some topics, ascending, are those of their partitions.
 use Rattle.std.proofs.Common.{◌≡◌, ◌≢◌, ◌∙◌, ap, ap₂, sym, refl, subst, ℕ, zero, suc, List, [], ◌∷◌, ◌++◌, ◌+◌, ◌<◌, ◌≤◌, Bool, true, false, cond, map, arith, inl, inr, ◌⊎◌, eqb-true, eq-eqb}
 use Rattle.std.specs.Prelude.{filter, ◌==◌}
 use Rattle.std.specs.List.{flat_map, range_with_len, All, AllPairs, AllByRecursion}
@@ -13,17 +13,18 @@ use Rattle.ksql_place.specs.declared.change.SourceRecord.{SourceRecord}
 use Rattle.ksql_place.specs.declared.order.PartTimes.{PartTimes}
 use Rattle.ksql_place.specs.declared.stamp.Stamp.{Stamp}
 use Rattle.ksql_place.specs.Merge.{Taken, queues}
-use Rattle.ksql_place.specs.Order.{ascending, part_stamps, stamps_of, AreDistinct}
-use Rattle.ksql_place.proofs.Ascending.{Ascends-ascending, tied, tied-same, same_by_ties, filter-ascending}
+use Rattle.ksql_place.specs.Ascending.{ascending}
+use Rattle.ksql_place.specs.Order.{part_stamps, record_cmp, stamp_cmp, stamps_of, AreDistinct}
+use Rattle.ksql_place.proofs.Ascending.{Ascends-ascending, tied, same_by_ties, filter-tied}
+use Rattle.ksql_place.proofs.Orders.{stamp_total, stamps-tied}
 use Rattle.ksql_place.proofs.Queues.{order_taken}
 use Rattle.ksql_place.proofs.TwoLists.{map-ascending}
 use Rattle.topic_files.specs.declared.topic.Fed.{Fed}
-use Rattle.topic_files.specs.declared.topic.TopicLines.{TopicLines}
-use Rattle.topic_feeds.specs.Feeding.{in_part, fed_records, all_fed, order_of, part_of, all_parts}
+use Rattle.topic_feeds.specs.Feeding.{in_part, fed_from, feed_of, part_of, parts_of, Feeding}
 use Rattle.topic_feeds.proofs.Partitions.{stamps, part-stamped, AreWithin, fed-within}
 
 abbrev same : Stamp → Stamp → Bool
-same = tied (λ (s : Stamp). s)
+same = tied stamp_cmp
 
 -- the stamps that tie with x, which are x
 module _ (x : Stamp) where
@@ -31,7 +32,7 @@ module _ (x : Stamp) where
   untied s apart = by (same x s) refl
     where
       by : (b : Bool) → same x s ≡ b → same x s ≡ false
-      by true is = absurd (apart (ap (λ (t : Stamp). t.part) (tied-same (λ (t : Stamp). t) x s is)))
+      by true is = absurd (apart (ap (λ (t : Stamp). t.part) (stamps-tied x s is)))
       by false is = is
 
   -- they stand in x's own partition
@@ -101,89 +102,91 @@ module _ (x : Stamp) where
       by (inl below) = sym (inside rs 0 n (omega arith) (omega (arith, below)))
       by (inr over) = beyond n rs within over ∙ sym (outside rs 0 n (λ part _ below is. absurd (omega (arith, over, below, is))))
 
-  -- of one file
-  tied-file : (relation : Relation) (feds : List Fed) → 1 ≤ relation.partitions →
-      filter (same x) (stamps (fed_records 1 relation feds)) ≡ filter (same x) (flat_map (part_stamps 1) (map (part_of 1 relation feds) (range_with_len 0 relation.partitions)))
-  tied-file relation feds some =
-      let records : List SourceRecord = fed_records 1 relation feds in
-      tied-parts relation.partitions records (fed-within 1 relation [] feds some)
+  -- of one topic
+  tied-topic : (feed : ℕ) (relation : Relation) (before : List SourceRecord) (feds : List Fed) → 1 ≤ relation.partitions → All (λ r. r.stamp.feed ≢ feed) before →
+      filter (same x) (stamps (fed_from feed relation before feds))
+      ≡ filter (same x) (flat_map (part_stamps feed) (map (part_of feed relation before feds) (range_with_len 0 relation.partitions)))
+  tied-topic feed relation before feds some none =
+      let records : List SourceRecord = fed_from feed relation before feds in
+      tied-parts relation.partitions records (fed-within feed relation before feds some)
       ∙ ap (filter (same x))
-      (ap (λ (f : ℕ → List Stamp). flat_map f (range_with_len 0 relation.partitions)) (λ i part. part-stamped 1 relation feds part i)
-      ∙ sym (flat_map-map (part_stamps 1) (part_of 1 relation feds) (range_with_len 0 relation.partitions)))
+      (ap (λ (f : ℕ → List Stamp). flat_map f (range_with_len 0 relation.partitions)) (λ i part. part-stamped feed relation before feds part none i)
+      ∙ sym (flat_map-map (part_stamps feed) (part_of feed relation before feds) (range_with_len 0 relation.partitions)))
 
-  -- of all files
-  tied-all : (relations : List Relation) (files : List TopicLines) → AllByRecursion (λ r. 1 ≤ r.partitions) relations →
-      filter (same x) (stamps (all_fed relations files)) ≡ filter (same x) (flat_map (part_stamps 1) (all_parts relations files))
-  tied-all [] files some = refl
-  tied-all (relation ∷ relations) [] some = refl
-  tied-all (relation ∷ relations) (file ∷ files) some =
-      let records : List SourceRecord = fed_records 1 relation file.feds in
-      let parts : List PartTimes = map (part_of 1 relation file.feds) (range_with_len 0 relation.partitions) in
-      ap (filter (same x)) (map-append (λ (r : SourceRecord). r.stamp) records (all_fed relations files))
-      ∙ filter-append (same x) (stamps records) (stamps (all_fed relations files))
-      ∙ ap₂ (λ (us vs : List Stamp). us ++ vs) (tied-file relation file.feds some.0) (tied-all relations files some.1)
-      ∙ sym (filter-append (same x) (flat_map (part_stamps 1) parts) (flat_map (part_stamps 1) (all_parts relations files)))
-      ∙ ap (filter (same x)) (sym (flat_map-append (part_stamps 1) parts (all_parts relations files)))
+  -- of all topics
+  tied-all : (feed : ℕ) (feedings : List Feeding) → AllByRecursion (λ f. 1 ≤ f.relation.partitions) feedings →
+      AllByRecursion (λ f. All (λ r. r.stamp.feed ≢ feed) f.before) feedings →
+      filter (same x) (stamps (feed_of feed feedings)) ≡ filter (same x) (flat_map (part_stamps feed) (parts_of feed feedings))
+  tied-all feed [] some none = refl
+  tied-all feed (f ∷ feedings) some none =
+      let records : List SourceRecord = fed_from feed f.relation f.before f.feds in
+      let parts : List PartTimes = map (part_of feed f.relation f.before f.feds) (range_with_len 0 f.relation.partitions) in
+      ap (filter (same x)) (map-append (λ (r : SourceRecord). r.stamp) records (feed_of feed feedings))
+      ∙ filter-append (same x) (stamps records) (stamps (feed_of feed feedings))
+      ∙ ap₂ (λ (us vs : List Stamp). us ++ vs) (tied-topic feed f.relation f.before f.feds some.0 none.0) (tied-all feed feedings some.1 none.1)
+      ∙ sym (filter-append (same x) (flat_map (part_stamps feed) parts) (flat_map (part_stamps feed) (parts_of feed feedings)))
+      ∙ ap (filter (same x)) (sym (flat_map-append (part_stamps feed) parts (parts_of feed feedings)))
 
-pub order-stamps : (relations : List Relation) (files : List TopicLines) → All (λ r. 1 ≤ r.partitions) relations →
-    stamps (order_of relations files) ≡ stamps_of 1 (all_parts relations files)
-order-stamps relations files some =
-    let fed : List Stamp = stamps (all_fed relations files) in
-    let all : List Stamp = flat_map (part_stamps 1) (all_parts relations files) in
-    let each = recursion_from_All (λ (r : Relation). 1 ≤ r.partitions) relations some in
-    map-ascending (λ (s : Stamp). s) (λ (r : SourceRecord). r.stamp) (all_fed relations files)
-    ∙ same_by_ties (λ (s : Stamp). s) (ascending (λ s. s) fed) (ascending (λ s. s) all) (Ascends-ascending (λ (s : Stamp). s) fed) (Ascends-ascending (λ (s : Stamp). s) all)
-    (λ x. filter-ascending (λ (s : Stamp). s) x fed ∙ tied-all x relations files each ∙ sym (filter-ascending (λ (s : Stamp). s) x all))
+pub order-stamps : (feed : ℕ) (feedings : List Feeding) → All (λ f. 1 ≤ f.relation.partitions) feedings → All (λ f. All (λ r. r.stamp.feed ≢ feed) f.before) feedings →
+    stamps (ascending record_cmp (feed_of feed feedings)) ≡ stamps_of feed (parts_of feed feedings)
+order-stamps feed feedings some none =
+    let fed : List Stamp = stamps (feed_of feed feedings) in
+    let all : List Stamp = flat_map (part_stamps feed) (parts_of feed feedings) in
+    let each-some = recursion_from_All (λ (f : Feeding). 1 ≤ f.relation.partitions) feedings some in
+    let each-none = recursion_from_All (λ (f : Feeding). All (λ (r : SourceRecord). r.stamp.feed ≢ feed) f.before) feedings none in
+    map-ascending stamp_cmp (λ (r : SourceRecord). r.stamp) (feed_of feed feedings)
+    ∙ same_by_ties stamp_total (ascending stamp_cmp fed) (ascending stamp_cmp all) (Ascends-ascending stamp_total fed) (Ascends-ascending stamp_total all)
+    (λ x. filter-tied stamp_total x fed ∙ tied-all x feed feedings each-some each-none ∙ sym (filter-tied stamp_total x all))
 
 -- two partitions differ
 abbrev IsOther : PartTimes → PartTimes → Type 0
 IsOther p q = p.topic ≡ q.topic → p.part ≡ q.part → ⊥
 
--- the partitions of one topic, and those of others behind them
-others-behind : (p : PartTimes) (relation : Relation) (feds : List Fed) (a n : ℕ) (rest : List PartTimes) → p.part < a →
-    AllByRecursion (λ q. p.topic ≢ q.topic) rest → AllByRecursion (IsOther p) (map (part_of 1 relation feds) (range_with_len a n) ++ rest)
-others-behind p relation feds a (suc n) rest below others =
-    ((λ _ part. absurd (omega (arith, part, below))), others-behind p relation feds (a + 1) n rest (omega (arith, below)) others)
-others-behind p relation feds a zero [] below others = tt
-others-behind p relation feds a zero (q ∷ rest) below others = ((λ topic _. others.0 topic), others-behind p relation feds a zero rest below others.1)
+-- the partitions of one topic, and those of others after them
+others-after : (p : PartTimes) (f : ℕ → PartTimes) (a n : ℕ) (rest : List PartTimes) → ((part : ℕ) → (f part).part ≡ part) → p.part < a →
+    AllByRecursion (λ q. p.topic ≢ q.topic) rest → AllByRecursion (IsOther p) (map f (range_with_len a n) ++ rest)
+others-after p f a (suc n) rest own below others =
+    ((λ _ part. absurd (omega (arith, part, own a, below))), others-after p f (a + 1) n rest own (omega (arith, below)) others)
+others-after p f a zero [] own below others = tt
+others-after p f a zero (q ∷ rest) own below others = ((λ topic _. others.0 topic), others-after p f a zero rest own below others.1)
 
-distinct-file : (relation : Relation) (feds : List Fed) (a n : ℕ) (rest : List PartTimes) → AllByRecursion (λ q. relation.number ≢ q.topic) rest →
-    AreDistinct rest → AreDistinct (map (part_of 1 relation feds) (range_with_len a n) ++ rest)
-distinct-file relation feds a zero rest others distinct = distinct
-distinct-file relation feds a (suc n) rest others distinct =
-    let first : PartTimes = part_of 1 relation feds a in
-    let behind : List PartTimes = map (part_of 1 relation feds) (range_with_len (a + 1) n) ++ rest in
-    AllPairs-cons IsOther first behind
-    (All-from_recursion (IsOther first) behind (others-behind first relation feds (a + 1) n rest (omega arith) others))
-    (distinct-file relation feds (a + 1) n rest others distinct)
+distinct-topic : (number : ℕ) (f : ℕ → PartTimes) (a n : ℕ) (rest : List PartTimes) → ((part : ℕ) → (f part).part ≡ part) → ((part : ℕ) → (f part).topic ≡ number) →
+    AllByRecursion (λ q. number ≢ q.topic) rest → AreDistinct rest → AreDistinct (map f (range_with_len a n) ++ rest)
+distinct-topic number f a zero rest own topic others distinct = distinct
+distinct-topic number f a (suc n) rest own topic others distinct =
+    let after : List PartTimes = map f (range_with_len (a + 1) n) ++ rest in
+    AllPairs-cons IsOther (f a) after
+    (All-from_recursion (IsOther (f a)) after
+    (others-after (f a) f (a + 1) n rest own (omega (arith, own a)) (subst (λ (t : ℕ). AllByRecursion (λ (q : PartTimes). t ≢ q.topic) rest) (sym (topic a)) others)))
+    (distinct-topic number f (a + 1) n rest own topic others distinct)
 
 -- a topic is none of others' topics
-part-topics : (number : ℕ) (relation : Relation) (feds : List Fed) (a n : ℕ) (rest : List PartTimes) → number ≢ relation.number →
-    AllByRecursion (λ q. number ≢ q.topic) rest → AllByRecursion (λ q. number ≢ q.topic) (map (part_of 1 relation feds) (range_with_len a n) ++ rest)
-part-topics number relation feds a zero rest other others = others
-part-topics number relation feds a (suc n) rest other others = (other, part-topics number relation feds (a + 1) n rest other others)
+part-topics : (number : ℕ) (f : ℕ → PartTimes) (a n : ℕ) (rest : List PartTimes) → ((part : ℕ) → number ≢ (f part).topic) →
+    AllByRecursion (λ q. number ≢ q.topic) rest → AllByRecursion (λ q. number ≢ q.topic) (map f (range_with_len a n) ++ rest)
+part-topics number f a zero rest other others = others
+part-topics number f a (suc n) rest other others = (other a, part-topics number f (a + 1) n rest other others)
 
-all-topics : (number : ℕ) (relations : List Relation) (files : List TopicLines) → AllByRecursion (λ r. number ≢ r.number) relations →
-    AllByRecursion (λ q. number ≢ q.topic) (all_parts relations files)
-all-topics number [] files others = tt
-all-topics number (relation ∷ relations) [] others = tt
-all-topics number (relation ∷ relations) (file ∷ files) others =
-    part-topics number relation file.feds 0 relation.partitions (all_parts relations files) others.0 (all-topics number relations files others.1)
+all-topics : (feed number : ℕ) (feedings : List Feeding) → AllByRecursion (λ f. number ≢ f.relation.number) feedings →
+    AllByRecursion (λ q. number ≢ q.topic) (parts_of feed feedings)
+all-topics feed number [] others = tt
+all-topics feed number (f ∷ feedings) others =
+    part-topics number (part_of feed f.relation f.before f.feds) 0 f.relation.partitions (parts_of feed feedings) (λ _. others.0) (all-topics feed number feedings others.1)
 
 nothing-twice : AreDistinct []
 nothing-twice i j d up below = absurd (omega (arith, below))
 
-distinct-parts : (relations : List Relation) (files : List TopicLines) → AllPairs (λ a b. a.number ≢ b.number) relations → AreDistinct (all_parts relations files)
-distinct-parts [] files apart = nothing-twice
-distinct-parts (relation ∷ relations) [] apart = nothing-twice
-distinct-parts (relation ∷ relations) (file ∷ files) apart =
-    let others : AllByRecursion (λ r. relation.number ≢ r.number) relations =
-    recursion_from_All (λ (r : Relation). relation.number ≢ r.number) relations (λ k d below. apart 0 (suc k) d (omega arith) (omega (arith, below))) in
-    distinct-file relation file.feds 0 relation.partitions (all_parts relations files) (all-topics relation.number relations files others)
-    (distinct-parts relations files (λ i j d up below. apart (suc i) (suc j) d (omega (arith, up)) (omega (arith, below))))
+distinct-parts : (feed : ℕ) (feedings : List Feeding) → AllPairs (λ a b. a.relation.number ≢ b.relation.number) feedings → AreDistinct (parts_of feed feedings)
+distinct-parts feed [] apart = nothing-twice
+distinct-parts feed (f ∷ feedings) apart =
+    let others : AllByRecursion (λ g. f.relation.number ≢ g.relation.number) feedings =
+    recursion_from_All (λ (g : Feeding). f.relation.number ≢ g.relation.number) feedings (λ k d below. apart 0 (suc k) d (omega arith) (omega (arith, below))) in
+    distinct-topic f.relation.number (part_of feed f.relation f.before f.feds) 0 f.relation.partitions (parts_of feed feedings) (λ part. refl) (λ part. refl)
+    (all-topics feed f.relation.number feedings others)
+    (distinct-parts feed feedings (λ i j d up below. apart (suc i) (suc j) d (omega (arith, up)) (omega (arith, below))))
 
-pub order-taken : (relations : List Relation) (files : List TopicLines) → All (λ r. 1 ≤ r.partitions) relations → AllPairs (λ a b. a.number ≢ b.number) relations →
-    Taken (queues 1 (all_parts relations files)) (stamps (order_of relations files))
-order-taken relations files some apart =
-    subst (Taken (queues 1 (all_parts relations files))) (sym (order-stamps relations files some))
-    (order_taken 1 (all_parts relations files) (distinct-parts relations files apart))
+pub order-taken : (feed : ℕ) (feedings : List Feeding) → All (λ f. 1 ≤ f.relation.partitions) feedings → All (λ f. All (λ r. r.stamp.feed ≢ feed) f.before) feedings →
+    AllPairs (λ a b. a.relation.number ≢ b.relation.number) feedings →
+    Taken (queues feed (parts_of feed feedings)) (stamps (ascending record_cmp (feed_of feed feedings)))
+order-taken feed feedings some none apart =
+    subst (Taken (queues feed (parts_of feed feedings))) (sym (order-stamps feed feedings some none))
+    (order_taken feed (parts_of feed feedings) (distinct-parts feed feedings apart))

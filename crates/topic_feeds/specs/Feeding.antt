@@ -1,12 +1,13 @@
 -- The records of topic files as they are fed: where each stands, and the order of consumption (Kafka Streams developer
 -- guide, "Partitions" and "Task assignment": records of one key stand in one partition, in the order of their offsets).
-use Rattle.std.specs.Prelude.{ℕ, List, [], ◌∷◌, ◌++◌, length, map, filter, ◌==◌}
+use Rattle.std.specs.Prelude.{ℕ, ◌+◌, List, [], ◌∷◌, ◌++◌, length, map, filter, take, drop, flat_map, ◌==◌}
 use Rattle.std.specs.List.{range_with_len}
 use Rattle.ksql_types.specs.Lane.{lane}
 use Rattle.ksql_types.specs.declared.relation.Relation.{Relation}
 use Rattle.ksql_place.specs.declared.change.SourceRecord.{SourceRecord}
 use Rattle.ksql_place.specs.declared.order.PartTimes.{PartTimes}
-use Rattle.ksql_place.specs.Order.{ascending, greatest}
+use Rattle.ksql_place.specs.Ascending.{ascending}
+use Rattle.ksql_place.specs.Order.{greatest, record_cmp}
 use Rattle.topic_files.specs.declared.topic.Fed.{Fed}
 use Rattle.topic_files.specs.declared.topic.TopicLines.{TopicLines}
 
@@ -14,16 +15,21 @@ use Rattle.topic_files.specs.declared.topic.TopicLines.{TopicLines}
 abbrev pub in_part : ℕ → List SourceRecord → List SourceRecord
 in_part part records = filter (λ r. r.stamp.part == part) records
 
--- A record after those of its topic's file in one feed. It stands in the lane of its key, or without a key in that of its number
--- in the file. Offsets count from 0 in each partition, and its high is the greatest time of its partition up to and including it.
-abbrev pub fed_behind : ℕ → Relation → List SourceRecord → Fed → SourceRecord
-fed_behind feed relation before fed =
+-- the records of one feed
+abbrev pub in_feed : ℕ → List SourceRecord → List SourceRecord
+in_feed feed records = filter (λ r. r.stamp.feed == feed) records
+
+-- A record of a feed after those of its topic that were fed before. It stands in the lane of its key, or without a key in that of
+-- its number in the file. Offsets count from 0 in each partition, through all feeds. Its high is the greatest time of its partition
+-- in this feed up to and including it.
+abbrev pub fed_after : ℕ → Relation → List SourceRecord → Fed → SourceRecord
+fed_after feed relation before fed =
     let part = lane fed.key relation.partitions (length before) in
     let others = in_part part before in
     record {
       stamp = record {
         feed = feed;
-        high = greatest (map (λ r. r.time) others ++ fed.time ∷ []);
+        high = greatest (map (λ r. r.time) (in_feed feed others) ++ fed.time ∷ []);
         topic = relation.number;
         part = part;
         offset = length others;
@@ -33,37 +39,47 @@ fed_behind feed relation before fed =
       value = fed.value;
     }
 
--- the records of a file in one feed, after those before them
+-- the records that one feed brings, after those of the topic that were fed before
 unfoldable pub fed_from : ℕ → Relation → List SourceRecord → List Fed → List SourceRecord
 fed_from feed relation before [] = []
 fed_from feed relation before (fed ∷ feds) =
-    let r = fed_behind feed relation before fed in
+    let r = fed_after feed relation before fed in
     r ∷ fed_from feed relation (before ++ r ∷ []) feds
 
--- the records of a relation's topic file, all in one feed
-abbrev pub fed_records : ℕ → Relation → List Fed → List SourceRecord
-fed_records feed relation feds = fed_from feed relation [] feds
+-- the records of a topic after some more feeds, the first of which has this number; each takes so many of the file's records that
+-- are left
+unfoldable pub fed_in : Relation → List SourceRecord → ℕ → List ℕ → List Fed → List SourceRecord
+fed_in relation before feed [] feds = before
+fed_in relation before feed (n ∷ ns) feds = fed_in relation (before ++ fed_from feed relation before (take n feds)) (feed + 1) ns (drop n feds)
 
--- the records of the topic files of some relations, one file for each, all in the first feed
-abbrev pub all_fed : List Relation → List TopicLines → List SourceRecord
-all_fed (relation ∷ relations) (file ∷ files) = fed_records 1 relation file.feds ++ all_fed relations files
-all_fed _ _ = []
+-- all records of the topics of some relations, one file for each; counts says how many of a file's records each feed takes
+abbrev pub all_fed : (Relation → List Fed → List ℕ) → List Relation → List TopicLines → List SourceRecord
+all_fed counts (relation ∷ relations) (file ∷ files) = fed_in relation [] 1 (counts relation file.feds) file.feds ++ all_fed counts relations files
+all_fed counts _ _ = []
 
--- the order of consumption of these files: their records, ascending by their stamps
-abbrev pub order_of : List Relation → List TopicLines → List SourceRecord
-order_of relations files = ascending (λ r. r.stamp) (all_fed relations files)
+-- the order of consumption: all records that were fed, ascending by their stamps
+abbrev pub order_of : (Relation → List Fed → List ℕ) → List Relation → List TopicLines → List SourceRecord
+order_of counts relations files = ascending record_cmp (all_fed counts relations files)
 
--- one partition of a relation's topic: the times of its records in a feed, of which the first has the offset 0
-abbrev pub part_of : ℕ → Relation → List Fed → ℕ → PartTimes
-part_of feed relation feds part = record {
+-- one partition of a topic: the times of its records in a feed, whose offsets go on from those before
+abbrev pub part_of : ℕ → Relation → List SourceRecord → List Fed → ℕ → PartTimes
+part_of feed relation before feds part = record {
   topic = relation.number;
   part = part;
-  first = 0;
-  times = map (λ r. r.time) (in_part part (fed_records feed relation feds));
+  first = length (in_part part before);
+  times = map (λ r. r.time) (in_part part (fed_from feed relation before feds));
 }
 
--- all partitions of the topics of some relations, one file for each, all in the first feed
-abbrev pub all_parts : List Relation → List TopicLines → List PartTimes
-all_parts (relation ∷ relations) (file ∷ files) =
-    map (part_of 1 relation file.feds) (range_with_len 0 relation.partitions) ++ all_parts relations files
-all_parts _ _ = []
+-- what one feed takes of a topic, after the records that were fed of it before
+pub record Feeding : Type 0 where
+  pub relation : Relation
+  pub before : List SourceRecord
+  pub feds : List Fed
+
+-- the records that one feed brings to some topics
+abbrev pub feed_of : ℕ → List Feeding → List SourceRecord
+feed_of feed feedings = flat_map (λ f. fed_from feed f.relation f.before f.feds) feedings
+
+-- all partitions of these topics in one feed
+abbrev pub parts_of : ℕ → List Feeding → List PartTimes
+parts_of feed feedings = flat_map (λ f. map (part_of feed f.relation f.before f.feds) (range_with_len 0 f.relation.partitions)) feedings

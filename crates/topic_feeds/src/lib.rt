@@ -4,7 +4,7 @@
 mod feeding;
 mod laws;
 
-pub use feeding::push_fed;
+pub use feeding::Reached;
 pub use laws::feeds_are_merged;
 
 #[cfg(test)]

@@ -17,7 +17,7 @@ pub(crate) fn cells(
 ) -> Result<Option<Vec<Value>>, AllocError>
     ensures { IfOk result (λ row. option_map (λ values. values.items) row ≡ cells columns.now (view object.now)) }
 {
-    let mut values = Vec::new(alloc);
+    let mut values = Vec::with_capacity(alloc, columns.len())?;
     for column in columns {
         match cell(alloc, column, object)? {
             Some(value) => values.push(value)?,

@@ -4,17 +4,18 @@ ghost use Rattle.topic_files.specs.File.{first_fault, reading, topic_lines};
 use crate::lines::{Lines, is_blank};
 use crate::record::fed_of_line;
 use crate::topic::{FileFault, LineWhy, Room, TopicLines};
-use ksql_types::{Items, Relation};
+use ksql_types::{Format, Items, Relation};
 use std::alloc::Global;
 
-/// The records of a relation's topic file, in the order of its lines, or the first line that isn't a topic line or that
-/// passes the room, counted from 1: it is too large where it does both.
+/// The records of the topic file of a relation of JSON values, in the order of its lines, or the first line that isn't a
+/// topic line or that passes the room, counted from 1: it is too large where it does both.
 pub fn read_topic(
     alloc: Global,
     relation: &Relation,
     bytes: &[u8],
     room: Room,
 ) -> Result<TopicLines, FileFault>
+    requires json { relation.now.format ≡ Format.Json }
     requires few { room.records ≤ 200000 }
     requires short { room.bytes ≤ 67108864 }
     ensures good { IfOk result (λ read. first_fault room bytes.now ≡ None) }
@@ -38,7 +39,7 @@ pub fn read_topic(
         if blank {
             continue;
         }
-        match fed_of_line(alloc, relation, line)? {
+        match fed_of_line(alloc, &relation.schema, line)? {
             Some(fed) => feds.push(fed)?,
             None => return Err(refused(number, LineWhy::BadLine)),
         }

@@ -7,13 +7,15 @@ ghost use Rattle.json.specs.Run.{is_plain};
 ghost use Rattle.ksql_types.specs.declared.relation.Column.{Column as OneColumn};
 ghost use Rattle.topic_files.specs.Printed.{comma_joined, fields_of, label_of, labels_of, object_text, printed};
 
-use ksql_types::{Bytes, Column, Items, Relation, Value};
+use ksql_types::{Bytes, Column, Format, Items, Relation, Value};
 use serde_json::Value as Json;
 use std::alloc::{AllocError, Global};
 
-/// The printed value of a row of the relation: a JSON object of its value columns in their order, without blanks.
+/// The printed value of a row of a relation of JSON values: a JSON object of its value columns in their order, without
+/// blanks.
 pub fn value_text(alloc: Global, relation: &Relation, row: &[Value]) -> Result<Bytes, AllocError>
-    requires { length row.now ≡ length relation.now.schema.values }
+    requires json { relation.now.format ≡ Format.Json }
+    requires whole { length row.now ≡ length relation.now.schema.values }
     ensures { IfOk result (λ text. text ≡ object_text relation.now.schema.values row.now) }
 {
     let labels = labels(alloc, relation.schema.values.items())?;

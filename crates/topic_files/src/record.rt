@@ -2,41 +2,41 @@
 
 ghost use Rattle.std.specs.Prelude.{◌≡◌, ◌∷◌, [], IfOk, option_map};
 ghost use Rattle.serde_json.specs.View.{view};
-ghost use Rattle.topic_files.specs.Record.{decoded, fed_of, fed_of_data, is_table, key_of, object_row, row_of, value_of};
+ghost use Rattle.topic_files.specs.Record.{decoded, fed_of, fed_of_data, field_value, key_of, object_row};
 ghost use Rattle.topic_files.specs.Cells.{typed};
 
 use crate::fields::{cells, typed};
 use crate::line::{json_of_line, present, topic_time};
 use crate::topic::Fed;
 use ksql_place::Decoded;
-use ksql_types::{Column, Format, Items, Key, Kind, Relation, Row, SqlType};
+use ksql_types::{Column, Items, Key, Row, Schema, SqlType};
 use serde_json::Value as Json;
 use std::alloc::{AllocError, Global};
 
 /// The record of a line, None where it isn't a topic line.
 pub(crate) fn fed_of_line(
     alloc: Global,
-    relation: &Relation,
+    schema: &Schema,
     line: &[u8],
 ) -> Result<Option<Fed>, AllocError>
-    ensures { IfOk result (λ fed. fed ≡ fed_of relation.now line.now) }
+    ensures { IfOk result (λ fed. fed ≡ fed_of schema.now line.now) }
 {
     match json_of_line(alloc, line)? {
-        Some(json) => fed_of_json(alloc, relation, &json),
+        Some(json) => fed_of_json(alloc, schema, &json),
         None => Ok(None),
     }
 }
 
 /// The record that a line's JSON says, None where it isn't a topic line.
-fn fed_of_json(alloc: Global, relation: &Relation, json: &Json) -> Result<Option<Fed>, AllocError>
-    ensures { IfOk result (λ fed. fed ≡ fed_of_data relation.now (view json.now)) }
+fn fed_of_json(alloc: Global, schema: &Schema, json: &Json) -> Result<Option<Fed>, AllocError>
+    ensures { IfOk result (λ fed. fed ≡ fed_of_data schema.now (view json.now)) }
 {
     let Some(time) = topic_time(json) else {
         return Ok(None);
     };
-    match key_of(alloc, relation.schema.keys.items(), present(json, "k"))? {
+    match key_of(alloc, schema.keys.items(), present(json, "k"))? {
         Some(key) => {
-            let value = value_of(alloc, relation, &key, present(json, "v"))?;
+            let value = field_value(alloc, schema.values.items(), present(json, "v"))?;
             Ok(Some(Fed { time, key, value }))
         }
         None => Ok(Some(Fed {
@@ -76,54 +76,28 @@ fn single_key(alloc: Global, ty: SqlType, json: &Json) -> Result<Option<Key>, Al
     }
 }
 
-/// The value of a record with this key.
-fn value_of(
+/// The value that the field `v` stands for: a tombstone where it is missing or null.
+fn field_value(
     alloc: Global,
-    relation: &Relation,
-    key: &Key,
+    columns: &[Column],
     field: Option<&Json>,
 ) -> Result<Decoded, AllocError>
     ensures { IfOk result
-        (λ value. value ≡ value_of relation.now key.now (option_map (λ f. view f.now) field.entry)) }
+        (λ value. value ≡ field_value columns.now (option_map (λ f. view f.now) field.entry)) }
 {
-    if is_table(relation.kind) && key.items().is_empty() {
-        return Ok(Decoded::Skipped);
-    }
     match field {
-        Some(json) => decoded(alloc, relation, json),
-        None if is_table(relation.kind) => Ok(Decoded::Tombstone),
-        None => Ok(Decoded::Skipped),
-    }
-}
-
-/// Whether a relation of this kind is a table, with windows or without.
-fn is_table(kind: Kind) -> bool
-    ensures { result ≡ is_table kind }
-{
-    match kind {
-        Kind::Stream => false,
-        Kind::Table | Kind::Windowed => true,
+        Some(json) => decoded(alloc, columns, json),
+        None => Ok(Decoded::Tombstone),
     }
 }
 
 /// The value that a field stands for: a row, or skipped where it stands for none.
-fn decoded(alloc: Global, relation: &Relation, json: &Json) -> Result<Decoded, AllocError>
-    ensures { IfOk result (λ value. value ≡ decoded relation.now (view json.now)) }
+fn decoded(alloc: Global, columns: &[Column], json: &Json) -> Result<Decoded, AllocError>
+    ensures { IfOk result (λ value. value ≡ decoded columns.now (view json.now)) }
 {
-    match row_of(alloc, relation, json)? {
+    match object_row(alloc, columns, json)? {
         Some(row) => Ok(Decoded::Good(row)),
         None => Ok(Decoded::Skipped),
-    }
-}
-
-/// The row that a field stands for in the relation's format, None where it stands for none. No field stands for a
-/// DELIMITED row as yet.
-fn row_of(alloc: Global, relation: &Relation, json: &Json) -> Result<Option<Row>, AllocError>
-    ensures { IfOk result (λ row. row ≡ row_of relation.now (view json.now)) }
-{
-    match relation.format {
-        Format::Json => object_row(alloc, relation.schema.values.items(), json),
-        Format::Delimited => Ok(None),
     }
 }
 

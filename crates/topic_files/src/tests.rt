@@ -26,14 +26,14 @@ fn column(alloc: Global, name: &str, ty: SqlType) -> Result<Column, AllocError> 
     })
 }
 
-/// A relation with the text key K and the column AB of this type.
-fn relation(alloc: Global, kind: Kind, ty: SqlType) -> Result<Relation, AllocError> {
+/// A stream with the text key K and the column AB of this type.
+fn stream(alloc: Global, ty: SqlType) -> Result<Relation, AllocError> {
     let keys = Items::of(vec![in alloc; column(alloc, "K", SqlType::Text)?]?);
     let values = Items::of(vec![in alloc; column(alloc, "AB", ty)?]?);
     Ok(Relation {
         number: 3,
         name: chars(alloc, "R")?,
-        kind,
+        kind: Kind::Stream,
         schema: Schema { keys, values },
         topic: chars(alloc, "r")?,
         partitions: 1,
@@ -44,7 +44,7 @@ fn relation(alloc: Global, kind: Kind, ty: SqlType) -> Result<Relation, AllocErr
 
 /// The refusal of the file of a stream whose AB is an INTEGER, None where it is read.
 fn refusal(alloc: Global, file: &str, room: Room) -> Result<Option<(u32, LineWhy)>, Fail> {
-    let stream = relation(alloc, Kind::Stream, SqlType::Int)?;
+    let stream = stream(alloc, SqlType::Int)?;
     let room = Room {
         records: room.records.min(200_000),
         bytes: room.bytes.min(67_108_864),
@@ -56,10 +56,10 @@ fn refusal(alloc: Global, file: &str, room: Room) -> Result<Option<(u32, LineWhy
     }
 }
 
-/// The one record of a line of such a relation.
-fn one(alloc: Global, kind: Kind, ty: SqlType, line: &str) -> Result<Fed, Fail> {
-    let relation = relation(alloc, kind, ty)?;
-    match read_topic(alloc, &relation, line.as_bytes(), ALL) {
+/// The one record of a line of such a stream.
+fn one(alloc: Global, ty: SqlType, line: &str) -> Result<Fed, Fail> {
+    let stream = stream(alloc, ty)?;
+    match read_topic(alloc, &stream, line.as_bytes(), ALL) {
         Ok(lines) => lines
             .feds
             .into_items()
@@ -95,7 +95,7 @@ fn number_of(fed: &Fed) -> Option<i32> {
 #[test]
 fn a_text_for_a_number_is_skipped(rt: HostRuntime) -> Result<(), Fail> {
     let line = "{\"t\":1,\"k\":\"a\",\"v\":{\"AB\":\"x\"}}\n";
-    let fed = one(rt.alloc(), Kind::Stream, SqlType::Int, line)?;
+    let fed = one(rt.alloc(), SqlType::Int, line)?;
     assert_eq!(rt; fed.time, 1);
     assert!(rt; matches!(fed.key.items(), [Value::Txt(_)]));
     assert!(rt; matches!(&fed.value, Decoded::Skipped));
@@ -179,7 +179,7 @@ fn a_field_is_found_by_its_name_and_then_in_any_case(rt: HostRuntime) -> Result<
         ("{\"AB\":2147483648}", None),
     ] {
         let line = format!(in rt.alloc(); "{{\"t\":1,\"v\":{value}}}")?;
-        let fed = one(rt.alloc(), Kind::Stream, SqlType::Int, line.as_str())?;
+        let fed = one(rt.alloc(), SqlType::Int, line.as_str())?;
         assert_eq!(rt; number_of(&fed), number);
     }
     Ok(())
@@ -196,7 +196,7 @@ fn a_text_takes_numbers_and_truth_values(rt: HostRuntime) -> Result<(), Fail> {
         ("{}", None),
     ] {
         let line = format!(in rt.alloc(); "{{\"t\":1,\"v\":{{\"AB\":{value}}}}}")?;
-        let fed = one(rt.alloc(), Kind::Stream, SqlType::Text, line.as_str())?;
+        let fed = one(rt.alloc(), SqlType::Text, line.as_str())?;
         assert_eq!(rt; text_of(&fed), text);
     }
     Ok(())
@@ -208,7 +208,7 @@ fn a_missing_field_is_null(rt: HostRuntime) -> Result<(), Fail> {
         "{\"t\":1,\"v\":{}}",
         "{\"t\":1,\"v\":{\"AB\":null,\"ab\":1}}",
     ] {
-        let fed = one(rt.alloc(), Kind::Stream, SqlType::Int, line)?;
+        let fed = one(rt.alloc(), SqlType::Int, line)?;
         let Decoded::Good(row) = &fed.value else {
             return Err("a row")?;
         };
@@ -218,19 +218,24 @@ fn a_missing_field_is_null(rt: HostRuntime) -> Result<(), Fail> {
 }
 
 #[test]
-fn streams_and_tables_differ_without_a_value_or_a_key(rt: HostRuntime) -> Result<(), Fail> {
-    let alloc = rt.alloc();
-    let gone = "{\"t\":1,\"k\":\"a\"}";
-    let said = one(alloc, Kind::Stream, SqlType::Int, gone)?;
-    assert!(rt; matches!(&said.value, Decoded::Skipped));
-    let held = one(alloc, Kind::Table, SqlType::Int, gone)?;
-    assert!(rt; matches!(&held.value, Decoded::Tombstone));
-    let keyless = "{\"t\":1,\"k\":null,\"v\":{\"AB\":1}}";
-    let said = one(alloc, Kind::Stream, SqlType::Int, keyless)?;
-    assert!(rt; said.key.items().is_empty());
-    assert_eq!(rt; number_of(&said), Some(1));
-    let held = one(alloc, Kind::Table, SqlType::Int, keyless)?;
-    assert!(rt; matches!(&held.value, Decoded::Skipped));
+fn a_record_without_a_value_is_a_tombstone(rt: HostRuntime) -> Result<(), Fail> {
+    for line in [
+        "{\"t\":1,\"k\":\"a\"}",
+        "{\"t\":1,\"k\":\"a\",\"v\":null}",
+        "{\"t\":1}",
+    ] {
+        let fed = one(rt.alloc(), SqlType::Int, line)?;
+        assert!(rt; matches!(&fed.value, Decoded::Tombstone));
+    }
+    Ok(())
+}
+
+#[test]
+fn a_record_without_a_key_has_its_value(rt: HostRuntime) -> Result<(), Fail> {
+    let line = "{\"t\":1,\"k\":null,\"v\":{\"AB\":1}}";
+    let fed = one(rt.alloc(), SqlType::Int, line)?;
+    assert!(rt; fed.key.items().is_empty());
+    assert_eq!(rt; number_of(&fed), Some(1));
     Ok(())
 }
 
@@ -238,7 +243,6 @@ fn streams_and_tables_differ_without_a_value_or_a_key(rt: HostRuntime) -> Result
 fn a_key_of_another_type_is_none(rt: HostRuntime) -> Result<(), Fail> {
     let fed = one(
         rt.alloc(),
-        Kind::Stream,
         SqlType::Int,
         "{\"t\":1,\"k\":7,\"v\":{\"AB\":1}}",
     )?;
@@ -256,7 +260,7 @@ fn a_key_has_at_most_65536_bytes(rt: HostRuntime) -> Result<(), Fail> {
             line.push('a')?;
         }
         line.push_str("\",\"v\":{}}")?;
-        let fed = one(alloc, Kind::Stream, SqlType::Int, line.as_str())?;
+        let fed = one(alloc, SqlType::Int, line.as_str())?;
         assert_eq!(rt; fed.key.items().len(), values);
         assert_eq!(rt; matches!(&fed.value, Decoded::Good(_)), values == 1);
     }
@@ -266,7 +270,7 @@ fn a_key_has_at_most_65536_bytes(rt: HostRuntime) -> Result<(), Fail> {
 #[test]
 fn a_row_is_printed_without_blanks(rt: HostRuntime) -> Result<(), Fail> {
     let alloc = rt.alloc();
-    let mut stream = relation(alloc, Kind::Stream, SqlType::Int)?;
+    let mut stream = stream(alloc, SqlType::Int)?;
     stream.schema.values = Items::of(vec![in alloc;
         column(alloc, "A", SqlType::Int)?,
         column(alloc, "b\"", SqlType::Text)?,
@@ -297,7 +301,7 @@ fn is_copied<T: CopyOf + Debug>(alloc: Global, value: &T) -> Result<bool, Fail> 
 fn copies_are_equal(rt: HostRuntime) -> Result<(), Fail> {
     let alloc = rt.alloc();
     let line = "{\"t\":4,\"k\":\"a\",\"v\":{\"AB\":1}}";
-    let fed = one(alloc, Kind::Stream, SqlType::Int, line)?;
+    let fed = one(alloc, SqlType::Int, line)?;
     assert!(rt; is_copied(alloc, &fed)?);
     let lines = TopicLines {
         relation: 3,

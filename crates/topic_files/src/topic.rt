@@ -3,9 +3,9 @@ use ksql_types::{CopyOf, Items, Key};
 use std::alloc::{AllocError, AllocFailed, Global};
 use thiserror::Error;
 
-/// A record as its topic file has it: its time in milliseconds from 0 to 2^53, its key and its value. The key is empty
-/// where the record has none, and where it isn't of the type of the relation's key; in the latter case the value is
-/// skipped.
+/// A record as its topic file has it: its time in milliseconds from 0 to 2^53, its key and its value, which is a
+/// tombstone where the line has none. The key is empty where the line has none, and where it isn't of the type of the
+/// relation's key: there the value is skipped.
 #[derive(Debug, Drop)]
 pub struct Fed {
     pub time: u64,
