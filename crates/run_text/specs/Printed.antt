@@ -2,13 +2,10 @@
 use Rattle.std.specs.Prelude.{ℕ, List, [], ◌∷◌, ◌++◌, map, codes, decimal, Option, Some, None}
 use Rattle.ksql_types.specs.declared.value.Value.{Value}
 use Rattle.ksql_types.specs.declared.relation.Column.{Column}
-use Rattle.ksql_types.specs.declared.relation.Relation.{Relation}
 use Rattle.ksql_types.specs.declared.relation.Span.{Span}
-use Rattle.ksql_place.specs.declared.change.Body.{Body}
-use Rattle.ksql_place.specs.declared.change.Body.TheVariants.{Said, Turned}
+use Rattle.ksql_place.specs.Said.{row_in}
 use Rattle.ksql_place.specs.declared.change.Change.{Change}
 use Rattle.ksql_place.specs.declared.change.SourceRecord.{SourceRecord}
-use Rattle.query_meaning.specs.Meaning.{partition_of}
 use Rattle.topic_files.specs.Printed.{comma_joined, object_text, printed}
 
 -- values with commas between
@@ -26,24 +23,40 @@ unfoldable pub span_text : Option Span → List ℕ
 span_text None = []
 span_text (Some span) = codes ",\"w\":[" ++ (decimal span.start ++ (codes "," ++ (decimal span.end ++ codes "]")))
 
--- what a change says, as JSON: a row of these columns, or null where there is none any more
+-- a row of these columns, or null where there is none any more
 unfoldable pub row_text : List Column → Option (List Value) → List ℕ
 row_text columns None = codes "null"
 row_text columns (Some row) = object_text columns row
 
-unfoldable pub body_text : List Column → Body → List ℕ
-body_text columns (Said row) = row_text columns (Some row)
-body_text columns (Turned old new) = row_text columns new
+-- What is shown of a change: the partition in which it stands, its time, its key and window, and the row that it leaves, where
+-- there is one.
+pub record Shown : Type 0 where
+  pub part : ℕ
+  pub time : ℕ
+  pub key : List Value
+  pub span : Option Span
+  pub row : Option (List Value)
 
--- the line of a change of a relation: the partition in which it stands, time, key, window and value
-unfoldable pub change_line : Relation → Change → List ℕ
-change_line relation change =
-    codes "{\"p\":" ++ (decimal (partition_of relation change)
-    ++ (codes ",\"t\":" ++ (decimal change.time
-    ++ (codes ",\"k\":" ++ (key_text change.key
-    ++ (span_text change.span
-    ++ (codes ",\"v\":" ++ (body_text relation.schema.values change.body
-    ++ codes "}\n"))))))))
+-- what is shown of a change that stands in a partition
+abbrev pub shown_in : ℕ → Change → Shown
+shown_in part c = record { part = part; time = c.time; key = c.key; span = c.span; row = row_in c.body }
+
+-- time, key, window and value, up to the end of the line
+unfoldable pub fields_text : List Column → Shown → List ℕ
+fields_text columns shown =
+    codes "\"t\":" ++ (decimal shown.time
+    ++ (codes ",\"k\":" ++ (key_text shown.key
+    ++ (span_text shown.span
+    ++ (codes ",\"v\":" ++ (row_text columns shown.row
+    ++ codes "}\n"))))))
+
+-- the line of a change
+unfoldable pub change_line : List Column → Shown → List ℕ
+change_line columns shown = codes "{\"p\":" ++ (decimal shown.part ++ (codes "," ++ fields_text columns shown))
+
+-- the line of a row that a table has
+unfoldable pub row_line : List Column → Shown → List ℕ
+row_line columns shown = codes "row {" ++ fields_text columns shown
 
 -- the line of a record that was fed: feed, topic, partition, offset and time
 unfoldable pub order_line : List ℕ → SourceRecord → List ℕ

@@ -1,63 +1,94 @@
 -- The report on the relations of a program.
-use Rattle.std.specs.Prelude.{ℕ, ◌≤◌, List, [], ◌∷◌, ◌++◌, length, flat_map, count_by, codes, decimal, Bool, true, false, not, ◌==◌, ◌&&◌, ◌||◌, slice_get}
+use Rattle.std.specs.Prelude.{◌≡◌, ℕ, ◌≤◌, List, [], ◌∷◌, ◌++◌, length, map, filter, flat_map, count_by, codes, decimal, Bool, true, false, ◌==◌, ◌&&◌, if◌then◌else◌, Option, None, Some, slice_get, slice_index_or, option_map, unwrap_or, is_some}
+use Rattle.std.specs.List.{list_any}
 use Rattle.std.specs.Option.{option_map_or}
+use Rattle.std.specs.declared.cmp.Ordering.{Ordering}
+use Rattle.std.specs.Ordering.{nat_cmp, ordering_then}
+use Rattle.ksql_types.specs.Order.{key_cmp}
+use Rattle.ksql_types.specs.declared.relation.Format.TheVariants.{Json}
 use Rattle.ksql_types.specs.declared.relation.Kind.{Kind}
 use Rattle.ksql_types.specs.declared.relation.Kind.TheVariants as kinds
 use Rattle.ksql_types.specs.declared.relation.Relation.{Relation}
-use Rattle.ksql_types.specs.declared.value.Value.{Value}
+use Rattle.ksql_types.specs.declared.relation.Span.{Span}
+use Rattle.ksql_place.specs.Ascending.{ascending}
+use Rattle.ksql_place.specs.Said.{is_skipped}
 use Rattle.ksql_place.specs.declared.change.Change.{Change}
-use Rattle.ksql_place.specs.declared.change.Decoded.{Decoded}
-use Rattle.ksql_place.specs.declared.change.Decoded.TheVariants.{Good, Tombstone, Skipped}
 use Rattle.ksql_place.specs.declared.change.SourceRecord.{SourceRecord}
 use Rattle.ksql_program.specs.declared.program.Item.{Item}
-use Rattle.ksql_program.specs.Program.{relation_of, relations}
-use Rattle.query_meaning.specs.Built.{is_stream}
-use Rattle.run_text.specs.Printed.{change_line, order_line}
+use Rattle.ksql_program.specs.Program.{relations}
+use Rattle.ksql_nodes.specs.Entries.{is_same_key}
+use Rattle.ksql_nodes.specs.Windows.{is_same_span}
+use Rattle.query_meaning.specs.Meaning.{partition_of, up_to}
+use Rattle.query_meaning.specs.Queries.{changes_at}
+use Rattle.run_text.specs.Printed.{change_line, order_line, row_line, shown_in, Shown}
 
--- a relation of 1 to 64 partitions
-pub record HasPartitions (relation : Relation) : Type 0 where
+-- a relation whose report is written as yet: a stream of JSON values, of 1 to 64 partitions
+pub record IsPrintable (relation : Relation) : Type 0 where
   pub some : 1 ≤ relation.partitions
   pub few : relation.partitions ≤ 64
+  pub stream : relation.kind ≡ kinds.Stream
+  pub json : relation.format ≡ Json
 
--- what is shown of a relation: up to which feed, how many of its records were skipped, and its changes
+-- ---- what is shown of a relation
+
+-- up to which feed a relation is shown, how many of its records were skipped, and its changes
 pub record Section : Type 0 where
   pub relation : Relation
   pub closed : ℕ
   pub skipped : ℕ
-  pub changes : List Change
+  pub shown : List Shown
 
--- the topic's name of the relation with this number
-abbrev pub topic_name : List Relation → ℕ → List ℕ
-topic_name relations number = option_map_or (λ relation. relation.topic) (slice_get relations number) []
-
--- whether a record has what a relation of this kind takes: a stream a row; a table a key, and a row or a tombstone
-abbrev pub is_good : Kind → List Value → Decoded → Bool
-is_good kind key (Good row) = is_stream kind || not (length key == 0)
-is_good kind key Tombstone = not (is_stream kind) && not (length key == 0)
-is_good kind key Skipped = false
-
--- whether a record is a skipped one of a relation's topic: one that isn't good
-abbrev pub is_skipped : Relation → SourceRecord → Bool
-is_skipped relation fed = (fed.stamp.topic == relation.number) && not (is_good relation.kind fed.key fed.value)
-
--- how many records of a relation's topic were skipped
+-- how many of some records of a relation's topic were skipped
 abbrev pub skipped_of : Relation → List SourceRecord → ℕ
 skipped_of relation order = count_by (is_skipped relation) order
 
--- what is shown of an item with these changes
-unfoldable pub section_of : ℕ → Item → List SourceRecord → List Change → Section
-section_of closed item order changes = record {
-  relation = relation_of item;
-  closed = closed;
-  skipped = skipped_of (relation_of item) order;
-  changes = changes;
-}
+-- what is shown of a relation up to a feed, from the records up to there and from its changes as they stand in partitions
+unfoldable pub section_of : ℕ → Relation → List SourceRecord → List Shown → Section
+section_of closed relation order shown = record { relation = relation; closed = closed; skipped = skipped_of relation order; shown = shown }
 
--- what is shown of each item in its order, with the changes at its index
-unfoldable pub sections : ℕ → List Item → List SourceRecord → List (List Change) → List Section
-sections closed [] order lists = []
-sections closed (item ∷ items) order [] = section_of closed item order [] ∷ sections closed items order []
-sections closed (item ∷ items) order (changes ∷ lists) = section_of closed item order changes ∷ sections closed items order lists
+-- the changes that a relation means, each in the partition of its key's lane, or without a key in that of its record
+abbrev pub meant : Relation → List Change → List Shown
+meant relation changes = map (λ c. shown_in (partition_of relation c) c) changes
+
+-- the feed up to which the relation of this number is shown
+abbrev pub closed_at : List ℕ → ℕ → ℕ
+closed_at closed number = slice_index_or closed number 0
+
+-- what is shown of each relation of a program, each up to its own feed, where these are their changes up to there
+unfoldable pub sections : List ℕ → List Item → List SourceRecord → List (List Change) → List Section
+sections closed items order lists =
+    map (λ r. section_of (closed_at closed r.number) r (up_to (closed_at closed r.number) order) (meant r (changes_at lists r.number))) (relations items)
+
+-- ---- the rows of a table
+
+-- whether two changes have the same window, or both none
+abbrev pub is_same_window : Option Span → Option Span → Bool
+is_same_window None None = true
+is_same_window (Some a) (Some b) = is_same_span a b
+is_same_window _ _ = false
+
+-- whether two changes are of the same row: key and window are equal
+abbrev pub is_same_row : Shown → Shown → Bool
+is_same_row a b = is_same_key a.key b.key && is_same_window a.span b.span
+
+-- the latest change of each row
+abbrev pub latest_of : List Shown → List Shown
+latest_of [] = []
+latest_of (a ∷ later) = if list_any (is_same_row a) later then latest_of later else a ∷ latest_of later
+
+-- the start of a window; 0 without one
+abbrev pub start_of : Shown → ℕ
+start_of shown = unwrap_or (option_map (λ span. span.start) shown.span) 0
+
+-- rows are compared by key, and then by the start of their window
+abbrev pub row_cmp : Shown → Shown → Ordering
+row_cmp a b = ordering_then (key_cmp a.key b.key) (nat_cmp (start_of a) (start_of b))
+
+-- the rows that a table has after its changes, by key and window
+unfoldable pub rows_of : List Shown → List Shown
+rows_of shown = ascending row_cmp (filter (λ s. is_some s.row) (latest_of shown))
+
+-- ---- the text
 
 -- what a relation is, in a word
 abbrev pub kind_text : Kind → List ℕ
@@ -70,16 +101,33 @@ unfoldable pub origin_text : Bool → ℕ → ℕ → List ℕ
 origin_text true closed skipped = codes " declared c=" ++ (decimal closed ++ (codes " skipped=" ++ decimal skipped))
 origin_text false closed skipped = codes " query c=" ++ decimal closed
 
--- the head line of a relation; it has no count of rows, which only tables have
-unfoldable pub head_line : Section → List ℕ
-head_line shown =
-    kind_text shown.relation.kind ++ (codes " " ++ (shown.relation.name
-    ++ (origin_text shown.relation.declared shown.closed shown.skipped
-    ++ (codes " changes=" ++ (decimal (length shown.changes) ++ codes "\n")))))
+-- how many rows there are, of a table alone
+unfoldable pub count_text : Kind → List Shown → List ℕ
+count_text kinds.Stream rows = []
+count_text _ rows = codes " rows=" ++ decimal (length rows)
 
--- a relation's head line and the lines of its changes
+-- the head line of a relation
+unfoldable pub head_line : Section → List ℕ
+head_line s =
+    kind_text s.relation.kind ++ (codes " " ++ (s.relation.name
+    ++ (origin_text s.relation.declared s.closed s.skipped
+    ++ (codes " changes=" ++ (decimal (length s.shown) ++ (count_text s.relation.kind (rows_of s.shown) ++ codes "\n"))))))
+
+-- the lines of the rows, of a table alone
+unfoldable pub row_lines : Section → List ℕ
+row_lines s = by_kind s.relation.kind
+  where
+    by_kind : Kind → List ℕ
+    by_kind kinds.Stream = []
+    by_kind _ = flat_map (row_line s.relation.schema.values) (rows_of s.shown)
+
+-- a relation's head line, the lines of its changes and those of its rows
 unfoldable pub section_text : Section → List ℕ
-section_text shown = head_line shown ++ flat_map (change_line shown.relation) shown.changes
+section_text s = head_line s ++ (flat_map (change_line s.relation.schema.values) s.shown ++ row_lines s)
+
+-- the topic's name of the relation with this number
+abbrev pub topic_name : List Relation → ℕ → List ℕ
+topic_name relations number = option_map_or (λ relation. relation.topic) (slice_get relations number) []
 
 -- the line of a record that was fed, among these relations
 unfoldable pub fed_line : List Relation → SourceRecord → List ℕ
@@ -90,7 +138,7 @@ unfoldable pub order_text : List Relation → List SourceRecord → List ℕ
 order_text relations order =
     codes "order " ++ (decimal (length order) ++ (codes "\n" ++ flat_map (fed_line relations) order))
 
--- the report: the order of consumption, each section, and the last line
-unfoldable pub report : List Relation → List SourceRecord → List Section → List ℕ
-report relations order shown =
-    order_text relations order ++ (flat_map section_text shown ++ codes "end\n")
+-- the report: the order of consumption, each section, the trace, and the last line
+unfoldable pub report : List Relation → List SourceRecord → List Section → List ℕ → List ℕ
+report relations order sections trace =
+    order_text relations order ++ (flat_map section_text sections ++ (trace ++ codes "end\n"))

@@ -3,5 +3,6 @@
 
 mod printed;
 mod program_report;
+mod section;
 
 pub use program_report::report;

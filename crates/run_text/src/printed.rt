@@ -3,14 +3,24 @@
 ghost use Rattle.std.specs.Prelude.{◌≡◌, ◌++◌, List, OnOk, map, option_map, string_bytes};
 ghost use Rattle.ksql_types.specs.declared.relation.Column.{Column as OneColumn};
 ghost use Rattle.topic_files.specs.Printed.{labels_of};
-ghost use Rattle.run_text.specs.Printed.{body_text, cells_text, change_line, key_text, order_line, row_text, span_text};
-ghost use Rattle.run_text.specs.Report.{HasPartitions};
+ghost use Rattle.run_text.specs.Lines.{shown_of};
+ghost use Rattle.run_text.specs.Printed.{cells_text, change_line, fields_text, key_text, order_line, row_text, span_text};
 
-use ksql_place::{Body, Change, SourceRecord};
-use ksql_types::{Relation, Row, Span, Value};
-use query_meaning::partition_of;
+use ksql_place::SourceRecord;
+use ksql_types::{Span, Value};
 use std::alloc::{AllocError, Global};
 use topic_files::{push_object, push_printed};
+
+/// A line of a relation's section: the partition in which a change stands, its time, its key and window, and the row that
+/// it leaves, where there is one.
+#[derive(Clone, Copy, Drop)]
+pub struct Line<'a> {
+    pub part: u32,
+    pub time: u64,
+    pub key: &'a [Value],
+    pub span: Option<Span>,
+    pub row: Option<&'a [Value]>,
+}
 
 /// Appends the values with commas between.
 #[tactic(auto, unfolding(crate::specs::Printed::cells_text))]
@@ -59,33 +69,36 @@ fn push_row(
     out: &mut String,
     alloc: Global,
     labels: &[String],
-    row: Option<&Row>,
+    row: Option<&[Value]>,
 ) -> Result<(), AllocError>
     ensures { (columns : List OneColumn) → map string_bytes labels.now ≡ labels_of columns
         → OnOk result (string_bytes out.new
         ≡ string_bytes out.old ++ row_text columns (option_map (λ r. r.now) row.entry)) }
 {
     match row {
-        Some(row) => push_object(out, alloc, labels, row.items()),
+        Some(row) => push_object(out, alloc, labels, row),
         None => out.push_str("null"),
     }
 }
 
-/// Appends what a change says, where the value columns have these labels.
-#[tactic(auto, unfolding(crate::specs::Printed::body_text))]
-fn push_body(
+/// Appends time, key, window and value, up to the end of the line, where the value columns have these labels.
+#[tactic(auto, using(crate::proofs::ReportLemmas::appends), unfolding(crate::specs::Printed::fields_text))]
+fn push_fields(
     out: &mut String,
     alloc: Global,
     labels: &[String],
-    body: &Body,
+    line: Line,
 ) -> Result<(), AllocError>
     ensures { (columns : List OneColumn) → map string_bytes labels.now ≡ labels_of columns
-        → OnOk result (string_bytes out.new ≡ string_bytes out.old ++ body_text columns body.now) }
+        → OnOk result (string_bytes out.new ≡ string_bytes out.old ++ fields_text columns (shown_of line.entry)) }
 {
-    match body {
-        Body::Said(row) => push_row(out, alloc, labels, Some(row)),
-        Body::Turned { new, .. } => push_row(out, alloc, labels, new.as_ref()),
-    }
+    let time = line.time;
+    write!(out, "\"t\":{time},\"k\":")?;
+    push_key(out, alloc, line.key)?;
+    push_span(out, line.span)?;
+    out.push_str(",\"v\":")?;
+    push_row(out, alloc, labels, line.row)?;
+    out.push_str("}\n")
 }
 
 /// Appends the line of a change of a relation whose value columns have these labels.
@@ -93,23 +106,15 @@ fn push_body(
 pub fn push_change(
     out: &mut String,
     alloc: Global,
-    relation: &Relation,
     labels: &[String],
-    change: &Change,
+    line: Line,
 ) -> Result<(), AllocError>
-    requires parts { HasPartitions relation.now }
-    requires labelled { map string_bytes labels.now ≡ labels_of relation.now.schema.values }
-    ensures { OnOk result (string_bytes out.new
-        ≡ string_bytes out.old ++ change_line relation.now change.now) }
+    ensures { (columns : List OneColumn) → map string_bytes labels.now ≡ labels_of columns
+        → OnOk result (string_bytes out.new ≡ string_bytes out.old ++ change_line columns (shown_of line.entry)) }
 {
-    let part = partition_of(relation, change);
-    let time = change.time;
-    write!(out, "{{\"p\":{part},\"t\":{time},\"k\":")?;
-    push_key(out, alloc, change.key.items())?;
-    push_span(out, change.span)?;
-    out.push_str(",\"v\":")?;
-    push_body(out, alloc, labels, &change.body)?;
-    out.push_str("}\n")
+    let part = line.part;
+    write!(out, "{{\"p\":{part},")?;
+    push_fields(out, alloc, labels, line)
 }
 
 /// Appends the line of a record that was fed from this topic.

@@ -1,35 +1,42 @@
 //! The report on the relations of a program.
 
-ghost use Rattle.std.specs.Prelude.{◌≡◌, ◌++◌, [], All, IfOk, OnOk, flat_map, slice_index_or, string_bytes};
+ghost use Rattle.std.specs.Prelude.{◌≡◌, ◌++◌, All, IfOk, OnOk, count_by, flat_map, map, string_bytes};
 ghost use Rattle.ksql_program.specs.Program.{relation_of, relations};
-ghost use Rattle.run_text.specs.Report.{HasPartitions, head_line, is_good, is_skipped, kind_text, order_text, origin_text, report, section_of, section_text, sections, skipped_of, topic_name};
+ghost use Rattle.query_meaning.specs.Plain.{changes_of};
+ghost use Rattle.query_meaning.specs.Meaning.{up_to};
+ghost use Rattle.query_meaning.specs.Queries.{changes_at};
+ghost use Rattle.run_text.specs.Lines.{is_skipped_up_to};
+ghost use Rattle.run_text.specs.Report.{closed_at, meant, order_text, report, section_of, section_text, sections, topic_name, IsPrintable};
 
-use crate::printed::{push_change, push_order_line};
-use ksql_place::{Change, Changes, Decoded, SourceRecord};
+use crate::printed::push_order_line;
+use crate::section::{lines_of, push_section};
+use ksql_place::{SourceRecord, is_skipped};
 use ksql_program::{Item, Program, relation_of};
-use ksql_types::{Kind, Relation};
+use ksql_types::Relation;
+use query_meaning::Listed;
 use std::alloc::{AllocError, Global};
-use topic_files::labels;
 
-/// The report on a program's relations: the records that were fed in their order, a head line and the changes of each
-/// relation, and a last line. `lists` has the changes of each relation at its number, and `closed` is the feed that
-/// each head line shows.
+/// The report on a program's relations, which are streams of JSON values: the records that were fed in their order, a
+/// head line and the changes of each relation, the trace, and a last line. `lists` has the changes of each relation at
+/// its number, up to the feed that `closed` has there.
 #[tactic(auto, using(crate::proofs::ReportLemmas::appends), unfolding(crate::specs::Report::report))]
 pub fn report(
     alloc: Global,
     program: &Program,
-    closed: u64,
+    closed: &[u64],
     order: &[SourceRecord],
-    lists: &[Changes],
+    lists: &[Listed],
+    trace: &str,
 ) -> Result<String, AllocError>
-    requires parts { All HasPartitions (relations program.now.items) }
-    ensures { IfOk result (λ text. string_bytes text
-        ≡ report (relations program.now.items) order.now (sections closed program.now.items order.now lists.now)) }
+    requires printable { All IsPrintable (relations program.now.items) }
+    ensures { IfOk result (λ text. string_bytes text ≡ report (relations program.now.items) order.now
+        (sections closed.now program.now.items order.now (map changes_of lists.now)) trace.now) }
 {
     let items = program.items.items();
     let mut out = String::new(alloc);
     push_order(&mut out, items, order)?;
-    push_sections(&mut out, alloc, closed, items, order, lists)?;
+    push_items(&mut out, alloc, closed, items, order, lists)?;
+    out.push_str(trace)?;
     out.push_str("end\n")?;
     Ok(out)
 }
@@ -58,133 +65,75 @@ fn topic_name(items: &[Item], number: u32) -> &str
     }
 }
 
-/// Appends what is shown of each item.
-fn push_sections(
+/// Appends what is shown of each relation.
+fn push_items(
     out: &mut String,
     alloc: Global,
-    closed: u64,
+    closed: &[u64],
     items: &[Item],
     order: &[SourceRecord],
-    lists: &[Changes],
+    lists: &[Listed],
 ) -> Result<(), AllocError>
-    requires parts { All HasPartitions (relations items.now) }
-    ensures { OnOk result (string_bytes out.new
-        ≡ string_bytes out.old ++ flat_map section_text (sections closed items.now order.now lists.now)) }
+    requires printable { All IsPrintable (relations items.now) }
+    ensures { OnOk result (string_bytes out.new ≡ string_bytes out.old
+        ++ flat_map section_text (sections closed.now items.now order.now (map changes_of lists.now))) }
 {
-    for (index, item) in items.iter().enumerate() {
-        push_section(out, alloc, closed, item, order, changes_at(lists, index))?;
+    for item in items {
+        push_item(out, alloc, closed, relation_of(item), order, lists)?;
     }
     Ok(())
 }
 
-/// The changes of the relation with this number, or none where there is no list.
-fn changes_at(lists: &[Changes], index: usize) -> &[Change]
-    ensures { result.now ≡ slice_index_or lists.now index [] }
-{
-    match lists.get(index) {
-        Some(changes) => changes.items(),
-        None => &[],
-    }
-}
-
-/// Appends what is shown of an item with these changes.
-#[tactic(auto, unfolding(crate::specs::Report::section_text, crate::specs::Report::section_of))]
-fn push_section(
+/// Appends what is shown of a relation.
+fn push_item(
     out: &mut String,
     alloc: Global,
-    closed: u64,
-    item: &Item,
-    order: &[SourceRecord],
-    changes: &[Change],
-) -> Result<(), AllocError>
-    requires parts { HasPartitions (relation_of item.now) }
-    ensures { OnOk result (string_bytes out.new
-        ≡ string_bytes out.old ++ section_text (section_of closed item.now order.now changes.now)) }
-{
-    push_head(out, closed, item, order, changes)?;
-    let relation = relation_of(item);
-    let labels = labels(alloc, relation.schema.values.items())?;
-    for change in changes {
-        push_change(out, alloc, relation, &labels, change)?;
-    }
-    Ok(())
-}
-
-/// Appends the head line of an item with these changes.
-#[tactic(auto, using(crate::proofs::ReportLemmas::appends), unfolding(crate::specs::Report::head_line, crate::specs::Report::section_of))]
-fn push_head(
-    out: &mut String,
-    closed: u64,
-    item: &Item,
-    order: &[SourceRecord],
-    changes: &[Change],
-) -> Result<(), AllocError>
-    ensures { OnOk result (string_bytes out.new
-        ≡ string_bytes out.old ++ head_line (section_of closed item.now order.now changes.now)) }
-{
-    let relation = relation_of(item);
-    let kind = kind_text(relation.kind);
-    let name = relation.name.items();
-    write!(out, "{kind} {name}")?;
-    push_origin(out, relation, closed, order)?;
-    writeln!(out, " changes={}", changes.len())
-}
-
-/// What a relation is, in a word.
-fn kind_text(kind: Kind) -> &'static str
-    ensures { result.now ≡ kind_text kind }
-{
-    match kind {
-        Kind::Stream => "stream",
-        Kind::Table => "table",
-        Kind::Windowed => "windowed",
-    }
-}
-
-/// Appends where the relation comes from, its last feed shown and, of a declared one, how many of its records were
-/// skipped.
-#[tactic(auto, unfolding(crate::specs::Report::origin_text))]
-fn push_origin(
-    out: &mut String,
+    closed: &[u64],
     relation: &Relation,
-    closed: u64,
     order: &[SourceRecord],
+    lists: &[Listed],
 ) -> Result<(), AllocError>
-    ensures { OnOk result (string_bytes out.new ≡ string_bytes out.old
-        ++ origin_text relation.now.declared closed (skipped_of relation.now order.now)) }
+    requires { IsPrintable relation.now }
+    ensures { let feed = closed_at closed.now relation.now.number in
+        OnOk result (string_bytes out.new ≡ string_bytes out.old ++ section_text
+        (section_of feed relation.now (up_to feed order.now) (meant relation.now (changes_at (map changes_of lists.now) relation.now.number)))) }
 {
-    if relation.declared {
-        let skipped = skipped_of(relation, order);
-        write!(out, " declared c={closed} skipped={skipped}")
-    } else {
-        write!(out, " query c={closed}")
+    let closed = closed_at(closed, relation.number);
+    let skipped = skipped_of(relation, closed, order);
+    match lists.get(relation.number as usize) {
+        Some(listed) => {
+            let lines = lines_of(alloc, relation, listed)?;
+            push_section(out, alloc, relation, closed, skipped, lines.as_slice())
+        }
+        None => push_section(out, alloc, relation, closed, skipped, &[]),
     }
 }
 
-/// How many records of a relation's topic were skipped.
-fn skipped_of(relation: &Relation, order: &[SourceRecord]) -> usize
-    ensures { result ≡ skipped_of relation.now order.now }
+/// The feed up to which the relation of this number is shown.
+fn closed_at(closed: &[u64], number: u32) -> u64
+    ensures { result ≡ closed_at closed.now number }
 {
-    order.iter().filter(|fed| is_skipped(relation, fed)).count()
-}
-
-/// Whether the record is a skipped one of a relation's topic.
-fn is_skipped(relation: &Relation, fed: &SourceRecord) -> bool
-    ensures { result ≡ is_skipped relation.now fed.now }
-{
-    fed.stamp.topic == relation.number && !is_good(relation.kind, fed)
-}
-
-/// Whether a record has what a relation of this kind takes: a stream a row; a table a key, and a row or a tombstone.
-fn is_good(kind: Kind, fed: &SourceRecord) -> bool
-    ensures { result ≡ is_good kind fed.now.key fed.now.value }
-{
-    let has_key = !fed.key.items().is_empty();
-    match &fed.value {
-        Decoded::Good(_) => kind == Kind::Stream || has_key,
-        Decoded::Tombstone => kind != Kind::Stream && has_key,
-        Decoded::Skipped => false,
+    match closed.get(number as usize) {
+        Some(feed) => *feed,
+        None => 0,
     }
+}
+
+/// How many records of a relation's topic, up to a feed, were skipped.
+fn skipped_of(relation: &Relation, feed: u64, order: &[SourceRecord]) -> usize
+    ensures { result ≡ count_by (is_skipped_up_to relation.now feed) order.now }
+{
+    order
+        .iter()
+        .filter(|fed| is_skipped_up_to(relation, feed, fed))
+        .count()
+}
+
+/// Whether a record, up to a feed, is a skipped one of a relation's topic.
+fn is_skipped_up_to(relation: &Relation, feed: u64, fed: &SourceRecord) -> bool
+    ensures { result ≡ is_skipped_up_to relation.now feed fed.now }
+{
+    fed.stamp.feed <= feed && is_skipped(relation, fed)
 }
 
 #[cfg(test)]

@@ -1,10 +1,13 @@
-ghost use Rattle.std.specs.Prelude.{◌≡◌, IfOk};
+ghost use Rattle.std.specs.Prelude.{IfOk};
+ghost use Rattle.run_text.specs.Report.{IsPrintable};
 
 use super::*;
-use ksql_place::{Body, Place, Stamp};
+use crate::printed::push_change;
+use ksql_place::{Body, Change, Decoded, Place, Stamp};
 use ksql_program::{From, Query, Shape};
-use ksql_types::{Chars, Column, Format, Items, Key, Schema, Span, SqlType, Value};
+use ksql_types::{Chars, Column, Format, Items, Key, Kind, Row, Schema, Span, SqlType, Value};
 use std::test::Fail;
+use topic_files::labels;
 
 #[tactic(auto, unfolding(ksql_types::specs::Text::longest_text))]
 fn chars(alloc: Global, text: &str) -> Result<Chars, AllocError> {
@@ -29,7 +32,7 @@ fn stream(
     topic: &str,
     declared: bool,
 ) -> Result<Relation, AllocError>
-    ensures { IfOk result (λ stream. stream.partitions ≡ 4) }
+    ensures { IfOk result IsPrintable }
 {
     let keys = Items::of(vec![in alloc; column(alloc, "ID", SqlType::Text)?]?);
     let values = Items::of(vec![in alloc;
@@ -49,11 +52,13 @@ fn stream(
     })
 }
 
-/// The report on the stream S over the topic s and on a query BIG over it.
+/// The report on the stream S over the topic s and on a query BIG over it, each up to its own feed.
 fn reported(
     alloc: Global,
+    closed: &[u64],
     order: &[SourceRecord],
-    lists: &[Changes],
+    lists: &[Listed],
+    trace: &str,
 ) -> Result<String, AllocError> {
     let declared = stream(alloc, 0, "S", "s", true)?;
     let out = stream(alloc, 1, "BIG", "BIG", false)?;
@@ -68,7 +73,7 @@ fn reported(
     };
     let items = vec![in alloc; Item::Declared(declared), Item::Started(big)]?;
     let items = Items::of(items);
-    report(alloc, &Program { items }, 1, order, lists)
+    report(alloc, &Program { items }, closed, order, lists, trace)
 }
 
 /// The stamp of a record without a key in partition 2.
@@ -104,20 +109,23 @@ fn change(alloc: Global, time: u64, key: Key, span: Option<Span>, body: Body) ->
     }
 }
 
-/// The change of a record without a key and with nulls.
-fn nulls(alloc: Global, time: u64) -> Result<Change, AllocError> {
+/// A row of nulls.
+fn nulls(alloc: Global) -> Result<Row, AllocError> {
     let row = vec![in alloc; Value::Null, Value::Null, Value::Bool(false)]?;
-    let body = Body::Said(Items::of(row));
-    Ok(change(alloc, time, Key::of(Vec::new(alloc)), None, body))
+    Ok(Items::of(row))
 }
 
 /// The line of a change of the stream S.
-fn line_of(alloc: Global, change: &Change) -> Result<String, AllocError> {
+fn line_of(alloc: Global, change: Change) -> Result<String, AllocError> {
     let stream = stream(alloc, 0, "S", "s", true)?;
     let labels = labels(alloc, stream.schema.values.items())?;
-    let mut line = String::new(alloc);
-    push_change(&mut line, alloc, &stream, &labels, change)?;
-    Ok(line)
+    let listed = Listed::Made(Items::of(vec![in alloc; change]?));
+    let lines = lines_of(alloc, &stream, &listed)?;
+    let mut text = String::new(alloc);
+    for line in lines.as_slice() {
+        push_change(&mut text, alloc, &labels, *line)?;
+    }
+    Ok(text)
 }
 
 #[test]
@@ -125,18 +133,21 @@ fn shows_a_stream_and_a_query_over_it(rt: HostRuntime) -> Result<(), Fail> {
     let alloc = rt.alloc();
     let order = vec![in alloc;
         fed(alloc, 0, 5, Decoded::Skipped),
-        fed(alloc, 1, 7, Decoded::Good(Items::of(Vec::new(alloc)))),
+        fed(alloc, 1, 7, Decoded::Good(nulls(alloc)?)),
         fed(alloc, 2, 4, Decoded::Tombstone),
     ]?;
-    let said = vec![in alloc; nulls(alloc, 5)?, nulls(alloc, 7)?]?;
-    let kept = vec![in alloc; nulls(alloc, 7)?]?;
-    let lists = vec![in alloc; Items::of(said), Items::of(kept)]?;
+    let said = Listed::Lent {
+        number: 0,
+        order: order.as_slice(),
+    };
+    let body = Body::Said(nulls(alloc)?);
+    let big = change(alloc, 7, Key::of(Vec::new(alloc)), None, body);
+    let made = Listed::Made(Items::of(vec![in alloc; big]?));
     assert_eq!(rt;
-        reported(alloc, &order, &lists)?.as_str(),
+        reported(alloc, &[1, 1], &order, &[said, made], "")?.as_str(),
         concat!(
             "order 3\n1 s 2 0 5\n1 s 2 1 7\n1 s 2 2 4\n",
-            "stream S declared c=1 skipped=2 changes=2\n",
-            "{\"p\":2,\"t\":5,\"k\":null,\"v\":{\"NAME\":null,\"BIG\":null,\"on\":false}}\n",
+            "stream S declared c=1 skipped=2 changes=1\n",
             "{\"p\":2,\"t\":7,\"k\":null,\"v\":{\"NAME\":null,\"BIG\":null,\"on\":false}}\n",
             "stream BIG query c=1 changes=1\n",
             "{\"p\":2,\"t\":7,\"k\":null,\"v\":{\"NAME\":null,\"BIG\":null,\"on\":false}}\n",
@@ -147,10 +158,13 @@ fn shows_a_stream_and_a_query_over_it(rt: HostRuntime) -> Result<(), Fail> {
 }
 
 #[test]
-fn shows_no_records(rt: HostRuntime) -> Result<(), Fail> {
+fn shows_each_relation_up_to_its_feed_and_then_the_trace(rt: HostRuntime) -> Result<(), Fail> {
     assert_eq!(rt;
-        reported(rt.alloc(), &[], &[])?.as_str(),
-        "order 0\nstream S declared c=1 skipped=0 changes=0\nstream BIG query c=1 changes=0\nend\n"
+        reported(rt.alloc(), &[1], &[], &[], "trace\n")?.as_str(),
+        concat!(
+            "order 0\nstream S declared c=1 skipped=0 changes=0\n",
+            "stream BIG query c=0 changes=0\ntrace\nend\n",
+        )
     );
     Ok(())
 }
@@ -171,7 +185,7 @@ fn prints_a_window_and_a_key_of_two_columns(rt: HostRuntime) -> Result<(), Fail>
     let body = Body::Said(Items::of(row));
     let windowed = change(alloc, 1234, Key::of(key), span, body);
     assert_eq!(rt;
-        line_of(alloc, &windowed)?.as_str(),
+        line_of(alloc, windowed)?.as_str(),
         concat!(
             "{\"p\":3,\"t\":1234,\"k\":[\"a\",7],\"w\":[1000,2000],",
             "\"v\":{\"NAME\":\"q\\\" b\\\\ c\\u0001 l\\n é\",\"BIG\":-9223372036854775808,\"on\":true}}\n",
@@ -190,7 +204,7 @@ fn prints_null_for_a_tombstone(rt: HostRuntime) -> Result<(), Fail> {
     };
     let gone = change(alloc, 9, Key::of(key), None, body);
     assert_eq!(rt;
-        line_of(alloc, &gone)?.as_str(),
+        line_of(alloc, gone)?.as_str(),
         "{\"p\":1,\"t\":9,\"k\":\"a\",\"v\":null}\n"
     );
     Ok(())

@@ -1,0 +1,15 @@
+-- What the lines of a section show, and which records count as skipped.
+use Rattle.std.specs.Prelude.{ℕ, Bool, ◌&&◌, nat_le, option_map}
+use Rattle.ksql_types.specs.declared.relation.Relation.{Relation}
+use Rattle.ksql_place.specs.Said.{is_skipped}
+use Rattle.ksql_place.specs.declared.change.SourceRecord.{SourceRecord}
+use Rattle.run_text.specs.declared.printed.Line.{Line}
+use Rattle.run_text.specs.Printed.{Shown}
+
+-- what a line shows
+abbrev pub shown_of : Line → Shown
+shown_of line = record { part = line.part; time = line.time; key = line.key.now; span = line.span; row = option_map (λ row. row.now) line.row }
+
+-- whether a record, up to a feed, is a skipped one of a relation's topic
+abbrev pub is_skipped_up_to : Relation → ℕ → SourceRecord → Bool
+is_skipped_up_to relation feed r = nat_le r.stamp.feed feed && is_skipped relation r

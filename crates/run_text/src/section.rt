@@ -1,0 +1,182 @@
+//! The lines of a relation's section, and its text.
+
+ghost use Rattle.std.specs.Prelude.{◌≡◌, ◌∷◌, ◌++◌, [], IfOk, List, OnOk, length, map, option_map, string_bytes};
+ghost use Rattle.ksql_place.specs.Said.{row_in};
+ghost use Rattle.query_meaning.specs.Plain.{changes_of, rows_said};
+ghost use Rattle.run_text.specs.Lines.{shown_of};
+ghost use Rattle.run_text.specs.Printed.{Shown};
+ghost use Rattle.run_text.specs.Report.{head_line, kind_text, meant, origin_text, section_text, IsPrintable};
+
+use crate::printed::{Line, push_change};
+use ksql_place::{Body, Change, SourceRecord, said_by};
+use ksql_types::{Kind, Relation, Value, lane};
+use query_meaning::{Listed, partition_of};
+use std::alloc::{AllocError, Global};
+use topic_files::labels;
+
+/// The lines of the changes that a relation means.
+pub fn lines_of<'a>(
+    alloc: Global,
+    relation: &Relation,
+    listed: &'a Listed<'a>,
+) -> Result<Vec<Line<'a>>, AllocError>
+    requires { IsPrintable relation.now }
+    ensures { IfOk result (λ lines. map shown_of lines.items
+        ≡ meant relation.now (changes_of listed.now)) }
+{
+    match listed {
+        Listed::Lent { number, order } => lines_of_records(alloc, relation, *number, order),
+        Listed::Made(changes) => lines_of_changes(alloc, relation, changes.items()),
+    }
+}
+
+/// The lines of what the records of a stream's topic say.
+fn lines_of_records<'a>(
+    alloc: Global,
+    relation: &Relation,
+    number: u32,
+    order: &'a [SourceRecord],
+) -> Result<Vec<Line<'a>>, AllocError>
+    requires { IsPrintable relation.now }
+    ensures { IfOk result (λ lines. map shown_of lines.items
+        ≡ meant relation.now (rows_said number order.now)) }
+{
+    let mut lines = Vec::new(alloc);
+    for fed in order {
+        push_record(&mut lines, relation, number, fed)?;
+    }
+    Ok(lines)
+}
+
+/// Adds the line of what a record says to the stream of this topic.
+fn push_record<'a>(
+    lines: &mut Vec<Line<'a>>,
+    relation: &Relation,
+    number: u32,
+    fed: &'a SourceRecord,
+) -> Result<(), AllocError>
+    requires { IsPrintable relation.now }
+    ensures { OnOk result (map shown_of lines.new.items ≡ map shown_of lines.old.items ++ meant relation.now (rows_said number (fed.now ∷ []))) }
+{
+    if fed.stamp.topic != number {
+        return Ok(());
+    }
+    match said_by(Kind::Stream, &fed.key, &fed.value) {
+        Some(Some(row)) => {
+            lines.push(Line {
+                part: lane(&fed.key, relation.partitions, fed.stamp.part),
+                time: fed.time,
+                key: fed.key.items(),
+                span: None,
+                row: Some(row.items()),
+            })?;
+            Ok(())
+        }
+        _ => Ok(()),
+    }
+}
+
+/// The lines of changes.
+fn lines_of_changes<'a>(
+    alloc: Global,
+    relation: &Relation,
+    changes: &'a [Change],
+) -> Result<Vec<Line<'a>>, AllocError>
+    requires { IsPrintable relation.now }
+    ensures { IfOk result (λ lines. map shown_of lines.items ≡ meant relation.now changes.now) }
+{
+    let mut lines = Vec::new(alloc);
+    for change in changes {
+        lines.push(Line {
+            part: partition_of(relation, change),
+            time: change.time,
+            key: change.key.items(),
+            span: change.span,
+            row: row_in(&change.body),
+        })?;
+    }
+    Ok(lines)
+}
+
+/// The row that a change brings, where there is one.
+fn row_in(body: &Body) -> Option<&[Value]>
+    ensures { option_map (λ row. row.now) result ≡ row_in body.now }
+{
+    match body {
+        Body::Said(row) => Some(row.items()),
+        Body::Turned { new: Some(row), .. } => Some(row.items()),
+        Body::Turned { new: None, .. } => None,
+    }
+}
+
+/// Appends what is shown of a stream of JSON values: its head line and these lines. It is shown up to the feed `closed`,
+/// and so many of its records were skipped.
+#[tactic(auto, using(crate::proofs::ReportLemmas::appends), unfolding(crate::specs::Report::section_text))]
+pub fn push_section(
+    out: &mut String,
+    alloc: Global,
+    relation: &Relation,
+    closed: u64,
+    skipped: usize,
+    lines: &[Line],
+) -> Result<(), AllocError>
+    requires { IsPrintable relation.now }
+    ensures { OnOk result (string_bytes out.new ≡ string_bytes out.old
+        ++ section_text (record { relation = relation.now; closed = closed; skipped = skipped; shown = map shown_of lines.now })) }
+{
+    push_head(out, relation, closed, skipped, lines.len())?;
+    let labels = labels(alloc, relation.schema.values.items())?;
+    for line in lines {
+        push_change(out, alloc, &labels, *line)?;
+    }
+    Ok(())
+}
+
+/// Appends the head line of a stream that has so many changes.
+#[tactic(auto, using(crate::proofs::ReportLemmas::appends), unfolding(crate::specs::Report::head_line))]
+fn push_head(
+    out: &mut String,
+    relation: &Relation,
+    closed: u64,
+    skipped: usize,
+    changes: usize,
+) -> Result<(), AllocError>
+    requires { IsPrintable relation.now }
+    ensures { (shown : List Shown) → length shown ≡ changes → OnOk result (string_bytes out.new ≡ string_bytes out.old
+        ++ head_line (record { relation = relation.now; closed = closed; skipped = skipped; shown = shown })) }
+{
+    let kind = kind_text(relation.kind);
+    let name = relation.name.items();
+    write!(out, "{kind} {name}")?;
+    push_origin(out, relation.declared, closed, skipped)?;
+    writeln!(out, " changes={changes}")
+}
+
+/// What a relation is, in a word.
+fn kind_text(kind: Kind) -> &'static str
+    ensures { result.now ≡ kind_text kind }
+{
+    match kind {
+        Kind::Stream => "stream",
+        Kind::Table => "table",
+        Kind::Windowed => "windowed",
+    }
+}
+
+/// Appends where a relation comes from, its last feed shown and, of a declared one, how many of its records were
+/// skipped.
+#[tactic(auto, unfolding(crate::specs::Report::origin_text))]
+fn push_origin(
+    out: &mut String,
+    declared: bool,
+    closed: u64,
+    skipped: usize,
+) -> Result<(), AllocError>
+    ensures { OnOk result (string_bytes out.new ≡ string_bytes out.old ++ origin_text declared closed skipped) }
+{
+    if declared {
+        write!(out, " declared c={closed} skipped={skipped}")
+    } else {
+        write!(out, " query c={closed}")
+    }
+}
