@@ -17,7 +17,8 @@ use Rattle.topic_files.specs.declared.topic.TopicLines.{TopicLines}
 use Rattle.topic_files.specs.File.{first_fault}
 use Rattle.ksql_cli.specs.declared.status.Status.{Status}
 use Rattle.ksql_cli.specs.declared.status.Status.TheVariants as ended
-use Rattle.ksql_cli.specs.Command.{Files, script_name, IsScriptRead, IsProgramRead, declared_of, topic_file, whole_room, behind, AreFed, IsFirstBad, IsTopicDue, IsDue, AreDue, Runs, report_of, HasCause, IsDecided, IsRefusal, NoDueFails}
+use Rattle.ksql_cli.specs.Command.{Files, script_name, IsScriptRead, IsProgramRead, topic_file, whole_room, room_after, AreFed, IsFirstBad, IsTopicDue, IsDue, AreDue, Runs, HasCause, IsDecided, IsRefusal, NoDueFails}
+use Rattle.ksql_cli.specs.Run.{declared_of, report_of, Run}
 use Rattle.ksql_cli.specs.Steps.{AreTopicsDue, IsJoined, IsTopicFailure, MayJoinScript}
 
 pub if_some_both : {A : Type 0} (o : Option A) (P Q R : A → Type 0) → ((x : A) → P x → Q x → R x) → IfSome o P → IfSome o Q → IfSome o R
@@ -109,18 +110,18 @@ faultless room good bad fault same none some = none_some fault (sym none ∙ ap 
     none_some f e = cc (e)
 
 same_rest : (all : Files) (room : Room) (relation : Relation) (relations : List Relation) (a b topic : List ℕ) (line : ℕ) (why : LineWhy) → a ≡ b →
-    IsFirstBad all (behind room relation a) relations topic line why → IsFirstBad all (behind room relation b) relations topic line why
+    IsFirstBad all (room_after room relation a) relations topic line why → IsFirstBad all (room_after room relation b) relations topic line why
 same_rest all room relation relations a b topic line why same bad =
-    subst (λ (file : List ℕ). IsFirstBad all (behind room relation file) relations topic line why) same bad
+    subst (λ (file : List ℕ). IsFirstBad all (room_after room relation file) relations topic line why) same bad
 
 -- the fault of a file, or one of a file behind it
 abbrev HereOrLater : Files → Room → Relation → List Relation → List ℕ → List ℕ → ℕ → LineWhy → Type 0
 HereOrLater all room relation relations file topic line why =
     ((first_fault room file ≡ Some (line, why)) × (topic ≡ relation.topic))
-    ⊎ ((first_fault room file ≡ None) × IsFirstBad all (behind room relation file) relations topic line why)
+    ⊎ ((first_fault room file ≡ None) × IsFirstBad all (room_after room relation file) relations topic line why)
 
 not_here_or_later : (all : Files) (room : Room) (relation : Relation) (relations : List Relation) (good bad topic : List ℕ) (line : ℕ) (why : LineWhy) →
-    first_fault room good ≡ None → good ≡ bad → (IsFirstBad all (behind room relation good) relations topic line why → ⊥) →
+    first_fault room good ≡ None → good ≡ bad → (IsFirstBad all (room_after room relation good) relations topic line why → ⊥) →
     HereOrLater all room relation relations bad topic line why → ⊥
 not_here_or_later all room relation relations good bad topic line why none same behind_good (inl here) = faultless room good bad (line, why) same none here.0
 not_here_or_later all room relation relations good bad topic line why none same behind_good (inr later) =
@@ -133,13 +134,13 @@ no_bad all room [] files topic line why fed bad = absurd bad
 no_bad all room (relation ∷ relations) files topic line why fed bad =
     not_here_or_later all room relation relations fed.0 bad.0 topic line why fed.2.1
     (one_bytes all (topic_file relation) fed.0 bad.0 fed.2.0 bad.1)
-    (no_bad all (behind room relation fed.0) relations fed.1 topic line why fed.3) bad.2
+    (no_bad all (room_after room relation fed.0) relations fed.1 topic line why fed.3) bad.2
 
 same_status : (s r : List ℕ) (x y : ℕ × LineWhy) → s ≡ r → Some x ≡ Some y → ended.TopicFile s x.0 x.1 ≡ ended.TopicFile r y.0 y.1
 same_status s r x y p q = ap₂ (λ (topic : List ℕ) (f : ℕ × LineWhy). ended.TopicFile topic f.0 f.1) p (same_Some x y q)
 
 one_here_or_later : (all : Files) (room : Room) (relation : Relation) (relations : List Relation) (a b t u : List ℕ) (l m : ℕ) (w v : LineWhy) → a ≡ b →
-    (IsFirstBad all (behind room relation b) relations t l w → IsFirstBad all (behind room relation b) relations u m v → ended.TopicFile t l w ≡ ended.TopicFile u m v) →
+    (IsFirstBad all (room_after room relation b) relations t l w → IsFirstBad all (room_after room relation b) relations u m v → ended.TopicFile t l w ≡ ended.TopicFile u m v) →
     HereOrLater all room relation relations a t l w → HereOrLater all room relation relations b u m v → ended.TopicFile t l w ≡ ended.TopicFile u m v
 one_here_or_later all room relation relations a b t u l m w v same one (inl x) (inl y) =
     same_status t u (l, w) (m, v) (x.1 ∙ sym y.1) (sym x.0 ∙ ap (first_fault room) same ∙ y.0)
@@ -152,7 +153,7 @@ one_bad : (all : Files) (room : Room) (relations : List Relation) (t u : List �
 one_bad all room [] t u l m w v a b = absurd a
 one_bad all room (relation ∷ relations) t u l m w v a b =
     one_here_or_later all room relation relations a.0 b.0 t u l m w v (one_bytes all (topic_file relation) a.0 b.0 a.1 b.1)
-    (one_bad all (behind room relation b.0) relations t u l m w v) a.2 b.2
+    (one_bad all (room_after room relation b.0) relations t u l m w v) a.2 b.2
 
 -- a script that was read is named by the words
 not_named : (words : List (List ℕ)) (all : Files) (script : List ℕ) → script_name words ≡ None → IsScriptRead words all script → ⊥
@@ -167,11 +168,11 @@ refused_accepted : (words : List (List ℕ)) (all : Files) (refused : List ℕ) 
 refused_accepted words all refused statement code program read refusal is =
     not_both refused program statement code (subst (λ (s : List ℕ). IsAccepted s program) (one_script words all is.0 refused is.1 read) is.2) refusal
 
-good_bad : (words : List (List ℕ)) (all : Files) (p q : Program) (files : List TopicLines) (topic : List ℕ) (line : ℕ) (why : LineWhy) →
-    Runs words all p files → IsProgramRead words all q → IsFirstBad all whole_room (declared_of q.items) topic line why → ⊥
-good_bad words all p q files topic line why runs is bad =
-    no_bad all whole_room (declared_of q.items) files topic line why
-    (subst (λ (r : Program). AreFed all whole_room (declared_of r.items) files) (one_read words all p q runs.0 is) runs.1) bad
+good_bad : (words : List (List ℕ)) (all : Files) (run : Run) (q : Program) (topic : List ℕ) (line : ℕ) (why : LineWhy) →
+    Runs words all run → IsProgramRead words all q → IsFirstBad all whole_room (declared_of q.items) topic line why → ⊥
+good_bad words all run q topic line why runs is bad =
+    no_bad all whole_room (declared_of q.items) run.files topic line why
+    (subst (λ (r : Program). AreFed all whole_room (declared_of r.items) run.files) (one_read words all run.program q runs.read is) runs.fed) bad
 
 -- What the words and the files decide is one answer.
 agree : (words : List (List ℕ)) (all : Files) (old new : List (List ℕ)) (a b : Status) → IsDecided a → IsDecided b →
@@ -184,18 +185,18 @@ agree words all old new (ended.Script s c) (ended.Script t d) da db a b =
 agree words all old new (ended.TopicFile t l w) (ended.TopicFile u m v) da db a b =
     let bad = subst (λ (p : Program). IsFirstBad all whole_room (declared_of p.items) t l w) (one_read words all a.0 b.0 a.1 b.1) a.2 in
     one_bad all whole_room (declared_of b.0.items) t u l m w v bad b.2
-agree words all old new ended.Done ended.Usage da db a b = absurd (not_named words all a.2.0.0 b a.2.0.1)
-agree words all old new ended.Usage ended.Done da db a b = absurd (not_named words all b.2.0.0 a b.2.0.1)
+agree words all old new ended.Done ended.Usage da db a b = absurd (not_named words all a.1.read.0 b a.1.read.1)
+agree words all old new ended.Usage ended.Done da db a b = absurd (not_named words all b.1.read.0 a b.1.read.1)
 agree words all old new ended.Usage (ended.Script t d) da db a b = absurd (not_named words all b.0 a b.1)
 agree words all old new (ended.Script s c) ended.Usage da db a b = absurd (not_named words all a.0 b a.1)
 agree words all old new ended.Usage (ended.TopicFile u m v) da db a b = absurd (not_named words all b.1.0 a b.1.1)
 agree words all old new (ended.TopicFile t l w) ended.Usage da db a b = absurd (not_named words all a.1.0 b a.1.1)
-agree words all old new ended.Done (ended.Script t d) da db a b = absurd (refused_accepted words all b.0 t d a.0 b.1 b.2 a.2.0)
-agree words all old new (ended.Script s c) ended.Done da db a b = absurd (refused_accepted words all a.0 s c b.0 a.1 a.2 b.2.0)
+agree words all old new ended.Done (ended.Script t d) da db a b = absurd (refused_accepted words all b.0 t d a.0.program b.1 b.2 a.1.read)
+agree words all old new (ended.Script s c) ended.Done da db a b = absurd (refused_accepted words all a.0 s c b.0.program a.1 a.2 b.1.read)
 agree words all old new (ended.TopicFile t l w) (ended.Script u d) da db a b = absurd (refused_accepted words all b.0 u d a.0 b.1 b.2 a.1)
 agree words all old new (ended.Script s c) (ended.TopicFile u m v) da db a b = absurd (refused_accepted words all a.0 s c b.0 a.1 a.2 b.1)
-agree words all old new ended.Done (ended.TopicFile u m v) da db a b = absurd (good_bad words all a.0 b.0 a.1 u m v a.2 b.1 b.2)
-agree words all old new (ended.TopicFile t l w) ended.Done da db a b = absurd (good_bad words all b.0 a.0 b.1 t l w b.2 a.1 a.2)
+agree words all old new ended.Done (ended.TopicFile u m v) da db a b = absurd (good_bad words all a.0 b.0 u m v a.1 b.1 b.2)
+agree words all old new (ended.TopicFile t l w) ended.Done da db a b = absurd (good_bad words all b.0 a.0 t l w b.1 a.1 a.2)
 agree words all old new (ended.ReadFault n) b da db ca cb = absurd da
 agree words all old new ended.WriteFault b da db ca cb = absurd da
 agree words all old new ended.OutOfMemory b da db ca cb = absurd da
@@ -225,29 +226,29 @@ IsExact words old new Calm answer all =
 -- what the clause on complete answers says
 abbrev IsComplete : List (List ℕ) → List (List ℕ) → List (List ℕ) → Type 0 → Status → Files → Type 0
 IsComplete words old new Calm answer all =
-    (program : Program) (files : List TopicLines) → Runs words all program files → NoDueFails words all old new → Calm →
+    (run : Run) → Runs words all run → NoDueFails words all old new → Calm →
     (answer ≡ ended.Done) ⊎ (answer ≡ ended.OutOfMemory)
 
--- some program runs on some files
+-- the text is the report of a run of the command
 abbrev IsRun : List (List ℕ) → List ℕ → Files → Type 0
-IsRun words text all = (program : Program) × (files : List TopicLines) × Runs words all program files × (text ≡ report_of program files)
+IsRun words text all = (run : Run) × Runs words all run × (text ≡ report_of run)
 
 pub complete_of : (known : Option Files) (words old new : List (List ℕ)) (Calm : Type 0) (answer : Status) →
     IfSome known (IsExact words old new Calm answer) → IfSome known (IsComplete words old new Calm answer)
 complete_of None words old new Calm answer exact = tt
-complete_of (Some all) words old new Calm answer exact = λ program files runs none calm. exact none ended.Done tt (program, files, runs) (λ done. calm)
+complete_of (Some all) words old new Calm answer exact = λ run runs none calm. exact none ended.Done tt (run, runs) (λ done. calm)
 
 pub exact_done : (known : Option Files) (words old new : List (List ℕ)) (Calm : Type 0) (text : List ℕ) →
     IfSome known (IsRun words text) → IfSome known (IsExact words old new Calm ended.Done)
 exact_done None words old new Calm text found = tt
 exact_done (Some all) words old new Calm text found =
-    λ none status is caused calm. inl (agree words all old new ended.Done status tt is (found.0, found.1, found.2) caused)
+    λ none status is caused calm. inl (agree words all old new ended.Done status tt is (found.0, found.1) caused)
 
 pub exact_fault : (known : Option Files) (words old new : List (List ℕ)) (Fault : Type 0) (text : List ℕ) → Fault →
     IfSome known (IsRun words text) → IfSome known (IsExact words old new (¬ Fault) ended.WriteFault)
 exact_fault None words old new Fault text fault found = tt
 exact_fault (Some all) words old new Fault text fault found =
-    λ none status is caused calm. absurd (calm (sym (agree words all old new ended.Done status tt is (found.0, found.1, found.2) caused)) fault)
+    λ none status is caused calm. absurd (calm (sym (agree words all old new ended.Done status tt is (found.0, found.1) caused)) fault)
 
 pub exact_refusal : (known : Option Files) (words old new : List (List ℕ)) (Calm : Type 0) (answer : Status) → IsRefusal answer →
     IfSome known (λ all. HasCause words all old new answer) → IfSome known (IsExact words old new Calm answer)

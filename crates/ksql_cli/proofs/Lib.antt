@@ -1,5 +1,6 @@
 pub mod Causes
 pub mod Pieces
+pub mod Reports
 pub mod SomeStatus
 pub mod Sounds
 pub mod TopicLaws

@@ -12,7 +12,8 @@ use Rattle.topic_files.specs.File.{first_fault, topic_lines}
 use Rattle.ksql_script.specs.Script.{IsAccepted, IsRefused}
 use Rattle.ksql_script.proofs.SomeScript.{some_script}
 use Rattle.ksql_cli.specs.declared.status.Status.TheVariants as ended
-use Rattle.ksql_cli.specs.Command.{AreFed, Files, HasAnswer, IsFirstBad, IsGood, IsProgramRead, IsScriptRead, IsTopicDue, behind, declared_of, script_name, topic_file, whole_room}
+use Rattle.ksql_cli.specs.Command.{AreFed, Files, HasAnswer, IsFirstBad, IsGood, IsProgramRead, IsScriptRead, IsTopicDue, room_after, script_name, topic_file, whole_room}
+use Rattle.ksql_cli.specs.Run.{declared_of, drain, feed_all}
 
 -- the topic files of some relations are good, or one is the first bad one, or one that is due isn't there
 abbrev TopicsEnd : Files → Room → List Relation → Type 0
@@ -23,26 +24,33 @@ TopicsEnd all room relations =
 
 topics-end : (all : Files) (room : Room) (relations : List Relation) → TopicsEnd all room relations
 topics-end all room [] = inl ([], refl)
-topics-end all room (r ∷ rs) = read (λ file. topics-end all (behind room r file) rs) (read_bytes (topic_file r) all) refl
+topics-end all room (r ∷ rs) = read (λ file. topics-end all (room_after room r file) rs) (read_bytes (topic_file r) all) refl
   where
-    others : (file : List ℕ) → IsGood all room r file → TopicsEnd all (behind room r file) rs → TopicsEnd all room (r ∷ rs)
+    others : (file : List ℕ) → IsGood all room r file → TopicsEnd all (room_after room r file) rs → TopicsEnd all room (r ∷ rs)
     others file good (inl fed) = inl (topic_lines r file ∷ fed.0, (file, fed.0, good, fed.1, refl))
     others file good (inr (inl bad)) = inr (inl (bad.0, bad.1, bad.2, (file, good.0, inr (good.1, bad.3))))
     others file good (inr (inr due)) = inr (inr (due.0, inr (file, good, due.1), due.2))
 
-    looked : (file : List ℕ) → TopicsEnd all (behind room r file) rs → read_bytes (topic_file r) all ≡ Some file → (fault : Option (ℕ × LineWhy))
+    looked : (file : List ℕ) → TopicsEnd all (room_after room r file) rs → read_bytes (topic_file r) all ≡ Some file → (fault : Option (ℕ × LineWhy))
         → first_fault room file ≡ fault → TopicsEnd all room (r ∷ rs)
     looked file rest there None good = others file (there, good) rest
     looked file rest there (Some (line, why)) bad = inr (inl (r.topic, line, why, (file, there, inl (bad, refl))))
 
-    read : ((file : List ℕ) → TopicsEnd all (behind room r file) rs) → (found : Option (List ℕ)) → read_bytes (topic_file r) all ≡ found
+    read : ((file : List ℕ) → TopicsEnd all (room_after room r file) rs) → (found : Option (List ℕ)) → read_bytes (topic_file r) all ≡ found
         → TopicsEnd all room (r ∷ rs)
     read rest None missing = inr (inr (topic_file r, inl refl, missing))
     read rest (Some file) there = looked file (rest file) there (first_fault room file) refl
 
 module _ (words : List (List ℕ)) (all : Files) where
   ended_so : (program : Program) → IsProgramRead words all program → TopicsEnd all whole_room (declared_of program.items) → HasAnswer words all
-  ended_so program read (inl fed) = inl (ended.Done, tt, (program, fed.0, (read, fed.1)))
+  ended_so program read (inl fed) = inl (
+    ended.Done,
+    tt,
+    (
+      record { program = program; files = fed.0; workers = 1; steps = feed_all ∷ drain ∷ [] },
+      record { read = read; fed = fed.1; one_worker = refl; fed_once = refl },
+    ),
+  )
   ended_so program read (inr (inl bad)) = inl (ended.TopicFile bad.0 bad.1 bad.2, tt, (program, read, bad.3))
   ended_so program read (inr (inr due)) = inr (due.0, inr (program, read, due.1), due.2)
 

@@ -1,40 +1,108 @@
--- What a sound program keeps that its topic files and its report ask for.
-use Rattle.std.proofs.Common.{ℕ, List, [], ◌∷◌, ◌++◌, length, arith}
-use Rattle.std.specs.Prelude.{All, IsTrue, ◌≤◌}
+-- What a sound program whose forms are run keeps that its topic files and its report ask for.
+use Rattle.std.proofs.Common.{◌≡◌, ◌<◌, ℕ, zero, suc, ◌+◌, List, [], ◌∷◌, ◌++◌, get_or, length, arith, refl, Bool, true, false}
+use Rattle.std.specs.Prelude.{All, IsTrue, ◌≤◌, ◌&&◌, is_none, Option, Some, if◌then◌else◌}
 use Rattle.std.proofs.lemmas.Bool.Decides.{nat_tests}
-use Rattle.std.proofs.lemmas.List.Elements.{All-cons, All-nil}
+use Rattle.std.proofs.lemmas.List.Elements.{All-cons, All-head, All-nil, All-tail}
+use Rattle.ksql_types.specs.Names.{is_topic_name}
+use Rattle.ksql_types.specs.declared.relation.Format.{Format}
+use Rattle.ksql_types.specs.declared.relation.Format.TheVariants.{Json, Delimited}
+use Rattle.ksql_types.specs.declared.relation.Kind.{Kind}
+use Rattle.ksql_types.specs.declared.relation.Kind.TheVariants.{Stream, Table, Windowed}
+use Rattle.ksql_types.specs.declared.relation.Relation.{Relation}
 use Rattle.ksql_program.specs.declared.program.Item.{Item}
 use Rattle.ksql_program.specs.declared.program.Item.TheVariants.{Declared, Started}
-use Rattle.ksql_types.specs.Names.{is_topic_name}
-use Rattle.ksql_program.specs.Program.{relations}
-use Rattle.ksql_program.specs.Sound.{AreSoundItems, IsSound}
-use Rattle.run_text.specs.Report.{HasPartitions}
-use Rattle.ksql_cli.specs.Command.{declared_of}
+use Rattle.ksql_program.specs.Program.{relation_of, relations}
+use Rattle.ksql_program.specs.Sound.{AreSoundItems, IsSound, IsSoundRelation}
+use Rattle.query_meaning.specs.Built.{first_unbuilt_from, is_built, is_built_relation, is_json, is_stream, AreBuilt}
+use Rattle.run_text.specs.Report.{IsPrintable}
+use Rattle.ksql_cli.specs.Run.{declared_of}
 use Rattle.ksql_cli.specs.Steps.{IsFeedable}
 
 -- a legal topic name is short
 legal_short : (topic : List ℕ) → IsTrue (is_topic_name topic) → length topic ≤ 249
 legal_short topic legal = grind (arith, nat_tests)
 
-each_feedable : (before is : List Item) → AreSoundItems before is → All IsFeedable (declared_of is)
-each_feedable before [] sound = All-nil IsFeedable
-each_feedable before (Declared r ∷ is) sound =
-    All-cons IsFeedable r (declared_of is)
-    (record { short = legal_short r.topic sound.0.0.topic_named; some = sound.0.0.some_partition; few = sound.0.0.partitions_few })
-    (each_feedable (before ++ Declared r ∷ []) is sound.1)
-each_feedable before (Started q ∷ is) sound = each_feedable (before ++ Started q ∷ []) is sound.1
+-- of two tests that both hold, each
+both_first : (a b : Bool) → IsTrue (a && b) → IsTrue a
+both_first true b is = refl
+both_first false b is = is
 
-pub feedable : (items : List Item) → IsSound items → All IsFeedable (declared_of items)
-feedable items sound = each_feedable [] items sound.sound
+both_second : (a b : Bool) → IsTrue (a && b) → IsTrue b
+both_second true b is = is
+both_second false b is = absurd (cc (is))
 
-each_parted : (before is : List Item) → AreSoundItems before is → All HasPartitions (relations is)
-each_parted before [] sound = All-nil HasPartitions
-each_parted before (Declared r ∷ is) sound =
-    All-cons HasPartitions r (relations is) (record { some = sound.0.0.some_partition; few = sound.0.0.partitions_few })
-    (each_parted (before ++ Declared r ∷ []) is sound.1)
-each_parted before (Started q ∷ is) sound =
-    All-cons HasPartitions q.out (relations is) (record { some = sound.0.0.some_partition; few = sound.0.0.partitions_few })
-    (each_parted (before ++ Started q ∷ []) is sound.1)
+json_of : (format : Format) → IsTrue (is_json format) → format ≡ Json
+json_of Json is = refl
+json_of Delimited is = absurd (cc (is))
 
-pub parted : (items : List Item) → IsSound items → All HasPartitions (relations items)
-parted items sound = each_parted [] items sound.sound
+stream_of : (kind : Kind) → IsTrue (is_stream kind) → kind ≡ Stream
+stream_of Stream is = refl
+stream_of Table is = absurd (cc (is))
+stream_of Windowed is = absurd (cc (is))
+
+-- of items that are all built, the first and the others
+abbrev Builts : List Item → Type 0
+Builts [] = Unit {0}
+Builts (i ∷ is) = IsTrue (is_built i) × Builts is
+
+builts : (number : ℕ) (is : List Item) → IsTrue (is_none (first_unbuilt_from number is)) → Builts is
+builts number [] none = tt
+builts number (i ∷ is) none = by (is_built i) none (builts (number + 1) is)
+  where
+    by : (b : Bool) → IsTrue (is_none (if b then first_unbuilt_from (number + 1) is else Some number)) →
+        (IsTrue (is_none (first_unbuilt_from (number + 1) is)) → Builts is) → IsTrue b × Builts is
+    by true rest others = (refl, others rest)
+    by false rest others = absurd (cc (rest))
+
+-- the result of a built item is a built relation
+built_relation : (i : Item) → IsTrue (is_built i) → IsTrue (is_built_relation (relation_of i))
+built_relation (Declared r) is = is
+built_relation (Started q) is = both_second _ (is_built_relation q.out) is
+
+feedable_one : (number : ℕ) (r : Relation) → IsSoundRelation number r → IsTrue (is_built_relation r) → IsFeedable r
+feedable_one number r sound built = record {
+  json = json_of r.format (both_second (is_stream r.kind) (is_json r.format) built);
+  short = legal_short r.topic sound.topic_named;
+  some = sound.some_partition;
+  few = sound.partitions_few;
+}
+
+each_feedable : (before is : List Item) → AreSoundItems before is → Builts is → All IsFeedable (declared_of is)
+each_feedable before [] sound built = All-nil IsFeedable
+each_feedable before (Declared r ∷ is) sound built =
+    All-cons IsFeedable r (declared_of is) (feedable_one (length before) r sound.0.0 built.0)
+    (each_feedable (before ++ Declared r ∷ []) is sound.1 built.1)
+each_feedable before (Started q ∷ is) sound built = each_feedable (before ++ Started q ∷ []) is sound.1 built.1
+
+pub feedable : (items : List Item) → IsSound items → AreBuilt items → All IsFeedable (declared_of items)
+feedable items sound built = each_feedable [] items sound.sound (builts 1 items built)
+
+printable_one : (number : ℕ) (r : Relation) → IsSoundRelation number r → IsTrue (is_built_relation r) → IsPrintable r
+printable_one number r sound built = record {
+  some = sound.some_partition;
+  few = sound.partitions_few;
+  stream = stream_of r.kind (both_first (is_stream r.kind) (is_json r.format) built);
+  json = json_of r.format (both_second (is_stream r.kind) (is_json r.format) built);
+}
+
+each_printable : (before is : List Item) → AreSoundItems before is → Builts is → All IsPrintable (relations is)
+each_printable before [] sound built = All-nil IsPrintable
+each_printable before (Declared r ∷ is) sound built =
+    All-cons IsPrintable r (relations is) (printable_one (length before) r sound.0.0 built.0)
+    (each_printable (before ++ Declared r ∷ []) is sound.1 built.1)
+each_printable before (Started q ∷ is) sound built =
+    All-cons IsPrintable q.out (relations is) (printable_one (length before) q.out sound.0.0 (built_relation (Started q) built.0))
+    (each_printable (before ++ Started q ∷ []) is sound.1 built.1)
+
+pub printable : (items : List Item) → IsSound items → AreBuilt items → All IsPrintable (relations items)
+printable items sound built = each_printable [] items sound.sound (builts 1 items built)
+
+-- each of some items, alone
+pub feedable-at : (items : List Item) (i : ℕ) (d : Item) → i < length items → All IsFeedable (declared_of items) →
+    All IsFeedable (declared_of (get_or items i d ∷ []))
+feedable-at [] i d low each = absurd (omega (arith, low))
+feedable-at (Declared r ∷ is) zero d low each =
+    All-cons IsFeedable r [] (All-head IsFeedable r (declared_of is) each) (All-nil IsFeedable)
+feedable-at (Started q ∷ is) zero d low each = All-nil IsFeedable
+feedable-at (Declared r ∷ is) (suc i) d low each = feedable-at is i d (omega (arith, low)) (All-tail IsFeedable r (declared_of is) each)
+feedable-at (Started q ∷ is) (suc i) d low each = feedable-at is i d (omega (arith, low)) each

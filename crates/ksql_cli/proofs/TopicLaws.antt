@@ -4,7 +4,6 @@ use Rattle.std.specs.Prelude.{◌≤◌, All, Option, None, Some, IfSome, Result
 use Rattle.std.specs.List.{AllByRecursion}
 use Rattle.std.proofs.lemmas.List.{take_all}
 use Rattle.std.proofs.lemmas.List.Elements.{All-rest}
-use Rattle.ksql_place.specs.declared.change.SourceRecord.{SourceRecord}
 use Rattle.ksql_types.specs.declared.relation.Relation.{Relation}
 use Rattle.ksql_outside.specs.Outside.{JoinedLast, MayJoin}
 use Rattle.ksql_program.specs.declared.program.Item.{Item}
@@ -12,10 +11,10 @@ use Rattle.ksql_program.specs.declared.program.Item.TheVariants.{Declared}
 use Rattle.topic_files.specs.declared.topic.Room.{Room}
 use Rattle.topic_files.specs.declared.topic.TopicLines.{TopicLines}
 use Rattle.topic_files.specs.File.{topic_lines}
-use Rattle.topic_feeds.specs.Feeding.{all_fed, fed_records}
 use Rattle.ksql_cli.specs.declared.status.Status.{Status}
 use Rattle.ksql_cli.specs.declared.status.Status.TheVariants as ended
-use Rattle.ksql_cli.specs.Command.{Files, declared_of, topic_file, whole_room, behind, IsGood, AreFed, IsFirstBad, IsTopicDue}
+use Rattle.ksql_cli.specs.Command.{Files, topic_file, whole_room, room_after, IsGood, AreFed, IsFirstBad, IsTopicDue}
+use Rattle.ksql_cli.specs.Run.{declared_of}
 use Rattle.ksql_cli.specs.Steps.{AreTopicsDue, IsFeedable, IsJoined, IsTopicFailure}
 
 -- the items behind the first
@@ -33,28 +32,26 @@ declared_first (i ∷ items) item relation some first is =
 pub rest_feedable : (relation : Relation) (rest all : List Relation) → all ≡ relation ∷ rest → All IsFeedable all → All IsFeedable rest
 rest_feedable relation rest all first feedable = All-rest IsFeedable relation rest all first feedable
 
--- the topic file of a relation is good: its records come behind others, and it leaves this room
-abbrev IsOneRead : Room → Relation → Room → List SourceRecord → List SourceRecord → Files → Type 0
+-- the topic file of a relation is good: it comes after others, and it leaves this room
+abbrev IsOneRead : Room → Relation → Room → List TopicLines → List TopicLines → Files → Type 0
 IsOneRead room relation left before middle all =
-    (file : List ℕ) × IsGood all room relation file × (left ≡ behind room relation file)
-    × (middle ≡ before ++ fed_records 1 relation (topic_lines relation file).feds)
+    (file : List ℕ) × IsGood all room relation file × (left ≡ room_after room relation file) × (middle ≡ before ++ topic_lines relation file ∷ [])
 
--- these are all the records of the topic files of the relations, behind others
-abbrev AreAllRead : Room → List Relation → List SourceRecord → List SourceRecord → Files → Type 0
+-- these are the topic files of the relations, after others
+abbrev AreAllRead : Room → List Relation → List TopicLines → List TopicLines → Files → Type 0
 AreAllRead room relations before after all =
-    (files : List TopicLines) × AreFed all room relations files × (after ≡ before ++ all_fed relations files)
+    (files : List TopicLines) × AreFed all room relations files × (after ≡ before ++ files)
 
-all_read : (all : Files) (room left : Room) (relation : Relation) (rest : List Relation) (before middle after : List SourceRecord) →
+all_read : (all : Files) (room left : Room) (relation : Relation) (rest : List Relation) (before middle after : List TopicLines) →
     IsOneRead room relation left before middle all → AreAllRead left rest middle after all → AreAllRead room (relation ∷ rest) before after all
 all_read all room left relation rest before middle after one others = (
   topic_lines relation one.0 ∷ others.0,
   (one.0, others.0, one.1, subst (λ (r : Room). AreFed all r rest others.0) one.2 others.1, refl),
-  others.2 ∙ ap (λ (records : List SourceRecord). records ++ all_fed rest others.0) one.3
-      ∙ append_assoc before (fed_records 1 relation (topic_lines relation one.0).feds) (all_fed rest others.0),
+  others.2 ∙ ap (λ (files : List TopicLines). files ++ others.0) one.3 ∙ append_assoc before (topic_lines relation one.0 ∷ []) others.0,
 )
 
-pub all_found : {A : Type 0} (result : Result A Status) (items : A → List SourceRecord) (known later : Option Files) (room left : Room)
-    (relation : Relation) (rest relations : List Relation) (before middle : List SourceRecord) → relations ≡ relation ∷ rest → later ≡ known →
+pub all_found : {A : Type 0} (result : Result A Status) (items : A → List TopicLines) (known later : Option Files) (room left : Room)
+    (relation : Relation) (rest relations : List Relation) (before middle : List TopicLines) → relations ≡ relation ∷ rest → later ≡ known →
     IfSome known (IsOneRead room relation left before middle) →
     IfOk result (λ a. IfSome later (AreAllRead left rest middle (items a))) → IfOk result (λ a. IfSome known (AreAllRead room relations before (items a)))
 all_found (Err e) items known later room left relation rest relations before middle first same one others = tt
@@ -91,7 +88,7 @@ all_joined (Err status) old mid new here grown joined = status_joined old mid ne
 
 -- the topic file of a relation is good, and leaves this room
 abbrev Leaves : Files → Room → Relation → Room → Type 0
-Leaves all room relation left = (file : List ℕ) × IsGood all room relation file × (left ≡ behind room relation file)
+Leaves all room relation left = (file : List ℕ) × IsGood all room relation file × (left ≡ room_after room relation file)
 
 due_behind : (all : Files) (room left : Room) (relation : Relation) (rest : List Relation) (name : List ℕ) → Leaves all room relation left →
     IsTopicDue all left rest name → IsTopicDue all room (relation ∷ rest) name
@@ -111,7 +108,7 @@ failure_behind all room left relation rest old mid new (ended.Script statement c
 failure_behind all room left relation rest old mid new ended.WriteFault one grown failed = absurd failed
 
 pub all_caused : {A : Type 0} (result : Result A Status) (known later : Option Files) (room left : Room) (relation : Relation)
-    (rest relations : List Relation) (before middle : List SourceRecord) (old mid new : List (List ℕ)) → relations ≡ relation ∷ rest → later ≡ known →
+    (rest relations : List Relation) (before middle : List TopicLines) (old mid new : List (List ℕ)) → relations ≡ relation ∷ rest → later ≡ known →
     IfSome known (IsOneRead room relation left before middle) → MayJoin old mid (topic_file relation) →
     IfErr result (λ status. IfSome later (λ all. IsTopicFailure all left rest mid new status)) →
     IfErr result (λ status. IfSome known (λ all. IsTopicFailure all room relations old new status))
@@ -141,7 +138,7 @@ behind_due all room left relation rest old mid new one (inr is) due = (
 )
 
 pub all_due : (known later : Option Files) (room left : Room) (relation : Relation)
-    (rest relations : List Relation) (before middle : List SourceRecord) (old mid new : List (List ℕ)) → relations ≡ relation ∷ rest → later ≡ known →
+    (rest relations : List Relation) (before middle : List TopicLines) (old mid new : List (List ℕ)) → relations ≡ relation ∷ rest → later ≡ known →
     IfSome known (IsOneRead room relation left before middle) → MayJoin old mid (topic_file relation) →
     IfSome later (λ all. AreTopicsDue all left rest mid new) → IfSome known (λ all. AreTopicsDue all room relations old new)
 all_due None later room left relation rest relations before middle old mid new first same one grown due = tt

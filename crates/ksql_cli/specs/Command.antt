@@ -1,10 +1,8 @@
--- What a command reads, what it writes, and the cause of each way in which it ends.
+-- What a command reads and runs, and the cause of each way in which it ends.
 use Rattle.std.specs.Prelude.{◌≡◌, ◌⊎◌, ℕ, ◌-◌, length, nat_le, ◌&&◌, List, [], ◌∷◌, ◌++◌, codes, bytes_eq, Option, None, Some, if◌then◌else◌}
 use Rattle.std.specs.List.{list_all, AllByRecursion}
 use Rattle.ksql_types.specs.declared.relation.Relation.{Relation}
 use Rattle.ksql_outside.specs.Outside.{read_bytes, JoinedLast}
-use Rattle.ksql_program.specs.declared.program.Item.{Item}
-use Rattle.ksql_program.specs.declared.program.Item.TheVariants.{Declared, Started}
 use Rattle.ksql_program.specs.declared.program.Program.{Program}
 use Rattle.ksql_script.specs.Script.{IsAccepted, IsRefused}
 use Rattle.topic_files.specs.declared.topic.Fed.{Fed}
@@ -12,12 +10,9 @@ use Rattle.topic_files.specs.declared.topic.LineWhy.{LineWhy}
 use Rattle.topic_files.specs.declared.topic.Room.{Room}
 use Rattle.topic_files.specs.declared.topic.TopicLines.{TopicLines}
 use Rattle.topic_files.specs.File.{first_fault, topic_lines}
-use Rattle.topic_feeds.specs.Feeding.{order_of}
-use Rattle.query_meaning.specs.Meaning.{meaning}
-use Rattle.ksql_program.specs.Program.{relations}
-use Rattle.run_text.specs.Report.{sections, report}
 use Rattle.ksql_cli.specs.declared.status.Status.{Status}
 use Rattle.ksql_cli.specs.declared.status.Status.TheVariants as ended
+use Rattle.ksql_cli.specs.Run.{declared_of, drain, feed_all, Run}
 
 -- ---- the words
 
@@ -47,12 +42,6 @@ IsProgramRead words all program = (script : List ℕ) × IsScriptRead words all 
 
 -- ---- the topic files
 
--- the declared relations of a program, in their order
-abbrev pub declared_of : List Item → List Relation
-declared_of [] = []
-declared_of (Declared relation ∷ items) = relation ∷ declared_of items
-declared_of (Started query ∷ items) = declared_of items
-
 -- the name of a relation's topic file
 abbrev pub topic_file : Relation → List ℕ
 topic_file relation = codes "./" ++ (relation.topic ++ codes ".jsonl")
@@ -62,16 +51,16 @@ unfoldable pub whole_room : Room
 whole_room = record { records = 200000; bytes = 67108864 }
 
 -- what a file leaves of the room for those after it
-abbrev pub room_behind : Room → List ℕ → List Fed → Room
-room_behind room file feds = record { records = room.records - length feds; bytes = room.bytes - length file }
+abbrev pub room_after_feds : Room → List ℕ → List Fed → Room
+room_after_feds room file feds = record { records = room.records - length feds; bytes = room.bytes - length file }
 
 -- this is the relation's topic file, and it has no fault within the room
 abbrev pub IsGood : Files → Room → Relation → List ℕ → Type 0
 IsGood all room relation file = (read_bytes (topic_file relation) all ≡ Some file) × (first_fault room file ≡ None)
 
 -- the room after a relation's topic file
-abbrev pub behind : Room → Relation → List ℕ → Room
-behind room relation file = room_behind room file (topic_lines relation file).feds
+abbrev pub room_after : Room → Relation → List ℕ → Room
+room_after room relation file = room_after_feds room file (topic_lines relation file).feds
 
 -- the topic files of the relations are good within a room that they share, and these are their records: one file for
 -- each relation, in their order
@@ -79,7 +68,7 @@ abbrev pub AreFed : Files → Room → List Relation → List TopicLines → Typ
 AreFed all room [] files = files ≡ []
 AreFed all room (relation ∷ relations) files =
     (file : List ℕ) × (others : List TopicLines) × IsGood all room relation file
-    × AreFed all (behind room relation file) relations others × (files ≡ topic_lines relation file ∷ others)
+    × AreFed all (room_after room relation file) relations others × (files ≡ topic_lines relation file ∷ others)
 
 -- the first topic file that isn't good is that of this topic, with this first fault
 abbrev pub IsFirstBad : Files → Room → List Relation → List ℕ → ℕ → LineWhy → Type 0
@@ -87,13 +76,13 @@ IsFirstBad all room [] topic line why = ⊥
 IsFirstBad all room (relation ∷ relations) topic line why =
     (file : List ℕ) × (read_bytes (topic_file relation) all ≡ Some file)
     × (((first_fault room file ≡ Some (line, why)) × (topic ≡ relation.topic))
-    ⊎ ((first_fault room file ≡ None) × IsFirstBad all (behind room relation file) relations topic line why))
+    ⊎ ((first_fault room file ≡ None) × IsFirstBad all (room_after room relation file) relations topic line why))
 
 -- the topic files before the one of this name are good
 abbrev pub IsTopicDue : Files → Room → List Relation → List ℕ → Type 0
 IsTopicDue all room [] name = ⊥
 IsTopicDue all room (relation ∷ relations) name =
-    (name ≡ topic_file relation) ⊎ ((file : List ℕ) × IsGood all room relation file × IsTopicDue all (behind room relation file) relations name)
+    (name ≡ topic_file relation) ⊎ ((file : List ℕ) × IsGood all room relation file × IsTopicDue all (room_after room relation file) relations name)
 
 -- ---- what is due
 
@@ -111,21 +100,18 @@ AreDue words all old new = (names : List (List ℕ)) × (new ≡ old ++ names) �
 
 -- ---- what is run
 
--- the command runs this program on these files
-abbrev pub Runs : List (List ℕ) → Files → Program → List TopicLines → Type 0
-Runs words all program files = IsProgramRead words all program × AreFed all whole_room (declared_of program.items) files
-
--- the report of a program on its files, all in one feed: the meaning of the program on their records
-abbrev pub report_of : Program → List TopicLines → List ℕ
-report_of program files =
-    let order = order_of (declared_of program.items) files in
-    report (relations program.items) order (sections 1 program.items order (meaning program.items order))
+-- the command runs the script's program on its topic files, with one worker: all records are fed at once, and a drain follows
+pub record Runs (words : List (List ℕ)) (all : Files) (run : Run) : Type 0 where
+  pub read : IsProgramRead words all run.program
+  pub fed : AreFed all whole_room (declared_of run.program.items) run.files
+  pub one_worker : run.workers ≡ 1
+  pub fed_once : run.steps ≡ feed_all ∷ drain ∷ []
 
 -- ---- the causes
 
 -- the cause of a status, with the names that failed before and after
 abbrev pub HasCause : List (List ℕ) → Files → List (List ℕ) → List (List ℕ) → Status → Type 0
-HasCause words all old new ended.Done = (program : Program) × (files : List TopicLines) × Runs words all program files
+HasCause words all old new ended.Done = (run : Run) × Runs words all run
 HasCause words all old new ended.Usage = script_name words ≡ None
 HasCause words all old new (ended.Script statement code) =
     (script : List ℕ) × IsScriptRead words all script × IsRefused script statement code
@@ -133,7 +119,7 @@ HasCause words all old new (ended.TopicFile topic line why) =
     (program : Program) × IsProgramRead words all program × IsFirstBad all whole_room (declared_of program.items) topic line why
 HasCause words all old new (ended.ReadFault name) =
     ((script_name words ≡ Some name) × (new ≡ old ++ name ∷ [])) ⊎ (IsFileDue words all name × JoinedLast old new name)
-HasCause words all old new ended.WriteFault = (program : Program) × (files : List TopicLines) × Runs words all program files
+HasCause words all old new ended.WriteFault = (run : Run) × Runs words all run
 HasCause words all old new ended.OutOfMemory = Unit {0}
 
 -- an answer that the words and the files decide, whatever is read and written

@@ -1,3 +1,4 @@
+pub mod Run
 pub mod Command
 pub mod Fault
 pub mod Status

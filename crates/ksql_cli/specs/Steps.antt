@@ -1,8 +1,10 @@
 -- What the steps of a command say of the files that they read.
 use Rattle.std.specs.Prelude.{◌≡◌, ◌⊎◌, ◌≤◌, ℕ, List, [], ◌∷◌, ◌++◌, length, Some}
 use Rattle.std.specs.List.{AllByRecursion}
+use Rattle.ksql_types.specs.declared.relation.Format.TheVariants.{Json}
 use Rattle.ksql_types.specs.declared.relation.Relation.{Relation}
 use Rattle.ksql_outside.specs.Outside.{read_bytes, JoinedLast}
+use Rattle.topic_files.specs.declared.topic.Fed.{Fed}
 use Rattle.topic_files.specs.declared.topic.Room.{Room}
 use Rattle.topic_files.specs.File.{first_fault}
 use Rattle.ksql_cli.specs.declared.status.Status.{Status}
@@ -15,6 +17,7 @@ longest_topic = 249
 
 -- a relation whose topic file can be read and fed
 pub record IsFeedable (relation : Relation) : Type 0 where
+  pub json : relation.format ≡ Json
   pub short : length relation.topic ≤ longest_topic
   pub some : 1 ≤ relation.partitions
   pub few : relation.partitions ≤ 64
@@ -57,3 +60,7 @@ IsTopicRefusal _ = ⊥
 -- the names that joined are those of topic files that were due
 abbrev pub AreTopicsDue : Files → Room → List Relation → List (List ℕ) → List (List ℕ) → Type 0
 AreTopicsDue all room relations old new = (names : List (List ℕ)) × (new ≡ old ++ names) × AllByRecursion (IsTopicDue all room relations) names
+
+-- one feed takes all records of a file
+abbrev pub at_once : Relation → List Fed → List ℕ
+at_once relation feds = length feds ∷ []

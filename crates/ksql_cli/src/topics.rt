@@ -1,23 +1,21 @@
 //! Reading the files whose turn it is.
 
-ghost use Rattle.std.specs.Prelude.{◌≡◌, ◌⊎◌, ◌≤◌, ◌-◌, ◌++◌, All, List, ℕ, Some, length, IfOk, IfErr, IfSome};
+ghost use Rattle.std.specs.Prelude.{◌≡◌, ◌⊎◌, ◌≤◌, ◌-◌, ◌++◌, ◌∷◌, [], All, List, ℕ, Some, length, IfOk, IfErr, IfSome};
 ghost use Rattle.ksql_types.specs.Text.{longest_text};
 ghost use Rattle.ksql_outside.specs.Outside.{MayJoin, read_bytes};
 ghost use Rattle.topic_files.specs.declared.topic.TopicLines.{TopicLines as OneFile};
 ghost use Rattle.topic_files.specs.File.{topic_lines};
-ghost use Rattle.topic_feeds.specs.Feeding.{all_fed, fed_records};
-ghost use Rattle.ksql_cli.specs.Command.{AreFed, behind, declared_of, IsGood, topic_file};
+ghost use Rattle.ksql_cli.specs.Command.{AreFed, room_after, IsGood, topic_file};
+ghost use Rattle.ksql_cli.specs.Run.{declared_of};
 ghost use Rattle.ksql_cli.specs.Command as spec;
 ghost use Rattle.ksql_cli.specs.Steps.{AreTopicsDue, IsFeedable, IsFileFailure, IsJoined, IsReadFailure, IsTopicFailure, IsTopicRefusal};
 
 use crate::status::Status;
 use ksql_outside::{Folder, ReadFail};
-use ksql_place::SourceRecord;
 use ksql_program::Item;
 use ksql_types::{Chars, CopyOf, Relation};
 use std::alloc::Global;
-use topic_feeds::push_fed;
-use topic_files::{Feds, FileFault, LineWhy, Room, read_topic};
+use topic_files::{FileFault, LineWhy, Room, TopicLines, read_topic};
 
 /// How many records and bytes the topic files can have, all together.
 #[tactic(auto, unfolding(crate::specs::Command::whole_room))]
@@ -30,20 +28,19 @@ pub(crate) fn whole_room() -> Room
     }
 }
 
-/// The records of the topic files of the declared relations among these items, which share a room, after the records
-/// that were read before.
+/// The records of the topic files of the declared relations among these items, one list for each, after the files that
+/// were read before. All files share a room.
 pub(crate) fn read_topics<F: Folder>(
     alloc: Global,
     folder: &mut F,
     items: &[Item],
     reading: Reading,
-) -> Result<Vec<SourceRecord>, Status>
+) -> Result<Vec<TopicLines>, Status>
     requires feedable { All IsFeedable (declared_of items.now) }
     requires few { reading.room.records ≤ 200000 }
     requires short { reading.room.bytes ≤ 67108864 }
-    ensures found { IfOk result (λ all_records. IfSome (F.files folder.old) (λ all. (files : List OneFile)
-        × AreFed all reading.room (declared_of items.now) files
-        × (all_records.items ≡ reading.records.items ++ all_fed (declared_of items.now) files))) }
+    ensures found { IfOk result (λ read. IfSome (F.files folder.old) (λ all. (files : List OneFile)
+        × AreFed all reading.room (declared_of items.now) files × (read.items ≡ reading.files.items ++ files))) }
     ensures cause { IfErr result (λ status. IfSome (F.files folder.old)
         (λ all. IsTopicFailure all reading.room (declared_of items.now) (F.failed folder.old) (F.failed folder.new) status)) }
     ensures refusal { IfErr result IsTopicRefusal }
@@ -53,7 +50,7 @@ pub(crate) fn read_topics<F: Folder>(
     ensures same_files { F.files folder.new ≡ F.files folder.old }
 {
     let [first, rest @ ..] = items else {
-        return Ok(reading.records);
+        return Ok(reading.files);
     };
     let Item::Declared(relation) = first else {
         return read_topics(alloc, folder, rest, reading);
@@ -64,14 +61,14 @@ pub(crate) fn read_topics<F: Folder>(
     }
 }
 
-/// The records that were read so far, and the room that is left.
+/// The files that were read so far, and the room that is left.
 #[derive(Drop)]
 pub(crate) struct Reading {
-    pub records: Vec<SourceRecord>,
+    pub files: Vec<TopicLines>,
     pub room: Room,
 }
 
-/// The records of a relation's topic file after others, and what room it leaves.
+/// A relation's topic file after others, and what room it leaves.
 #[tactic(auto, unfolding(ksql_types::specs::Text::longest_text))]
 fn with_topic<F: Folder>(
     alloc: Global,
@@ -83,8 +80,8 @@ fn with_topic<F: Folder>(
     requires few { reading.room.records ≤ 200000 }
     requires short { reading.room.bytes ≤ 67108864 }
     ensures found { IfOk result (λ read. IfSome (F.files folder.old) (λ all. (file : List ℕ) × IsGood all reading.room relation.now file
-        × (read.room ≡ behind reading.room relation.now file)
-        × (read.records.items ≡ reading.records.items ++ fed_records 1 relation.now (topic_lines relation.now file).feds))) }
+        × (read.room ≡ room_after reading.room relation.now file)
+        × (read.files.items ≡ reading.files.items ++ topic_lines relation.now file ∷ []))) }
     ensures few { IfOk result (λ read. read.room.records ≤ 200000) }
     ensures short { IfOk result (λ read. read.room.bytes ≤ 67108864) }
     ensures cause { IfErr result (λ status. IfSome (F.files folder.old)
@@ -104,37 +101,27 @@ fn with_topic<F: Folder>(
         Err(status) => return Err(status),
     };
     match read_topic(alloc, relation, file.as_slice(), reading.room) {
-        Ok(lines) => with_lines(alloc, relation, reading, lines.feds, file.len()),
+        Ok(lines) => with_lines(reading, lines, file.len()),
         Err(FileFault::Refused { line, why }) => Err(bad_file(alloc, &relation.topic, line, why)),
         Err(FileFault::OutOfMemory) => Err(Status::OutOfMemory),
     }
 }
 
-/// The records of a file of so many bytes after others, and what room it leaves.
-fn with_lines(
-    alloc: Global,
-    relation: &Relation,
-    reading: Reading,
-    feds: Feds,
-    bytes: usize,
-) -> Result<Reading, Status>
-    requires some { 1 ≤ relation.now.partitions }
-    requires few { relation.now.partitions ≤ 64 }
-    ensures records { IfOk result (λ read. read.records.items ≡ reading.records.items ++ fed_records 1 relation.now feds) }
-    ensures record_room { IfOk result (λ read. read.room.records ≡ reading.room.records - length feds) }
+/// A file of so many bytes after others, and what room it leaves.
+fn with_lines(reading: Reading, lines: TopicLines, bytes: usize) -> Result<Reading, Status>
+    ensures files { IfOk result (λ read. read.files.items ≡ reading.files.items ++ lines ∷ []) }
+    ensures record_room { IfOk result (λ read. read.room.records ≡ reading.room.records - length lines.feds) }
     ensures byte_room { IfOk result (λ read. read.room.bytes ≡ reading.room.bytes - bytes) }
     ensures memory { IfErr result (λ status. status ≡ Status.OutOfMemory) }
 {
+    let records = lines.feds.items().len() as u64;
     let room = Room {
-        records: reading
-            .room
-            .records
-            .saturating_sub(feds.items().len() as u64),
+        records: reading.room.records.saturating_sub(records),
         bytes: reading.room.bytes.saturating_sub(bytes as u64),
     };
-    let mut records = reading.records;
-    match push_fed(alloc, &mut records, 1, relation, feds) {
-        Ok(()) => Ok(Reading { records, room }),
+    let mut files = reading.files;
+    match files.push(lines) {
+        Ok(()) => Ok(Reading { files, room }),
         Err(_) => Err(Status::OutOfMemory),
     }
 }

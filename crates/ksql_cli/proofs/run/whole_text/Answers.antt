@@ -1,7 +1,8 @@
 use Rattle.std.proofs.Common.{List, subst, sym}
 use Rattle.std.specs.Prelude.{All}
 use Rattle.ksql_program.specs.declared.program.Item.{Item}
-use Rattle.ksql_cli.specs.Command.{declared_of, whole_room}
+use Rattle.ksql_cli.specs.Command.{whole_room}
+use Rattle.ksql_cli.specs.Run.{declared_of}
 use Rattle.ksql_cli.specs.Steps.{AreTopicsDue, IsFeedable, IsTopicFailure}
 use Rattle.ksql_cli.proofs.Causes.{topic_joined, topics_cause, topics_due}
 use Rattle.ksql_cli.proofs.Sounds.{feedable}
@@ -10,7 +11,7 @@ use Rattle.ksql_cli.proofs.run.whole_text.Goals as goal
 
 pub read_topics-requires-clause-feedable : goal.read_topics-requires-clause-feedable
 read_topics-requires-clause-feedable g c =
-    subst (λ (items : List Item). All IsFeedable (declared_of items)) (sym c.items.ensures) (feedable c.in-Ok.program.items c.in-Ok.ensures.sound)
+    subst (λ (items : List Item). All IsFeedable (declared_of items)) (sym c.items.ensures) (feedable c.in-Ok.program.items c.in-Ok.ensures.sound c.in-Ok.ensures.built)
 
 pub read_topics-requires-clause-few : goal.read_topics-requires-clause-few
 read_topics-requires-clause-few g c = whole_few c.whole_room.result c.whole_room.ensures

@@ -1,5 +1,6 @@
 use Rattle.std.proofs.Common.{rules}
-use Rattle.ksql_cli.specs.Command.{declared_of, topic_file}
+use Rattle.ksql_cli.specs.Command.{topic_file}
+use Rattle.ksql_cli.specs.Run.{declared_of}
 use Rattle.ksql_cli.proofs.TopicLaws.{all_caused, all_due, all_found, all_joined, declared_first, rest_feedable, rest_of}
 use Rattle.ksql_cli.proofs.topics.+read_topics.Goals as goal
 
@@ -18,9 +19,9 @@ read_topics-requires-in-Ok g t c κs within =
 
 pub returns-in-Ok-clause-found : goal.returns-in-Ok-clause-found
 returns-in-Ok-clause-found g t c =
-    all_found c.read_topics-in-Ok.result (λ records. records.items) (g.F.Folder.files c.args.folder.now) (g.F.Folder.files c.with_topic.new.folder)
+    all_found c.read_topics-in-Ok.result (λ read. read.items) (g.F.Folder.files c.args.folder.now) (g.F.Folder.files c.with_topic.new.folder)
     c.args.reading.room c.in-Ok.reading.room c.in-Declared.relation (declared_of (rest_of c.args.items.now)) (declared_of c.args.items.now)
-    c.args.reading.records.items c.in-Ok.reading.records.items
+    c.args.reading.files.items c.in-Ok.reading.files.items
     (declared_first c.args.items.now c.first-item.result c.in-Declared.relation c.in-len1-up.len_at_least c.first-item.is c.in-Declared.is)
     c.in-Ok.ensures.same_files c.in-Ok.ensures.found c.read_topics-in-Ok.ensures.found
 
@@ -28,7 +29,7 @@ pub returns-in-Ok-clause-cause : goal.returns-in-Ok-clause-cause
 returns-in-Ok-clause-cause g t c =
     all_caused c.read_topics-in-Ok.result (g.F.Folder.files c.args.folder.now) (g.F.Folder.files c.with_topic.new.folder)
     c.args.reading.room c.in-Ok.reading.room c.in-Declared.relation (declared_of (rest_of c.args.items.now)) (declared_of c.args.items.now)
-    c.args.reading.records.items c.in-Ok.reading.records.items
+    c.args.reading.files.items c.in-Ok.reading.files.items
     (g.F.Folder.failed c.args.folder.now) (g.F.Folder.failed c.with_topic.new.folder) (g.F.Folder.failed c.read_topics-in-Ok.new.folder)
     (declared_first c.args.items.now c.first-item.result c.in-Declared.relation c.in-len1-up.len_at_least c.first-item.is c.in-Declared.is)
     c.in-Ok.ensures.same_files c.in-Ok.ensures.found c.in-Ok.ensures.grows c.read_topics-in-Ok.ensures.cause
@@ -42,7 +43,7 @@ pub returns-in-Ok-clause-reads : goal.returns-in-Ok-clause-reads
 returns-in-Ok-clause-reads g t c =
     all_due (g.F.Folder.files c.args.folder.now) (g.F.Folder.files c.with_topic.new.folder)
     c.args.reading.room c.in-Ok.reading.room c.in-Declared.relation (declared_of (rest_of c.args.items.now)) (declared_of c.args.items.now)
-    c.args.reading.records.items c.in-Ok.reading.records.items
+    c.args.reading.files.items c.in-Ok.reading.files.items
     (g.F.Folder.failed c.args.folder.now) (g.F.Folder.failed c.with_topic.new.folder) (g.F.Folder.failed c.read_topics-in-Ok.new.folder)
     (declared_first c.args.items.now c.first-item.result c.in-Declared.relation c.in-len1-up.len_at_least c.first-item.is c.in-Declared.is)
     c.in-Ok.ensures.same_files c.in-Ok.ensures.found c.in-Ok.ensures.grows c.read_topics-in-Ok.ensures.reads

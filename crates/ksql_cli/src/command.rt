@@ -1,26 +1,22 @@
-//! The program `ksql`: persistent ksqlDB queries over topic files.
-#![tactic(auto)]
-
-mod fault;
-mod run;
-mod status;
-mod topics;
-
-use fault::write_fault;
+use crate::fault::write_fault;
+use crate::run::ksql;
+use crate::status::Status;
 use ksql_outside::{DirFolder, NoGate, StdSink};
 use ksql_types::{Items, Word, Words};
-pub use run::ksql;
-pub use status::Status;
 use std::env;
+use std::env::Env;
 use std::io::ErrorKind;
 use std::process::ExitCode;
+use std::rt::Files;
 
-fn main(rt: HostRuntime) -> ExitCode {
+/// Runs the command that the process was started with, in the working folder and to standard output, and gives the exit
+/// code of its status.
+pub fn run_command<R: AllocGlobal + Env + Files + Print>(rt: &R) -> ExitCode {
     let alloc = rt.alloc();
-    let mut folder = DirFolder::new(&rt, alloc);
-    let mut out = StdSink::new(&rt);
-    let status = match words(&rt) {
-        Ok(words) => ksql(&rt, alloc, &words, &mut folder, &mut out, &NoGate),
+    let mut folder = DirFolder::new(rt, alloc);
+    let mut out = StdSink::new(rt);
+    let status = match words(rt) {
+        Ok(words) => ksql(rt, alloc, &words, &mut folder, &mut out, &NoGate),
         Err(status) => {
             let _ = write_fault(&mut out, &status);
             status
@@ -30,7 +26,7 @@ fn main(rt: HostRuntime) -> ExitCode {
 }
 
 /// The words of the command line, the program's name first.
-fn words(rt: &HostRuntime) -> Result<Words, Status> {
+fn words<R: AllocGlobal + Env>(rt: &R) -> Result<Words, Status> {
     let mut words = Vec::new(rt.alloc());
     let args = match env::args(rt) {
         Ok(args) => args,
