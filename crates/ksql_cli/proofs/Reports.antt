@@ -1,6 +1,6 @@
 -- The report of a run that feeds all records at once and then drains.
-use Rattle.std.proofs.Common.{◌≡◌, ◌∙◌, ap, ap₂, sym, refl, subst, ℕ, ◌+◌, List, [], ◌∷◌, ◌++◌, ◌<◌, append_assoc, arith, drop, length, length-append, map, Bool, true, false, cond}
-use Rattle.std.specs.Prelude.{filter, nat_le, replicate}
+use Rattle.std.proofs.Common.{◌≡◌, ◌∙◌, ap, ap₂, sym, refl, subst, ℕ, List, [], ◌∷◌, ◌++◌, ◌<◌, append_assoc, arith, drop, length, length-append, map, cond}
+use Rattle.std.specs.Prelude.{nat_le, replicate}
 use Rattle.std.proofs.lemmas.List.{get_or-replicate}
 use Rattle.std.specs.List.{AllByRecursion}
 use Rattle.ksql_types.specs.declared.relation.Relation.{Relation}

@@ -1,6 +1,6 @@
 -- What a sound program whose forms are run keeps that its topic files and its report ask for.
 use Rattle.std.proofs.Common.{◌≡◌, ◌<◌, ℕ, zero, suc, ◌+◌, List, [], ◌∷◌, ◌++◌, get_or, length, arith, refl, Bool, true, false}
-use Rattle.std.specs.Prelude.{All, IsTrue, ◌≤◌, ◌&&◌, is_none, Option, Some, if◌then◌else◌}
+use Rattle.std.specs.Prelude.{All, IsTrue, ◌≤◌, ◌&&◌, is_none, Some, if◌then◌else◌}
 use Rattle.std.proofs.lemmas.Bool.Decides.{nat_tests}
 use Rattle.std.proofs.lemmas.List.Elements.{All-cons, All-head, All-nil, All-tail}
 use Rattle.ksql_types.specs.Names.{is_topic_name}

@@ -1,4 +1,4 @@
-use Rattle.std.proofs.Common.{◌≡◌, ◌∙◌, ◌++◌, ◌∷◌, [], ap, ap₂, append_assoc, sym, List, length}
+use Rattle.std.proofs.Common.{◌∙◌, ◌++◌, ◌∷◌, [], ap, ap₂, append_assoc, sym, List, length}
 use Rattle.std.proofs.lemmas.Result.{on_ok_weaker}
 use Rattle.ksql_place.specs.declared.change.SourceRecord.{SourceRecord}
 use Rattle.ksql_program.specs.declared.program.Item.{Item}
@@ -18,11 +18,11 @@ returns-in-Some c =
     let own : List SourceRecord = fed_in r [] 1 (length file.feds ∷ []) file.feds in
     on_ok_weaker c.feed_file.result
     (λ added items.
-      let others : List SourceRecord = all_fed at_once (declared_of items) left in
-      ap (λ (records : List SourceRecord). records ++ others) added
-      ∙ append_assoc old own others
-      ∙ ap (λ (records : List SourceRecord). old ++ records)
-      (sym (ap₂ (λ (item : Item) (files : List TopicLines). all_fed at_once (declared_of (item ∷ items)) files) c.in-Declared.is c.in-Some.ensures.items)))
+    let others : List SourceRecord = all_fed at_once (declared_of items) left in
+    ap (λ (records : List SourceRecord). records ++ others) added
+    ∙ append_assoc old own others
+    ∙ ap (λ (records : List SourceRecord). old ++ records)
+    (sym (ap₂ (λ (item : Item) (files : List TopicLines). all_fed at_once (declared_of (item ∷ items)) files) c.in-Declared.is c.in-Some.ensures.items)))
     c.feed_file.ensures
 
 pub returns-in-None : goal.returns-in-None

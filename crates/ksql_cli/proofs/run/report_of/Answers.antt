@@ -1,14 +1,12 @@
-use Rattle.std.proofs.Common.{◌≡◌, ◌∙◌, [], ap, refl, subst, sym, ℕ, List, length, map, string_bytes}
+use Rattle.std.proofs.Common.{◌≡◌, ◌∙◌, [], ap, refl, subst, sym, List, length, map, string_bytes}
 use Rattle.std.specs.Prelude.{All, replicate}
 use Rattle.std.proofs.lemmas.Result.{IfOk-weaker}
 use Rattle.ksql_place.specs.Ascending.{ascending}
 use Rattle.ksql_place.specs.Order.{record_cmp}
-use Rattle.ksql_place.specs.declared.change.Change.{Change}
 use Rattle.ksql_place.specs.declared.change.SourceRecord.{SourceRecord}
 use Rattle.ksql_program.specs.declared.program.Item.{Item}
 use Rattle.query_meaning.specs.Meaning.{meaning}
 use Rattle.query_meaning.specs.Plain.{changes_of}
-use Rattle.query_meaning.specs.declared.meaning.Listed.{Listed}
 use Rattle.topic_feeds.specs.Feeding.{all_fed}
 use Rattle.ksql_cli.specs.Run.{declared_of}
 use Rattle.ksql_cli.specs.Steps.{at_once, IsFeedable}
@@ -35,5 +33,5 @@ returns c = λ run of_program of_files steps.
     ∙ ap (λ (records : List SourceRecord). meaning items records) (c.as_slice.ensures.value ∙ sym c.as_slice-3.ensures.value) in
     IfOk-weaker c.report.result _ _
     (λ text written. report-run c.args.program.now c.args.files.items order c.as_slice-2.result.now (map changes_of c.as_slice-4.result.now)
-      (string_bytes text) [] c.requires.sound is_order is_closed is_meant refl written run of_program of_files steps)
+    (string_bytes text) [] c.requires.sound is_order is_closed is_meant refl written run of_program of_files steps)
     c.report.ensures

@@ -1,13 +1,19 @@
-use Rattle.std.proofs.Common.{List, subst, sym}
-use Rattle.std.specs.Prelude.{All}
+use Rattle.std.proofs.Common.{◌≡◌, ◌∙◌, ◌++◌, ◌∷◌, [], ap, refl, List, IfSome, subst, sym}
+use Rattle.std.specs.Prelude.{All, Option, None, Some}
 use Rattle.ksql_program.specs.declared.program.Item.{Item}
-use Rattle.ksql_cli.specs.Command.{whole_room}
-use Rattle.ksql_cli.specs.Run.{declared_of}
+use Rattle.topic_files.specs.declared.topic.TopicLines.{TopicLines}
+use Rattle.ksql_cli.specs.Command.{AreFed, Files, IsProgramRead, whole_room}
+use Rattle.ksql_cli.specs.Run.{declared_of, drain, feed_all, Run}
 use Rattle.ksql_cli.specs.Steps.{AreTopicsDue, IsFeedable, IsTopicFailure}
 use Rattle.ksql_cli.proofs.Causes.{topic_joined, topics_cause, topics_due}
 use Rattle.ksql_cli.proofs.Sounds.{feedable}
 use Rattle.ksql_cli.proofs.TopicLaws.{as_before, whole_few, whole_short}
 use Rattle.ksql_cli.proofs.run.whole_text.Goals as goal
+
+-- what two facts of the files give together
+of_both : (P Q R : Files → Type 0) (known : Option Files) → ((all : Files) → P all → Q all → R all) → IfSome known P → IfSome known Q → IfSome known R
+of_both P Q R None give p q = p
+of_both P Q R (Some all) give p q = give all p q
 
 pub read_topics-requires-clause-feedable : goal.read_topics-requires-clause-feedable
 read_topics-requires-clause-feedable g c =
@@ -45,6 +51,29 @@ returns-in-Err-read_topics-clause-reads g c =
     (g.F.Folder.files c.accepted_program.new.folder) c.whole_room.result whole_room c.items.result.now c.in-Ok.program.items
     c.in-Ok.ensures.same_files c.whole_room.ensures c.items.ensures c.read_topics.ensures.reads)
     c.in-Ok.ensures.found
+
+pub returns-in-Ok-report_of-clause-found : goal.returns-in-Ok-report_of-clause-found
+returns-in-Ok-report_of-clause-found g c =
+    let items = c.in-Ok.program.items in
+    let files = c.in-Ok-read_topics.files.items in
+    let run : Run = record { program = c.in-Ok.program; files = files; workers = 1; steps = feed_all ∷ drain ∷ [] } in
+    of_both (λ all. IsProgramRead c.args.words.now all c.in-Ok.program)
+    (λ all. (read : List TopicLines) × AreFed all whole_room (declared_of items) read × (files ≡ c.new.result.items ++ read))
+    _ (g.F.Folder.files c.args.folder.now)
+    (λ all is_read is_fed. (
+      run,
+      record {
+        read = is_read;
+        fed = subst (AreFed all whole_room (declared_of items)) (sym (is_fed.2 ∙ ap (λ (before : List TopicLines). before ++ is_fed.0) c.new.ensures.items)) is_fed.1;
+        one_worker = refl;
+        fed_once = refl;
+      },
+      c.in-Ok-report_of.ensures run refl refl refl,
+    ))
+    c.in-Ok.ensures.found
+    (as_before (λ all room items. (read : List TopicLines) × AreFed all room (declared_of items) read × (files ≡ c.new.result.items ++ read))
+    (g.F.Folder.files c.args.folder.now) (g.F.Folder.files c.accepted_program.new.folder) c.whole_room.result whole_room c.items.result.now items
+    c.in-Ok.ensures.same_files c.whole_room.ensures c.items.ensures c.in-Ok-read_topics.ensures.found)
 
 pub returns-in-Ok-report_of-clause-reads : goal.returns-in-Ok-report_of-clause-reads
 returns-in-Ok-report_of-clause-reads g c =
