@@ -1,3 +1,5 @@
+ghost use Rattle.std.specs.Prelude.{◌≡◌, IfOk};
+
 use super::*;
 use ksql_place::Decoded;
 use ksql_types::{Chars, Column, CopyOf, Format, Items, Kind, Relation, Schema, SqlType, Value};
@@ -27,7 +29,9 @@ fn column(alloc: Global, name: &str, ty: SqlType) -> Result<Column, AllocError> 
 }
 
 /// A stream with the text key K and the column AB of this type.
-fn stream(alloc: Global, ty: SqlType) -> Result<Relation, AllocError> {
+fn stream(alloc: Global, ty: SqlType) -> Result<Relation, AllocError>
+    ensures { IfOk result (λ relation. relation.format ≡ Format.Json) }
+{
     let keys = Items::of(vec![in alloc; column(alloc, "K", SqlType::Text)?]?);
     let values = Items::of(vec![in alloc; column(alloc, "AB", ty)?]?);
     Ok(Relation {
