@@ -62,6 +62,28 @@ reach far form = false
 abbrev pub plain_use : Option (List ℕ) → List ℕ → Use
 plain_use qualifier name = record { within = false; qualifier = qualifier; name = name }
 
+-- ---- literals and patterns that keep their limits
+
+pub short-digits : (number : ℕ) → is_long_text (TypedNode-F.Literal (digits_value number)) ≡ false
+short-digits number = at (nat_le number 2147483647)
+  where
+    at : (b : Bool) → is_long_text (TypedNode-F.Literal (if b then value.Int (pos number) else value.Big (pos number))) ≡ false
+    at true = refl
+    at false = refl
+
+pub text-small : (content : List ℕ) → IsSmall (e.Text content) → nat_lt 65536 (length content) ≡ false
+unfolding is_small
+text-small content h =
+    le-ltb 65536 (length content) (leb-true (length content) 65536 (sym (folds.fold-Text Bool Bool small_step (λ w. w.cond && w.result) content) ∙ h))
+
+pattern-small : (m : Bool) (a : Expr) (pattern : List ℕ) → IsSmall (e.Like m a pattern) → nat_le (length pattern) 65536 ≡ true
+unfolding is_small
+pattern-small m a pattern h =
+    (both-true (is_small a) (nat_le (length pattern) 65536) (sym (folds.fold-Like Bool Bool small_step (λ w. w.cond && w.result) m a pattern) ∙ h)).1
+
+pub pattern-short : (m : Bool) (a : Expr) (pattern : List ℕ) → IsSmall (e.Like m a pattern) → nat_lt 65536 (length pattern) ≡ false
+pattern-short m a pattern h = le-ltb 65536 (length pattern) (leb-true (length pattern) 65536 (pattern-small m a pattern h))
+
 -- which columns are too far, and of which names that isn't so
 module _ (far : ℕ → Bool) (ok : Use → Bool) where
   -- what is held, where these functions are called, these names stand and literals keep their limits or don't
@@ -124,23 +146,6 @@ module _ (far : ℕ → Bool) (ok : Use → Bool) where
     columns = λ k. hold.holds-Literal is_column t x;
     near = λ k l. hold.holds-Literal (reach far) t x;
   }
-
-  short-digits : (number : ℕ) → is_long_text (TypedNode-F.Literal (digits_value number)) ≡ false
-  short-digits number = at (nat_le number 2147483647)
-    where
-      at : (b : Bool) → is_long_text (TypedNode-F.Literal (if b then value.Int (pos number) else value.Big (pos number))) ≡ false
-      at true = refl
-      at false = refl
-
-  text-small : (content : List ℕ) → IsSmall (e.Text content) → nat_lt 65536 (length content) ≡ false
-  unfolding is_small
-  text-small content h =
-      le-ltb 65536 (length content) (leb-true (length content) 65536 (sym (folds.fold-Text Bool Bool small_step (λ w. w.cond && w.result) content) ∙ h))
-
-  pattern-small : (m : Bool) (a : Expr) (pattern : List ℕ) → IsSmall (e.Like m a pattern) → nat_le (length pattern) 65536 ≡ true
-  unfolding is_small
-  pattern-small m a pattern h =
-      (both-true (is_small a) (nat_le (length pattern) 65536) (sym (folds.fold-Like Bool Bool small_step (λ w. w.cond && w.result) m a pattern) ∙ h)).1
 
   -- a LIKE without what stands in front of it
   of-pattern : (m : Bool) (pattern : List ℕ) (x : Leaf → Bool) → Bears [] [] (nat_le (length pattern) 65536) (λ leaf. leaf (TypedNode-F.Like m (x leaf) pattern))

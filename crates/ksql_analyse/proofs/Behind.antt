@@ -1,4 +1,4 @@
--- One statement more behind those that were judged.
+-- One statement more after those that were judged.
 use Rattle.std.proofs.Common.{◌≡◌, ℕ, suc, ◌+◌, ◌<◌, ◌≤◌, List, [], ◌∷◌, ◌++◌, length, take, drop, get_or, refl, ap, sym, ◌∙◌, subst, arith}
 use Rattle.std.specs.List.{All}
 use Rattle.std.specs.Prelude.{Result, Err}
@@ -73,7 +73,7 @@ front-judged sts count catalog items st i d below at accepted is =
     subst (λ front. Judged [] front (items ++ i ∷ [])) (sym front)
     (judged-behind [] (take count sts) items st i d.judged (subst (λ rs. IsAccepted rs st) d.stand accepted) (subst (λ rs. IsItemOf rs st i) d.stand is))
 
--- its relation can be put behind the others
+-- its relation can be put after the others
 pub one-next : (sts : List Statement) (count : ℕ) (catalog : List Relation) (items : List Item) (st : Statement) (i : Item) → AreParsed sts → Done sts count catalog items
     → count < length sts → st ≡ get_or sts count st → IsAccepted catalog st → IsItemOf catalog st i → IsNext catalog (relation_of i)
 one-next sts count catalog items st i parsed d below at accepted is =

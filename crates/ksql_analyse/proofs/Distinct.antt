@@ -1,4 +1,4 @@
--- Names that differ: one more behind them, and their parts one behind the other.
+-- Names that differ: one more after them, and their parts one after the other.
 use Rattle.std.proofs.Common.{◌≡◌, ℕ, zero, suc, ◌<◌, ◌==◌, arith, Bool, true, false, not, ◌&&◌, ◌||◌, if◌then◌else◌, List, [], ◌∷◌, ◌++◌, map, refl, ap, ap₂, sym, ◌∙◌}
 use Rattle.std.specs.Prelude.{filter, bytes_eq}
 use Rattle.std.specs.List.{list_any, list_all}

@@ -1,20 +1,15 @@
--- The rows behind a grouping of a query whose expressions call few functions have few columns.
+-- A grouped query whose expressions call few functions has few aggregates.
 use Rattle.std.proofs.Common.{◌≡◌, ℕ, suc, ◌+◌, ◌*◌, ◌-◌, ◌^◌, ◌≤◌, Bool, true, false, if◌then◌else◌, List, [], ◌∷◌, ◌++◌, map, length, Option, Some, None, refl, ap, ap₂, sym, ◌∙◌, arith}
 use Rattle.std.specs.Prelude.{option_map}
-use Rattle.std.specs.List.{cons_option}
 use Rattle.std.specs.List.{flat_map, list_any, AllByRecursion as Each}
 use Rattle.std.proofs.lemmas.Bool.{ltb-false}
 use Rattle.std.proofs.lemmas.List.{length-append, length-map}
 use Rattle.ksql_types.specs.declared.relation.Relation.{Relation}
-use Rattle.ksql_types.specs.declared.value.SqlType.{SqlType}
 use Rattle.ksql_grammar.specs.declared.tree.Expr.{Expr}
 use Rattle.ksql_grammar.specs.declared.tree.Expr.TheVariants as e
 use Rattle.ksql_grammar.specs.declared.tree.Property.{Property}
 use Rattle.ksql_grammar.specs.declared.tree.Select.{Select}
 use Rattle.ksql_grammar.specs.declared.tree.WhenText.{WhenText}
-use Rattle.ksql_expr.specs.declared.typed.Typed.{Typed}
-use Rattle.ksql_program.specs.declared.query.Agg.{Agg}
-use Rattle.ksql_scope.specs.declared.scope.Scope.{Scope}
 use Rattle.ksql_scope.specs.Functions.{is_aggregate}
 use Rattle.ksql_scope.specs.Uses.{calls, all_of, perhaps}
 use Rattle.ksql_scope.proofs.Equations as equation
@@ -30,8 +25,7 @@ use Rattle.ksql_grouping.specs.Grouping.{aggregates_of, once_from}
 use Rattle.ksql_grouping.specs.Same.{same_expr}
 use Rattle.ksql_rules.specs.Breaks.{group_exprs, shown_exprs}
 use Rattle.ksql_analyse.specs.Few.{CallsFew}
-use Rattle.ksql_analyse.specs.Judgement as aggs
-use Rattle.ksql_analyse.specs.Judgement.{AreAggs, AreLateTypes, AreTypedTrees, agg_types, aggregate_exprs, exprs, own_type}
+use Rattle.ksql_analyse.specs.Judgement.{aggregate_exprs, exprs}
 use Rattle.ksql_analyse.proofs.AggregatesIn as found
 use Rattle.ksql_analyse.proofs.AggregatesIn.{when_aggregates}
 use Rattle.ksql_analyse.proofs.Refusals.{KeepsQuery}
@@ -39,7 +33,6 @@ use Rattle.ksql_analyse.proofs.Resolution.{calls-resolved}
 use Rattle.ksql_analyse.proofs.SoundColumns.{each-append, each-map}
 use Rattle.ksql_analyse.proofs.SoundPlain.{exprs-hold}
 use Rattle.ksql_analyse.proofs.SoundQuery.{items-part, having-part}
-use Rattle.ksql_analyse.proofs.ValuedTrees.{trees-counted}
 
 -- ---- each aggregate is a call
 
@@ -124,27 +117,6 @@ once-few (a ∷ xs) kept = at (list_any (same_expr a) kept) (once-few xs)
     at true rest = omega (arith, rest kept)
     at false rest = omega (arith, rest (kept ++ a ∷ []), length-append kept (a ∷ []))
 
--- ---- the types of the rows behind a grouping
-
-aggs-counted : {s : Scope} {es typed : List Expr} {gs : List Agg} → AreAggs s es typed gs → length gs ≡ length es
-aggs-counted aggs.none = refl
-aggs-counted (aggs.kept t ty is node same rest) = ap suc (aggs-counted rest)
-aggs-counted (aggs.null t is node same rest) = ap suc (aggs-counted rest)
-
-types-few : (gs : List Agg) → length (agg_types gs) ≤ length gs
-types-few [] = omega arith
-types-few (g ∷ gs) = at (own_type g) (types-few gs)
-  where
-    at : (o : Option SqlType) → length (agg_types gs) ≤ length gs → length (cons_option o (agg_types gs)) ≤ suc (length gs)
-    at None h = omega (arith, h)
-    at (Some t) h = omega (arith, h)
-
-late-counted : (keys : List Typed) (gs : List Agg) (types : List SqlType) → AreLateTypes keys gs types → length types ≡ length keys + length (agg_types gs)
-late-counted keys gs types h =
-    sym (length-map types (λ (t : SqlType). Some t)) ∙ ap length (sym h)
-    ∙ length-append (map (λ (x : Typed). x.ty) keys) (map (λ (t : SqlType). Some t) (agg_types gs))
-    ∙ ap₂ (λ m n. m + n) (length-map keys (λ (x : Typed). x.ty)) (length-map (agg_types gs) (λ (t : SqlType). Some t))
-
 -- ---- of an accepted query
 
 module _ (catalog : List Relation) (table : Bool) (name : List ℕ) (ps : List Property) (q : Select) (ks : List Known)
@@ -181,18 +153,13 @@ module _ (catalog : List Relation) (table : Bool) (name : List ℕ) (ps : List P
       one None = omega arith
       one (Some a) = omega arith
 
-  pub few-types : (keys : List Typed) (typed : List Expr) (made : List Agg) (types : List SqlType) → AreTypedTrees (from_scope q ks) (group_exprs q ks) keys
-      → AreAggs (item_scope q ks) (aggregate_exprs q ks) typed made → AreLateTypes keys made types → length types ≤ 2 ^ 32 - 2
-  few-types keys typed made types are_keys are_aggs are_types =
+  pub few-columns : length (group_exprs q ks) + length (aggregate_exprs q ks) ≤ 2 ^ 32 - 2
+  few-columns =
       let groups : length q.group ≤ 8 = ltb-false 8 (length q.group) keeps.few_groups in
       omega (
         arith,
         groups,
         length-map q.group (resolved (from_scope q ks)),
-        trees-counted (from_scope q ks) (group_exprs q ks) keys are_keys,
-        late-counted keys made types are_types,
-        types-few made,
-        aggs-counted are_aggs,
         once-few (flat_map aggregates_of (shown_exprs q ks)) [],
         flat-few (shown_exprs q ks) shown-few,
         shown-counted,

@@ -3,11 +3,12 @@ use Rattle.std.proofs.Common.{◌≡◌, ◌<◌, ◌≤◌, ◌-◌, ◌^◌, �
 use Rattle.std.specs.Prelude.{All, codes, unwrap_or}
 use Rattle.std.proofs.lemmas.Bool.{ltb-false}
 use Rattle.ksql_types.specs.declared.relation.Relation.{Relation}
+use Rattle.ksql_grammar.specs.declared.tree.ColumnText.{ColumnText}
 use Rattle.ksql_grammar.specs.declared.tree.Property.{Property}
 use Rattle.ksql_grammar.specs.declared.tree.Select.{Select}
 use Rattle.ksql_grammar.specs.declared.tree.Statement.{Statement}
 use Rattle.ksql_grammar.specs.declared.tree.StatementBody.{StatementBody}
-use Rattle.ksql_grammar.specs.declared.tree.StatementBody.TheVariants.{Query}
+use Rattle.ksql_grammar.specs.declared.tree.StatementBody.TheVariants.{Declared, Query}
 use Rattle.ksql_clauses.specs.Items.{HasShortNames}
 use Rattle.ksql_clauses.specs.Properties.{partitions_in, topic_in, value_of}
 use Rattle.ksql_clauses.specs.Sources.{all_known, from_columns}
@@ -22,7 +23,7 @@ use Rattle.ksql_analyse.specs.Typable.{IsQueryTypable}
 use Rattle.ksql_analyse.proofs.GroupedQueries.{query-typable}
 use Rattle.ksql_analyse.proofs.PlainScopes.{from-plain, item-plain}
 use Rattle.ksql_analyse.proofs.ReadQueries as reads
-use Rattle.ksql_analyse.proofs.Refusals.{KeepsQuery, query-kept}
+use Rattle.ksql_analyse.proofs.Refusals.{KeepsQuery, declaration-kept, query-kept}
 
 pub kept : (catalog : List Relation) (st : Statement) (ps : List Property) (q : Select) → st.body ≡ Query ps q → IsAccepted catalog st
     → KeepsQuery catalog st.table st.name ps q (all_known catalog q)
@@ -36,6 +37,12 @@ few-of (Some n) h = omega (arith, ltb-false 64 n h)
 pub few-partitions : (catalog : List Relation) (st : Statement) (ps : List Property) (q : Select) → st.body ≡ Query ps q → IsAccepted catalog st
     → unwrap_or (partitions_in ps) 1 < 2 ^ 32
 few-partitions catalog st ps q is h = few-of (partitions_in ps) (kept catalog st ps q is h).few_partitions
+
+pub few-declared : (catalog : List Relation) (st : Statement) (cs : List ColumnText) (ps : List Property) → st.body ≡ Declared cs ps → IsAccepted catalog st
+    → unwrap_or (partitions_in ps) 1 < 2 ^ 32
+few-declared catalog st cs ps is h =
+    few-of (partitions_in ps)
+    (declaration-kept catalog st.table st.name cs ps (subst (λ (b : StatementBody). IsAccepted catalog (record st { body = b })) is h)).few_partitions
 
 within : (st : Statement) (ps : List Property) (q : Select) → st.body ≡ Query ps q → IsWithinLimits st → IsQueryWithin q
 within st ps q is limits = subst IsBodyWithin is limits.body

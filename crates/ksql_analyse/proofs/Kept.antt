@@ -26,7 +26,7 @@ use Rattle.ksql_analyse.proofs.Distinct.{or-false, false-or, true-not, same-byte
 use Rattle.ksql_analyse.proofs.SoundPrograms.{among-mapped, sound}
 use Rattle.ksql_analyse.proofs.SoundSources.{relation-sound}
 
--- a relation that can be put behind others
+-- a relation that can be put after others
 pub record IsNext (catalog : List Relation) (r : Relation) : Type 0 where
   pub numbered : r.number ≡ length catalog
   pub free : is_taken r.name r.topic catalog ≡ false

@@ -77,7 +77,7 @@ first-passes p (x ∷ xs) y ys h = at (p x) refl h (first-passes p xs y ys)
     at true e k rest = let z : x ≡ y = cc (k) in (0, ap Some z, ap p (sym z) ∙ e)
     at false e k rest = let g = rest k in (suc g.0, g.1, g.2)
 
--- a column whose name behind its relation's alias a name resolves to is known by that name
+-- a column whose name after its relation's alias a name resolves to is known by that name
 pub known-by : (s : Scope) (q : Option (List ℕ)) (name alias : List ℕ) (c : Column) → full_name s q name ≡ e.Name (Some alias) c.name
     → is_known_as q name (scope_column alias c) ≡ true
 known-by s q name alias c h = at (filter (is_known_as q name) s.columns) refl h
@@ -157,7 +157,7 @@ named-out {s} {t = u} (h.case {operand = a} {otherwise = b} {ws = ws} k l j i) =
 named-out {s} {t = u} (h.call {f = f} {args = es} k l j) = subst (λ z. IsNamed s z u) (sym (e.outs-Call f false es)) tt
 named-out {s} {t = u} (h.count_all {f = f} k) = subst (λ z. IsNamed s z u) (sym (e.outs-Call f true [])) tt
 named-out {s} {t = u} (h.aggregate {f = f} {a = a} k l j) = subst (λ z. IsNamed s z u) (sym (e.outs-Call f false (a ∷ []))) tt
-named-out {s} {t = u} (h.unknown {f = f} {args = es} k l) = subst (λ z. IsNamed s z u) (sym (e.outs-Call f false es)) tt
+named-out {s} {t = u} (h.unknown {f = f} {star = star} {args = es} k l) = subst (λ z. IsNamed s z u) (sym (e.outs-Call f star es)) tt
 named-out {s} {t = u} (h.name {q = q} {found = name} {form = form} {t = t} k) = subst (λ z. IsNamed s z u) (sym (e.outs-Name q name)) (form, t, k, refl)
 
 pub key-type : (s : Scope) (k : Known) (a : Expr) (o : IsOnlyKey s k a) (i : ℕ) → slice_get s.columns i ≡ Some (scope_column k.alias o.column) → (t : Option SqlType)

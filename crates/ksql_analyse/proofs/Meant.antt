@@ -84,7 +84,7 @@ pub record IsTime (s : Scope) (q : Option (List ℕ)) (name : List ℕ) (form : 
   pub alone : row_time s q name ≡ (form, t) ∷ []
   pub none : columns_known_as q name 0 s.columns ≡ []
 
--- a bound of a window, behind the columns
+-- a bound of a window, after the columns
 pub record IsBound (s : Scope) (q : Option (List ℕ)) (name : List ℕ) (form : TypedNode) (t : SqlType) : Type 0 where
   pub behind : ℕ
   pub two : behind < 2

@@ -16,7 +16,7 @@ use Rattle.ksql_scope.specs.Typing.{Has, Typing, one, perhaps, each, whens, HasT
 use Rattle.ksql_clauses.specs.Resolved.{resolved, resolved_when, full_name, written_for, is_row_time}
 use Rattle.ksql_clauses.proofs.Resolving as form
 use Rattle.ksql_scope.proofs.Sets.{both-true}
-use Rattle.ksql_analyse.proofs.LateTrees.{time_names, HasPlainColumns, never}
+use Rattle.ksql_analyse.proofs.PlainColumns.{time_names, HasPlainColumns, never}
 use Rattle.ksql_analyse.proofs.EqualLists.{heads, tails}
 
 -- ---- lists
@@ -51,7 +51,7 @@ none-narrow alias name i (c ∷ cs) k = at (bytes_eq c.column.name name) refl k 
         ap (λ b. with_first (is_qualified (Some alias) c.alias && b) (n.Column i, c.column.ty) (columns_known_as (Some alias) name (suc i) cs)) is
         ∙ ap (λ b. with_first b (n.Column i, c.column.ty) (columns_known_as (Some alias) name (suc i) cs)) (and-false (is_qualified (Some alias) c.alias)) ∙ rest k
 
--- one that stands alone stands alone behind its own alias
+-- one that stands alone stands alone after its own alias
 one-narrow : (alias name : List ℕ) (i : ℕ) (cs : List ScopeColumn) (m : Meaning) (c : ScopeColumn) (rest : List ScopeColumn) → columns_known_as None name i cs ≡ m ∷ []
     → filter (is_known_as None name) cs ≡ c ∷ rest → is_qualified (Some alias) c.alias ≡ true → columns_known_as (Some alias) name i cs ≡ m ∷ []
 one-narrow alias name i [] m c rest k l own = absurd (cc (k))
@@ -123,7 +123,7 @@ module _ (s : Scope) (plain : HasPlainColumns s) where
   abbrev Named : Meaning → Expr → Type 0
   Named m a = (q : Option (List ℕ)) × (name : List ℕ) × (a ≡ e.Name q name) × (meanings s q name ≡ m ∷ [])
 
-  -- a column behind its alias
+  -- a column after its alias
   behind : (q : Option (List ℕ)) (name : List ℕ) (m : Meaning) (c : ScopeColumn) (rest : List ScopeColumn) → meanings s q name ≡ m ∷ []
       → filter (is_known_as q name) s.columns ≡ c ∷ rest → meanings s c.alias name ≡ m ∷ []
   unfolding meanings
@@ -230,7 +230,7 @@ module _ (r : Scope) (plain : HasPlainColumns r) where
   turned {s} v (h.count_all {f = f} k) = back (form.resolved-Call r f true []) (h.count_all k)
   turned {s} v (h.aggregate {f = f} {a = a} k l j) =
       back (form.resolved-Call r f false (a ∷ [])) (h.aggregate k (turned (within s v) l) j)
-  turned {s} v (h.unknown {f = f} {args = args} k l) = back (form.resolved-Call r f false args) (h.unknown k (turned v l))
+  turned {s} v (h.unknown {f = f} {star = star} {args = args} k l) = back (form.resolved-Call r f star args) (h.unknown k (turned v l))
   turned v h.left_out = h.left_out
   turned v (h.there k) = h.there (turned v k)
   turned v h.none = h.none

@@ -1,9 +1,8 @@
--- A statement behind some relations is at most one item.
+-- A statement after some relations is at most one item.
 use Rattle.std.proofs.Common.{◌≡◌, ℕ, Bool, true, false, not, IsTrue, List, [], ◌∷◌, map, length, Option, Some, None, refl, ap, ap₂, sym, ◌∙◌, subst}
 use Rattle.std.specs.Prelude.{option_map}
 use Rattle.ksql_types.specs.declared.relation.Column.{Column}
 use Rattle.ksql_types.specs.declared.relation.Relation.{Relation}
-use Rattle.ksql_types.specs.declared.value.SqlType.{SqlType}
 use Rattle.ksql_grammar.specs.declared.tree.Expr.{Expr}
 use Rattle.ksql_grammar.specs.declared.tree.Property.{Property}
 use Rattle.ksql_grammar.specs.declared.tree.Select.{Select}
@@ -26,16 +25,14 @@ use Rattle.ksql_program.specs.declared.query.Shape.{Shape}
 use Rattle.ksql_program.specs.declared.query.Shape.TheVariants as shape
 use Rattle.ksql_clauses.specs.declared.items.Named.{Named}
 use Rattle.ksql_clauses.specs.declared.sources.Known.{Known}
-use Rattle.ksql_clauses.specs.Resolved.{resolved}
 use Rattle.ksql_clauses.specs.Sources.{all_known, from_scope, item_scope}
-use Rattle.ksql_rules.specs.Breaks.{is_grouped, value_columns}
+use Rattle.ksql_rules.specs.Breaks.{is_grouped}
+use Rattle.ksql_trees.specs.Grouped.{after}
 use Rattle.ksql_scope.specs.declared.scope.Scope.{Scope}
 use Rattle.ksql_typing.specs.Standing.{IsTypedTree}
 use Rattle.ksql_typing.proofs.OneTyping.{one-tree}
-use Rattle.ksql_analyse.specs.Judgement as aggs
-use Rattle.ksql_analyse.specs.Judgement.{exprs, late, IsFrom, IsTypedPart, AreTypedTrees, AreAggs, AreLateTypes, late_scope, IsShape, IsResult, AreColumnsOf, IsQuery, IsItemOf}
+use Rattle.ksql_analyse.specs.Judgement.{agg_form, aggregate_exprs, grouped_columns, IsFrom, IsTypedPart, AreTypedTrees, AreAggs, IsShape, IsResult, AreColumnsOf, IsQuery, IsItemOf}
 use Rattle.ksql_analyse.proofs.EqualLists.{heads, tails}
-use Rattle.ksql_analyse.proofs.BehindGroups.{moved-two}
 
 -- ---- lists and options
 
@@ -47,12 +44,6 @@ some-alike {A} {o} {a} {b} h k = one-of-some (sym h ∙ k)
 
 some-alike' : {A : Type 0} {o : Option A} {a b : A} → Some a ≡ o → Some b ≡ o → a ≡ b
 some-alike' {A} {o} {a} {b} h k = one-of-some (h ∙ sym k)
-
-all-some : {A : Type 0} (xs ys : List A) → map (λ x. Some x) xs ≡ map (λ x. Some x) ys → xs ≡ ys
-all-some [] [] h = refl
-all-some [] (y ∷ ys) h = absurd (cc (h))
-all-some (x ∷ xs) [] h = absurd (cc (h))
-all-some (x ∷ xs) (y ∷ ys) h = ap₂ (λ z zs. z ∷ zs) (one-of-some (heads h)) (all-some xs ys (tails h))
 
 -- ---- typed trees
 
@@ -82,31 +73,23 @@ arg-of : TypedNode-F TypedNode Typed TypedWhen → Option (Option Typed)
 arg-of (TypedNode-F.Aggregate f a) = Some a
 arg-of v = None
 
-one-agg : (s : Scope) (a : Expr) (g h : Agg) (x y : Typed) → IsTypedTree s a x → x.node ≡ n.Aggregate g.fun g.arg → IsTypedTree s a y
-    → y.node ≡ n.Aggregate h.fun h.arg → g ≡ h
+one-agg : (g h : Agg) → agg_form g ≡ agg_form h → g ≡ h
 unfolding fun-of arg-of
-one-agg s a g h x y k is l same =
-    let alike : n.Aggregate g.fun g.arg ≡ n.Aggregate h.fun h.arg = sym is ∙ ap (λ z. z.node) (one-tree s a x y k l) ∙ same in
+one-agg g h same =
     let out : TypedNode-F.Aggregate g.fun g.arg ≡ TypedNode-F.Aggregate h.fun h.arg =
-    sym (n.outs-Aggregate g.fun g.arg) ∙ ap out-TypedNode alike ∙ n.outs-Aggregate h.fun h.arg in
+    sym (n.outs-Aggregate g.fun g.arg) ∙ ap out-TypedNode same ∙ n.outs-Aggregate h.fun h.arg in
     let funs : g.fun ≡ h.fun = one-of-some (ap fun-of out) in
     let args : g.arg ≡ h.arg = one-of-some (ap arg-of out) in
     λ i. record { fun = funs i; arg = args i }
 
--- one tree has no two types
-no-types : {A : Type 0} (s : Scope) (a : Expr) (x y : Typed) (t : SqlType) → IsTypedTree s a x → x.ty ≡ Some t → IsTypedTree s a y → y.ty ≡ None → A
-no-types s a x y t k is l none = let e : Some t ≡ None = sym is ∙ ap (λ z. z.ty) (one-tree s a x y k l) ∙ none in absurd (cc (e))
+same-aggs : (gs hs : List Agg) → map agg_form gs ≡ map agg_form hs → gs ≡ hs
+same-aggs [] [] h = refl
+same-aggs [] (o ∷ hs) h = absurd (cc (h))
+same-aggs (g ∷ gs) [] h = absurd (cc (h))
+same-aggs (g ∷ gs) (o ∷ hs) h = ap₂ (λ z zs. z ∷ zs) (one-agg g o (heads h)) (same-aggs gs hs (tails h))
 
-one-aggs : (s : Scope) {es ks ls : List Expr} {xs ys : List Agg} → AreAggs s es ks xs → AreAggs s es ls ys → (ks ≡ ls) × (xs ≡ ys)
-one-aggs s aggs.none aggs.none = (refl, refl)
-one-aggs s (aggs.kept {a = a} {g = g} t ty is node typed h) (aggs.kept {g = o} u uy at form same k) =
-    let r = one-aggs s h k in
-    (ap (λ es. a ∷ es) r.0, ap₂ (λ z zs. z ∷ zs) (one-agg s a g o t u is node at form) r.1)
-one-aggs s (aggs.kept {a = a} t ty is node typed h) (aggs.null u at form same k) = no-types s a t u ty is typed at same
-one-aggs s (aggs.null {a = a} t is node typed h) (aggs.kept u uy at form same k) = no-types s a u t uy at same is typed
-one-aggs s (aggs.null {a = a} {g = g} t is node typed h) (aggs.null {g = o} u at form same k) =
-    let r = one-aggs s h k in
-    (r.0, ap₂ (λ z zs. z ∷ zs) (one-agg s a g o t u is node at form) r.1)
+one-aggs : (s : Scope) (es : List Expr) (gs hs : List Agg) → AreAggs s es gs → AreAggs s es hs → gs ≡ hs
+one-aggs s es gs hs h k = same-aggs gs hs (sym h.2 ∙ ap (map (λ (x : Typed). x.node)) (one-trees s es h.0 k.0 h.1 k.1) ∙ k.2)
 
 -- ---- what a query reads
 
@@ -136,17 +119,15 @@ one-shape q ks (shape.Plain keys values) (shape.Plain keys2 values2) h k =
 one-shape q ks (shape.Plain keys values) (shape.Group keys2 w2 aggs2 having2 values2) h k = not-both (is_grouped q) h.0 k.0
 one-shape q ks (shape.Group keys2 w2 aggs2 having2 values2) (shape.Plain keys values) h k = not-both (is_grouped q) k.0 h.0
 one-shape q ks (shape.Group keys window aggs having values) (shape.Group keys2 window2 aggs2 having2 values2) h k =
+    let items = item_scope q ks in
     let same-keys : keys ≡ keys2 = one-trees _ _ keys keys2 h.2 k.2 in
-    let found = one-aggs (item_scope q ks) h.3.1 k.3.1 in
-    let same-aggs : aggs ≡ aggs2 = found.1 in
-    let is-late = subst (λ gs. AreLateTypes keys2 gs h.3.2) same-aggs (subst (λ xs. AreLateTypes xs aggs h.3.2) same-keys h.3.3) in
-    let same-types : h.3.2 ≡ k.3.2 = all-some h.3.2 k.3.2 (sym is-late ∙ k.3.3) in
-    let here : List Expr → List SqlType → Type 0 =
-    λ es ts. IsTypedPart (late_scope q ts) (option_map (λ a. late q ks es (resolved (item_scope q ks) a)) q.having) having in
-    let there : List Expr → List SqlType → Type 0 = λ es ts. AreTypedTrees (late_scope q ts) (map (late q ks es) (exprs (value_columns q ks))) values in
-    let same-having : having ≡ having2 = one-part _ _ having having2 (moved-two here h.3.0 k.3.0 h.3.2 k.3.2 found.0 same-types h.3.4) k.3.4 in
-    let same-values : values ≡ values2 = one-trees _ _ values values2 (moved-two there h.3.0 k.3.0 h.3.2 k.3.2 found.0 same-types h.3.5) k.3.5 in
-    λ i. shape.Group (same-keys i) ((h.1 ∙ sym k.1) i) (same-aggs i) (same-having i) (same-values i)
+    let same-all : aggs ≡ aggs2 = one-aggs items (aggregate_exprs q ks) aggs aggs2 h.3 k.3 in
+    let columns : grouped_columns items keys aggs ≡ grouped_columns items keys2 aggs2 = ap₂ (grouped_columns items) same-keys same-all in
+    let part : h.4.0 ≡ k.4.0 = one-part items _ h.4.0 k.4.0 h.4.1 k.4.1 in
+    let trees : h.5.0 ≡ k.5.0 = one-trees items _ h.5.0 k.5.0 h.5.1 k.5.1 in
+    let same-having : having ≡ having2 = h.4.2 ∙ ap₂ (λ cs x. option_map (after cs) x) columns part ∙ sym k.4.2 in
+    let same-values : values ≡ values2 = h.5.2 ∙ ap₂ (λ cs xs. map (after cs) xs) columns trees ∙ sym k.5.2 in
+    λ i. shape.Group (same-keys i) ((h.1 ∙ sym k.1) i) (same-all i) (same-having i) (same-values i)
 
 -- ---- the relation of a query
 

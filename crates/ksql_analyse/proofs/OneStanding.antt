@@ -27,7 +27,7 @@ use Rattle.ksql_typing.proofs.Inversion.{Checks, checks, inner, one-type, same-s
 use Rattle.ksql_analyse.proofs.StoodBy.{Stood, stood, stood-parts}
 
 -- two trees of one form are one
-whole : (cs : List (Option SqlType)) (x y : Typed) → HasTypes cs (w.one x) → HasTypes cs (w.one y) → x.node ≡ y.node → x ≡ y
+pub whole : (cs : List (Option SqlType)) (x y : Typed) → HasTypes cs (w.one x) → HasTypes cs (w.one y) → x.node ≡ y.node → x ≡ y
 whole cs x y h k is =
     ap₂ of (one-type cs (out-TypedNode y.node) x.ty y.ty (subst (λ v. Checks cs x.ty (out-TypedNode v)) is (checks h)) (checks k)) is
 

@@ -12,11 +12,11 @@ use Rattle.ksql_types.specs.Names.{is_among, reserved_columns}
 use Rattle.ksql_types.specs.Columns.{columns}
 use Rattle.ksql_scope.specs.declared.scope.ScopeColumn.{ScopeColumn}
 use Rattle.ksql_clauses.specs.declared.sources.Known.{Known}
-use Rattle.ksql_clauses.specs.Sources.{known, all_known, sources, scope_column, scope_columns, rowkey, rowkey_of, from_columns, from_scope, item_scope, is_full, alias_of}
+use Rattle.ksql_clauses.specs.Sources.{known, all_known, sources, scope_column, scope_columns, rowkey, rowkey_of, from_columns, from_scope, item_scope, is_full, alias_of, key_columns_of}
 use Rattle.ksql_rules.proofs.Within.{All-find}
 use Rattle.ksql_analyse.specs.Plain.{HasPlainNames}
 use Rattle.ksql_analyse.proofs.Distinct.{or-false, false-or, true-not}
-use Rattle.ksql_analyse.proofs.LateTrees.{time_names, HasPlainColumns}
+use Rattle.ksql_analyse.proofs.PlainColumns.{time_names, HasPlainColumns}
 use Rattle.ksql_analyse.proofs.SoundTrees.{each-front, each-behind}
 use Rattle.ksql_analyse.proofs.SoundColumns.{each-append, each-at, each-map, each-weaker}
 
@@ -58,8 +58,7 @@ sources-plain catalog (s ∷ ss) h =
     flat-append scope_columns IsPlain (known catalog s) (flat_map (known catalog) ss) (known-plain catalog s h) (sources-plain catalog ss h)
 
 rowkey-plain : (q : Select) (ks : List Known) → Each IsPlain (rowkey q ks)
-rowkey-plain q [] = tt
-rowkey-plain q (k ∷ ks) = at (is_full q) (take 1 k.relation.schema.keys)
+rowkey-plain q ks = at (is_full q) (take 1 (key_columns_of ks))
   where
     all : (cs : List Column) → Each IsPlain (map rowkey_of cs)
     all [] = tt

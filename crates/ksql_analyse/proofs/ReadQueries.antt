@@ -25,7 +25,7 @@ use Rattle.ksql_rules.proofs.Smallness.{on-small}
 use Rattle.ksql_analyse.specs.Readable.{HasJoin, IsReadable}
 use Rattle.ksql_analyse.specs.Typable.{IsTypable}
 use Rattle.ksql_analyse.proofs.KeySides.{AreSides, left-key-sides, equation-is}
-use Rattle.ksql_analyse.proofs.LateTrees.{HasPlainColumns}
+use Rattle.ksql_analyse.proofs.PlainColumns.{HasPlainColumns}
 use Rattle.ksql_analyse.proofs.Refusals.{KeepsQuery}
 use Rattle.ksql_analyse.proofs.SoundQuery.{on-part}
 use Rattle.ksql_analyse.proofs.SoundSources.{ReadsOne, ReadsTwo, what-is-read}

@@ -1,6 +1,6 @@
 -- What an accepted statement keeps: each rule, by its code.
-use Rattle.std.proofs.Common.{◌≡◌, ℕ, ◌≤◌, ◌==◌, Bool, true, false, not, ◌&&◌, ◌||◌, nat_lt, List, length, map, refl, inl, inr}
-use Rattle.std.specs.Prelude.{unwrap_or, filter, is_some}
+use Rattle.std.proofs.Common.{◌≡◌, ℕ, ◌≤◌, ◌==◌, Bool, true, false, not, ◌&&◌, ◌||◌, if◌then◌else◌, nat_lt, List, [], ◌∷◌, length, map, Some, refl, ap, sym, ◌∙◌, inl, inr}
+use Rattle.std.specs.Prelude.{unwrap_or, filter, find, is_some, bytes_eq, codes, option_and_then}
 use Rattle.std.specs.List.{list_any}
 use Rattle.std.proofs.lemmas.Bool.{ltb-false}
 use Rattle.ksql_types.specs.declared.relation.Format.TheVariants.{Json}
@@ -14,12 +14,12 @@ use Rattle.ksql_grammar.specs.declared.tree.StatementBody.TheVariants.{Declared,
 use Rattle.ksql_types.specs.Names.{are_column_names}
 use Rattle.ksql_clauses.specs.declared.sources.Known.{Known}
 use Rattle.ksql_clauses.specs.Items.{result_columns}
-use Rattle.ksql_clauses.specs.Properties.{are_bad, topic_in, format_in}
+use Rattle.ksql_clauses.specs.Properties.{are_bad, digits_in, format_in, name_of, partitions_in, topic_in}
 use Rattle.ksql_clauses.specs.Sources.{all_known, has_unknown_source, have_one_alias, is_full, is_windowed, reads_stream, joined_streams, early_exprs, late_exprs, from_scope, item_scope}
 use Rattle.ksql_grouping.specs.Grouping.{has_aggregate, has_nested_aggregate, has_bare_column, ordered_aggregates}
 use Rattle.ksql_types.specs.Names.{is_among}
 use Rattle.ksql_scope.specs.Uses.{has_unknown_function, has_ambiguous_name, calls}
-use Rattle.ksql_rules.specs.Breaks.{has_many_partitions, has_long_name, has_large_window, is_taken, topic_of, has_bad_names, IsQueryTyped, is_primary, is_key, has_only_keys, has_bad_topic, is_delimited, result_format, is_wrong_join, lacks_key, is_not_on_key, have_other_partitions, is_bad_window, joins_itself, is_stream_join, is_grouped, group_exprs, shown_exprs, makes_table, same, value_columns}
+use Rattle.ksql_rules.specs.Breaks.{has_many_partitions, wants_many_partitions, has_long_name, has_large_window, is_taken, topic_of, has_bad_names, IsQueryTyped, is_primary, is_key, has_only_keys, has_bad_topic, is_delimited, result_format, is_wrong_join, lacks_key, is_not_on_key, have_other_partitions, is_bad_window, joins_itself, is_stream_join, is_grouped, group_exprs, shown_exprs, makes_table, same, value_columns}
 use Rattle.ksql_rules.specs.Lowest.{IsAccepted}
 use Rattle.ksql_analyse.proofs.Distinct.{or-false}
 
@@ -65,9 +65,23 @@ not-full catalog st h = ltb-false 199 (length catalog) (untrue (nat_lt 199 (leng
 
 -- ---- a declaration
 
+-- where no PARTITIONS is above 64, the first isn't
+many-first : (ps : List Property) → has_many_partitions ps ≡ false → nat_lt 64 (unwrap_or (partitions_in ps) 0) ≡ false
+many-first [] h = refl
+many-first (p ∷ ps) h = at (bytes_eq (name_of p) (codes "PARTITIONS")) (or-false (wants_many_partitions p) (has_many_partitions ps) h) refl (many-first ps)
+  where
+    at : (b : Bool) → (wants_many_partitions p ≡ false) × (has_many_partitions ps ≡ false) → bytes_eq (name_of p) (codes "PARTITIONS") ≡ b
+        → (has_many_partitions ps ≡ false → nat_lt 64 (unwrap_or (partitions_in ps) 0) ≡ false) → nat_lt 64 (unwrap_or (partitions_in (p ∷ ps)) 0) ≡ false
+    at true k is rest =
+        ap (λ b. nat_lt 64 (unwrap_or (option_and_then digits_in (option_and_then (λ o. Some o.value) (if b then Some p else find (λ o. bytes_eq (name_of o) (codes "PARTITIONS")) ps))) 0)) is
+        ∙ sym (ap (λ b. b && nat_lt 64 (unwrap_or (digits_in p.value) 0)) is) ∙ k.0
+    at false k is rest =
+        ap (λ b. nat_lt 64 (unwrap_or (option_and_then digits_in (option_and_then (λ o. Some o.value) (if b then Some p else find (λ o. bytes_eq (name_of o) (codes "PARTITIONS")) ps))) 0)) is
+        ∙ rest k.1
+
 pub record KeepsDeclaration (table : Bool) (cs : List ColumnText) (ps : List Property) : Type 0 where
   pub few : nat_lt 64 (length cs) ≡ false
-  pub few_partitions : has_many_partitions ps ≡ false
+  pub few_partitions : nat_lt 64 (unwrap_or (partitions_in ps) 0) ≡ false
   pub named : are_column_names (map (λ c. c.name) cs) ≡ true
   pub keyed : (table && not (list_any is_primary cs)) ≡ false
   pub one_key : nat_lt 1 (length (filter is_key cs)) ≡ false
@@ -84,7 +98,7 @@ declaration-kept catalog table name cs ps h =
     (untrue _ (λ k. h.1.1.1.1.1.1.1.1.1.1.1.1.1.1.0 (inr k))) in
     record {
       few = large.0;
-      few_partitions = large.1;
+      few_partitions = many-first ps large.1;
       named = not-not (are_column_names (map (λ c. c.name) cs)) names;
       keyed = untrue (table && not (list_any is_primary cs)) (λ k. h.1.1.1.1.1.1.1.1.0 (inr k));
       one_key = untrue (nat_lt 1 (length (filter is_key cs))) (λ k. h.1.1.1.1.1.1.1.1.1.1.1.1.1.0 (inr k));
@@ -100,7 +114,7 @@ pub record KeepsQuery (catalog : List Relation) (table : Bool) (name : List ℕ)
   pub few_groups : nat_lt 8 (length q.group) ≡ false
   pub window_small : has_large_window q.window ≡ false
   pub short : has_long_name ks (result_columns q ks) ≡ false
-  pub few_partitions : has_many_partitions ps ≡ false
+  pub few_partitions : nat_lt 64 (unwrap_or (partitions_in ps) 0) ≡ false
   pub all_known : has_unknown_source catalog q ≡ false
   pub aliases : have_one_alias q ≡ false
   pub named : has_bad_names q ks ≡ false
@@ -149,7 +163,7 @@ query-kept catalog table name ps q h =
       few_groups = larger.1;
       window_small = larger.2;
       short = larger.3;
-      few_partitions = large.1;
+      few_partitions = many-first ps large.1;
       all_known = untrue (has_unknown_source catalog q) (λ k. h.1.0 (inr k));
       aliases = ambiguous.2;
       named = untrue (has_bad_names q ks) (λ k. h.1.1.1.1.1.0 (inr k));

@@ -120,7 +120,7 @@ module _ (s : Scope) (b : Bool) (no_time : HasNo (codes "ROWTIME") s.columns) wh
   abbrev at_time : List ℕ → Bool
   at_time name = s.stream && bytes_eq name (codes "ROWTIME")
 
-  -- the time of a row behind a qualifier, where it isn't there without one
+  -- the time of a row after a qualifier, where it isn't there without one
   no-time : (y : List ℕ) (name : List ℕ) → row_time s None name ≡ [] → row_time s (Some y) name ≡ []
   no-time y name h = at (at_time name) (is_qualified (Some y) (first_alias s.columns)) h
     where
@@ -228,7 +228,7 @@ resolves s v w (h.case {operand = x} {otherwise = z} {ws = ws} k l j g) =
 resolves s v w (h.call {f = f} {args = es} f_is k g) = as-one (r.resolved-Call s f false es) (h.call f_is (resolves s v w k) g)
 resolves s v w (h.count_all {f = f} f_is) = as-one (r.resolved-Call s f true []) (h.count_all f_is)
 resolves s v w (h.aggregate {f = f} {a = a} f_is k g) = as-one (r.resolved-Call s f false (a ∷ [])) (h.aggregate f_is (resolves s w w k) g)
-resolves s v w (h.unknown {f = f} {args = es} f_is k) = as-one (r.resolved-Call s f false es) (h.unknown f_is (resolves s v w k))
+resolves s v w (h.unknown {f = f} {star = star} {args = es} f_is k) = as-one (r.resolved-Call s f star es) (h.unknown f_is (resolves s v w k))
 resolves s v w h.left_out = h.left_out
 resolves s v w (h.there k) = h.there (resolves s v w k)
 resolves s v w h.none = h.none

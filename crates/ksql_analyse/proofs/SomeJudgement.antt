@@ -48,7 +48,7 @@ with-one front items ts st i b tree accepted is =
       plain = subst (All HasPlainNames) (sym all) (All-push HasPlainNames (relations items) (relation_of i) b.plain kept.plain);
     }
 
--- the statements behind them have items, or one of them is refused
+-- the statements after them have items, or one of them is refused
 abbrev Outcome : List Item → List Statement → Type 0
 Outcome items sts = ((found : List Item) × Judged items sts found) ⊎ ((number : ℕ) × (code : Code) × FirstRefused items sts number code)
 

@@ -22,6 +22,7 @@ use Rattle.ksql_expr.specs.declared.typed.TypedNode.{out-TypedNode}
 use Rattle.ksql_expr.specs.declared.typed.TypedNode.TheVariants as n
 use Rattle.ksql_expr.specs.declared.typed.TypedNode.TheOpen.{TypedNode-F}
 use Rattle.ksql_expr.specs.Aggregates.{holds}
+use Rattle.ksql_expr.specs.Rules.{agg_type}
 use Rattle.ksql_expr.specs.Typing as w
 use Rattle.ksql_expr.specs.Typing.{HasTypes, of}
 use Rattle.ksql_program.specs.declared.query.Agg.{Agg}
@@ -49,6 +50,7 @@ use Rattle.ksql_analyse.proofs.SoundTrees.{IsPlain}
 use Rattle.ksql_analyse.proofs.Stood.{Stood, stood}
 use Rattle.ksql_analyse.proofs.SoundPlain.{typed_column}
 use Rattle.ksql_analyse.proofs.Distinct.{or-false}
+use Rattle.ksql_analyse.proofs.Timeless.{IsScopeOver, scope-over, time-over}
 
 -- ---- an aggregate
 
@@ -138,9 +140,9 @@ near-all s flat p name form t ok m i is = at (meant s p name form t m)
 pub part-typed : {cs : List (Option SqlType)} {x : Typed} → HasTypes cs (w.perhaps (Some x)) → HasTypes cs (w.one x)
 part-typed (w.there k) = k
 
-argument-sound : (s : Scope) (a : Expr) (x : Typed) → IsPlain a → Stands (inside s) (st.one a x) → HasTypes (column_types s) (w.one x)
-    → IsSoundOver (map typed_column s.columns) x
-argument-sound s a x p h k =
+argument-sound : (over : Kind) (s : Scope) → IsScopeOver over s → (a : Expr) (x : Typed) → IsPlain a → Stands (inside s) (st.one a x)
+    → HasTypes (column_types s) (w.one x) → IsSoundOver over (map typed_column s.columns) x
+argument-sound over s scope a x p h k =
     let held = bears (is_past (length s.columns)) (λ u. true) (near-all (inside s) refl) h in
     let count = length-map s.columns typed_column in
     record {
@@ -148,6 +150,7 @@ argument-sound s a x p h k =
           (ap (λ z. holds (reach (is_past z)) x) count ∙ held.near p.0 (all-ok (names a)));
       plain = no-aggregate-held (inside s) a x h p.0;
       short = short-texts-held (inside s) a x h p.1;
+      timeless = time-over over (inside s) a x scope h;
     }
   where
     all-ok : (us : List Use) → list_all (λ u. true) us ≡ true
@@ -163,20 +166,24 @@ same-aggregate f g x y h =
 
 pub record IsSoundAgg (over : Kind) (s : Scope) (g : Agg) : Type 0 where
   pub over_kind : IsAggOver over g.fun
-  pub argument : IsArgument (map typed_column s.columns) g.arg
+  pub argument : IsArgument over (map typed_column s.columns) g.arg
 
 pub of-argument : (x : Option Typed) → argument_type x ≡ option_map (λ e. e.ty) x
 of-argument None = refl
 of-argument (Some x) = refl
 
+-- an aggregate of a program has the type of its tree
+pub agg-typed : (s : Scope) (g : Agg) (x : Typed) → HasTypes (column_types s) (w.one x) → x.node ≡ n.Aggregate g.fun g.arg → agg_type g.fun (argument_type g.arg) ≡ Some x.ty
+agg-typed s g x k is = ap (agg_type g.fun) (of-argument g.arg) ∙ (subst (Checks (column_types s) x.ty) (ap out-TypedNode is ∙ n.outs-Aggregate g.fun g.arg) (checks k)).1
+
 arguments-plain : (args : List Expr) → list_any has_aggregate args ≡ false → (a : Expr) → args ≡ a ∷ [] → has_aggregate a ≡ false
 arguments-plain args h a is = (or-false (has_aggregate a) false (ap (list_any has_aggregate) (sym is) ∙ h)).0
 
-pub agg-sound : (over : Kind) (stream : Bool) (s : Scope) (a : Expr) (g : Agg) → (if stream then kind.Stream else kind.Table) ≡ over → IsAlone a → IsSmall a
-    → (stream ≡ false → CallsNone (is_among ordered_aggregates) a) → (x : Typed) → IsTypedTree s a x → x.node ≡ n.Aggregate g.fun g.arg → IsSoundAgg over s g
-agg-sound over stream s a g kinds alone short free x h node = at (stood s a x (Expr-F.Call alone.name alone.star alone.args) (ap out-Expr alone.is ∙ e.outs-Call alone.name alone.star alone.args) h.0)
+pub agg-sound : (over : Kind) (s : Scope) (a : Expr) (g : Agg) → (if s.stream then kind.Stream else kind.Table) ≡ over → IsAlone a → IsSmall a
+    → (s.stream ≡ false → CallsNone (is_among ordered_aggregates) a) → (x : Typed) → IsTypedTree s a x → x.node ≡ n.Aggregate g.fun g.arg → IsSoundAgg over s g
+agg-sound over s a g kinds alone short free x h node = at (stood s a x (Expr-F.Call alone.name alone.star alone.args) (ap out-Expr alone.is ∙ e.outs-Call alone.name alone.star alone.args) h.0)
   where
-    fit : (found : AggFun) → aggregate_of alone.name ≡ Some found → (stream ≡ false → IsOverTable found)
+    fit : (found : AggFun) → aggregate_of alone.name ≡ Some found → (s.stream ≡ false → IsOverTable found)
     fit found named m =
         let k = or-false (is_among ordered_aggregates alone.name) (any_of (map (calls_one (is_among ordered_aggregates)) alone.args))
         (sym (called.calls-Call (is_among ordered_aggregates) a alone.name alone.star alone.args alone.is) ∙ free m) in
@@ -192,14 +199,14 @@ agg-sound over stream s a g kinds alone short free x h node = at (stood s a x (E
     at (inr (inl c)) =
         let same = same-aggregate g.fun CountAll g.arg None (sym node ∙ ap (λ y. y.node) c.is.1) in
         record {
-          over_kind = over-kind g.fun stream over kinds (λ m. subst IsOverTable (sym same.0) tt);
-          argument = subst (IsArgument (map typed_column s.columns)) (sym same.1) tt;
+          over_kind = over-kind g.fun s.stream over kinds (λ m. subst IsOverTable (sym same.0) tt);
+          argument = subst (IsArgument over (map typed_column s.columns)) (sym same.1) tt;
         }
     at (inr (inr c)) =
         let same = same-aggregate g.fun c.found g.arg (Some c.tree) (sym node ∙ ap (λ y. y.node) c.is.1) in
         let checked = subst (Checks (column_types s) x.ty) (ap out-TypedNode (ap (λ y. y.node) c.is.1) ∙ n.outs-Aggregate c.found (Some c.tree)) (checks h.1) in
         record {
-          over_kind = over-kind g.fun stream over kinds (λ m. subst IsOverTable (sym same.0) (fit c.found c.named m));
-          argument = subst (IsArgument (map typed_column s.columns)) (sym same.1)
-              (argument-sound s c.arg c.tree (arguments-plain alone.args alone.flat c.arg c.alone, small-argument c.arg c.alone) c.stands (part-typed checked.0));
+          over_kind = over-kind g.fun s.stream over kinds (λ m. subst IsOverTable (sym same.0) (fit c.found c.named m));
+          argument = subst (IsArgument over (map typed_column s.columns)) (sym same.1)
+              (argument-sound over s (scope-over s over kinds) c.arg c.tree (arguments-plain alone.args alone.flat c.arg c.alone, small-argument c.arg c.alone) c.stands (part-typed checked.0));
         }

@@ -1,7 +1,7 @@
 -- What a grouped query makes is sound.
-use Rattle.std.proofs.Common.{◌≡◌, ℕ, suc, ◌*◌, ◌^◌, ◌≤◌, ◌<◌, ◌==◌, arith, Bool, true, false, ◌&&◌, ◌||◌, if◌then◌else◌, nat_lt, List, [], ◌∷◌, ◌++◌, length, map, Option, Some, None, refl, ap, ap₂, sym, ◌∙◌, subst}
+use Rattle.std.proofs.Common.{◌≡◌, ℕ, suc, ◌*◌, ◌^◌, ◌≤◌, ◌<◌, ◌==◌, arith, Bool, true, false, ◌&&◌, ◌||◌, if◌then◌else◌, nat_lt, List, [], ◌∷◌, ◌++◌, length, map, Option, Some, None, is_some, refl, ap, ap₂, sym, ◌∙◌, subst}
 use Rattle.std.specs.Prelude.{option_map}
-use Rattle.std.specs.List.{list_any, flat_map, AllByRecursion as Each}
+use Rattle.std.specs.List.{list_any, list_all, flat_map, AllByRecursion as Each}
 use Rattle.std.proofs.lemmas.Bool.{false≢true, ltb-false, lt-ltb}
 use Rattle.ksql_types.specs.declared.relation.Kind.{Kind}
 use Rattle.ksql_types.specs.declared.relation.Kind.TheVariants as kind
@@ -14,15 +14,24 @@ use Rattle.ksql_grammar.specs.declared.tree.SelectItem.TheVariants.{Star, StarOf
 use Rattle.ksql_grammar.specs.declared.tree.SpanText.{SpanText}
 use Rattle.ksql_grammar.specs.declared.tree.WindowText.{WindowText}
 use Rattle.ksql_grammar.specs.declared.tree.WindowText.TheVariants.{Tumbling, Hopping}
+use Rattle.ksql_expr.specs.declared.typed.Typed.{Typed}
+use Rattle.ksql_expr.specs.declared.typed.TypedNode.{TypedNode}
+use Rattle.ksql_expr.specs.declared.typed.TypedNode.TheOpen.{TypedNode-F}
+use Rattle.ksql_expr.specs.Aggregates.{holds, holds_aggregate, holds_long_text, holds_row_time, is_long_text, is_row_time}
+use Rattle.ksql_expr.specs.Aggregates.{is_aggregate as is_aggregate_node}
+use Rattle.ksql_expr.specs.Typing as w
+use Rattle.ksql_expr.specs.Typing.{HasTypes}
+use Rattle.ksql_types.specs.declared.relation.Column.{Column}
 use Rattle.ksql_program.specs.declared.query.Agg.{Agg}
 use Rattle.ksql_types.specs.declared.relation.Window.{Window}
 use Rattle.ksql_types.specs.Names.{is_among}
 use Rattle.ksql_program.specs.Sound as sound
-use Rattle.ksql_program.specs.Sound.{IsSoundWindow, Aggregates}
+use Rattle.ksql_program.specs.Sound.{IsSoundWindow, IsSoundOver, AreColumns, Aggregates}
 use Rattle.ksql_scope.specs.declared.scope.Scope.{Scope}
 use Rattle.ksql_scope.specs.Functions.{is_aggregate}
 use Rattle.ksql_scope.specs.Uses.{IsSmall}
-use Rattle.ksql_grouping.specs.Grouping.{has_aggregate, aggregates_of, ordered_aggregates, regrouped}
+use Rattle.ksql_typing.specs.Standing.{IsTypedTree}
+use Rattle.ksql_grouping.specs.Grouping.{has_aggregate, has_bare_column, aggregates_of, ordered_aggregates, place_among}
 use Rattle.ksql_grouping.proofs.Calls as called
 use Rattle.ksql_clauses.specs.declared.items.Named.{Named}
 use Rattle.ksql_clauses.specs.declared.sources.Known.{Known}
@@ -32,18 +41,19 @@ use Rattle.ksql_clauses.specs.Sources.{item_scope, late_exprs, item_exprs, there
 use Rattle.ksql_clauses.specs.Windows.{window_of, is_bad, is_too_large, millis, grace_millis, spans, perhaps, keeps_too_little}
 use Rattle.ksql_clauses.proofs.Naming as naming
 use Rattle.ksql_rules.specs.Breaks.{shown_exprs}
-use Rattle.ksql_analyse.specs.Judgement as aggs
-use Rattle.ksql_analyse.specs.Judgement.{AreAggs, agg_types, aggregate_exprs}
-use Rattle.ksql_analyse.proofs.AggregateTypes.{agg-typed, types-kept, types-null}
+use Rattle.ksql_trees.specs.Grouped.{after}
+use Rattle.ksql_analyse.specs.Judgement.{AreTypedTrees, agg_form, aggregate_exprs}
 use Rattle.ksql_analyse.proofs.AggregatesIn.{aggregates-inherit, aggregates-seen, Kept}
-use Rattle.ksql_analyse.proofs.Bearing.{some, some-append}
+use Rattle.ksql_analyse.proofs.Bearing.{some, some-append, short-digits, text-small, pattern-short}
+use Rattle.ksql_analyse.proofs.EqualLists.{heads, tails}
 use Rattle.ksql_analyse.proofs.Handing.{IsFlat, CallsNone, flat-inherits, small-inherits, calls-inherit, nested-Name, nested-resolved}
-use Rattle.ksql_analyse.proofs.Once.{IsAmong, once-has, once-each, once-some, each-flat-of}
-use Rattle.ksql_analyse.proofs.Regrouping.{late-none, late-small}
+use Rattle.ksql_analyse.proofs.Once.{IsAmong, once-has, once-each, once-some, each-flat-of, place-found}
+use Rattle.ksql_analyse.proofs.ReadyForms as forms
 use Rattle.ksql_analyse.proofs.Resolution.{calls-resolved, small-resolved}
-use Rattle.ksql_analyse.proofs.SoundAggregates.{IsAlone, aggregate-alone, agg-sound}
+use Rattle.ksql_analyse.proofs.SoundAggregates.{IsAlone, aggregate-alone, agg-sound, agg-typed}
 use Rattle.ksql_analyse.proofs.SoundPlain.{exprs-hold, plain-name}
-use Rattle.ksql_analyse.proofs.SoundTrees.{IsPlain, each-front, each-behind}
+use Rattle.ksql_analyse.proofs.SoundTrees.{each-front, each-behind}
+use Rattle.ksql_analyse.proofs.TreesAfter.{IsGrouping, IsClear, fit}
 use Rattle.ksql_analyse.proofs.SoundPlain.{typed_column}
 use Rattle.ksql_analyse.proofs.Distinct.{or-false, not-zero, and-false}
 use Rattle.ksql_analyse.proofs.Refusals.{or-four}
@@ -220,28 +230,66 @@ module _ (q : Select) (ks : List Known) (few : nat_lt 64 (length (result_columns
       flat [] k = tt
       flat (a ∷ es) k = each-append (IsFit stream) (aggregates_of a) (flat_map aggregates_of es) (fit-aggregates stream a k.0) (flat es k.1)
 
--- ---- behind a grouping
+-- ---- aggregates
 
 -- there are as many of a program as of its query
-pub aggs-length : {s : Scope} {es typed : List Expr} {gs : List Agg} → AreAggs s es typed gs → some es ≡ true → 1 ≤ length gs
-aggs-length aggs.none k = absurd (cc (k))
-aggs-length (aggs.kept t ty is node same rest) k = omega arith
-aggs-length (aggs.null t is node same rest) k = omega arith
+pub aggs-length : (xs : List Typed) (gs : List Agg) (s : Scope) (es : List Expr) → AreTypedTrees s es xs → map (λ x. x.node) xs ≡ map agg_form gs → some es ≡ true → 1 ≤ length gs
+aggs-length [] gs s [] t h k = absurd (cc (k))
+aggs-length (x ∷ xs) gs s [] t h k = absurd t
+aggs-length [] gs s (a ∷ es) t h k = absurd t
+aggs-length (x ∷ xs) [] s (a ∷ es) t h k = absurd (cc (h))
+aggs-length (x ∷ xs) (g ∷ gs) s (a ∷ es) t h k = omega arith
 
 -- aggregates with their types
-pub aggs-sound : (over : Kind) (stream : Bool) (s : Scope) (types : List (Option SqlType)) → map typed_column s.columns ≡ types → (if stream then kind.Stream else kind.Table) ≡ over
-    → {es typed : List Expr} {gs : List Agg} → AreAggs s es typed gs → Each (IsFit stream) es → Aggregates over types gs (map (λ t. Some t) (agg_types gs))
-aggs-sound over stream s types same kinds aggs.none f = sound.none
-aggs-sound over stream s types same kinds (aggs.kept {a = a} {g = g} {gs = gs} x ty is node typed h) f =
-    let k = agg-sound over stream s a g kinds f.0.0 f.0.1 f.0.2 x is node in
-    subst (λ ts. Aggregates over types (g ∷ gs) (map (λ t. Some t) ts)) (sym (types-kept g gs x ty is node typed))
-    (sound.more k.over_kind (subst (λ ts. sound.IsArgument ts g.arg) same k.argument) (agg-typed g x is node ∙ ap Some typed)
-    (aggs-sound over stream s types same kinds h f.1))
-aggs-sound over stream s types same kinds (aggs.null {a = a} {g = g} {gs = gs} x is node typed h) f =
-    let k = agg-sound over stream s a g kinds f.0.0 f.0.1 f.0.2 x is node in
-    subst (λ ts. Aggregates over types (g ∷ gs) (map (λ t. Some t) ts)) (sym (types-null g gs x is node typed))
-    (sound.untyped k.over_kind (subst (λ ts. sound.IsArgument ts g.arg) same k.argument) (agg-typed g x is node ∙ ap Some typed)
-    (aggs-sound over stream s types same kinds h f.1))
+pub aggs-sound : (over : Kind) (s : Scope) (types : List (Option SqlType)) → map typed_column s.columns ≡ types → (if s.stream then kind.Stream else kind.Table) ≡ over
+    → (es : List Expr) (xs : List Typed) (gs : List Agg) → AreTypedTrees s es xs → map (λ x. x.node) xs ≡ map agg_form gs → Each (IsFit s.stream) es
+    → Aggregates over types gs (map (λ x. x.ty) xs)
+aggs-sound over s types same kinds [] [] [] t h f = sound.none
+aggs-sound over s types same kinds [] [] (g ∷ gs) t h f = absurd (cc (h))
+aggs-sound over s types same kinds [] (x ∷ xs) gs t h f = absurd t
+aggs-sound over s types same kinds (a ∷ es) [] gs t h f = absurd t
+aggs-sound over s types same kinds (a ∷ es) (x ∷ xs) [] t h f = absurd (cc (h))
+aggs-sound over s types same kinds (a ∷ es) (x ∷ xs) (g ∷ gs) t h f =
+    let node = heads h in
+    let k = agg-sound over s a g kinds f.0.0 f.0.1 f.0.2 x t.0 node in
+    sound.more k.over_kind (subst (λ ts. sound.IsArgument over ts g.arg) same k.argument) (agg-typed s g x t.0.1 node)
+    (aggs-sound over s types same kinds es xs gs t.1 (tails h) f.1)
 
-pub late-plain : (groups aggs : List Expr) (a : Expr) → IsSmall a → IsPlain (regrouped groups aggs a)
-late-plain groups aggs a h = (late-none groups aggs a, late-small groups aggs a h)
+-- ---- expressions over the rows after a grouping
+
+found-all : (aggs bs : List Expr) → Each (IsAmong aggs) bs → list_all (λ b. is_some (place_among aggs b)) bs ≡ true
+found-all aggs [] h = refl
+found-all aggs (b ∷ bs) h = ap₂ (λ x y. x && y) (ap is_some (place-found aggs b 0 h.0).1) (found-all aggs bs h.1)
+
+-- without bare columns, and with aggregates that are all the query's
+pub all-ready : (groups aggs es : List Expr) → Each (λ a. has_bare_column groups a ≡ false) es → Each (λ a. Each (IsAmong aggs) (aggregates_of a)) es
+    → Each (forms.IsReady groups aggs) es
+all-ready groups aggs [] h k = tt
+all-ready groups aggs (a ∷ es) h k = ((h.0, found-all aggs (aggregates_of a) k.0), all-ready groups aggs es h.1 k.1)
+
+-- over the rows after a grouping a tree is sound whatever their kind
+pub after-sound : (over : Kind) (s : Scope) (groups aggs : List Expr) (columns : List TypedNode) (types : List (Option SqlType)) → IsGrouping s groups aggs columns types
+    → (a : Expr) (x : Typed) → forms.IsReady groups aggs a → IsSmall a → IsTypedTree s a x → IsSoundOver over types (after columns x)
+unfolding holds_aggregate holds_long_text holds_row_time
+after-sound over s groups aggs columns types g a x ready short h =
+    let fits : (leaf : TypedNode-F Bool Bool Bool → Bool) → IsClear leaf → HasTypes types (w.one (after columns x)) × (holds leaf (after columns x) ≡ false) =
+    λ leaf clear. fit s groups aggs columns types leaf g clear h.0 h.1 ready short in
+    let plain = fits is_aggregate_node (record { column = λ i. refl; digits = λ i. refl; text = λ t k. refl; truth = λ b. refl; null = refl; like = λ m b c t k. refl }) in
+    record {
+      typed = plain.0;
+      plain = plain.1;
+      short = (fits is_long_text (record { column = λ i. refl; digits = short-digits; text = text-small; truth = λ b. refl; null = refl; like = λ m b c t k. pattern-short m c t k })).1;
+      timeless = λ k. (fits is_row_time (record { column = λ i. refl; digits = λ i. refl; text = λ t k. refl; truth = λ b. refl; null = refl; like = λ m b c t k. refl })).1;
+    }
+
+-- and the trees of columns
+pub columns-after : (over : Kind) (s : Scope) (groups aggs : List Expr) (columns : List TypedNode) (types : List (Option SqlType)) → IsGrouping s groups aggs columns types
+    → (es : List Expr) (xs : List Typed) (cs : List Column) → Each (λ a. forms.IsReady groups aggs a × IsSmall a) es → AreTypedTrees s es xs
+    → map (λ c. Some c.ty) cs ≡ map (λ x. x.ty) (map (after columns) xs) → AreColumns over types (map (after columns) xs) cs
+columns-after over s groups aggs columns types g [] [] [] k h e = tt
+columns-after over s groups aggs columns types g [] [] (c ∷ cs) k h e = absurd (cc (e))
+columns-after over s groups aggs columns types g [] (x ∷ xs) cs k h e = absurd h
+columns-after over s groups aggs columns types g (a ∷ es) [] cs k h e = absurd h
+columns-after over s groups aggs columns types g (a ∷ es) (x ∷ xs) [] k h e = absurd (cc (e))
+columns-after over s groups aggs columns types g (a ∷ es) (x ∷ xs) (c ∷ cs) k h e =
+    (after-sound over s groups aggs columns types g a x k.0.0 k.0.1 h.0, sym (heads e), columns-after over s groups aggs columns types g es xs cs k.1 h.1 (tails e))

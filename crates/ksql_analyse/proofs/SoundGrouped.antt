@@ -16,6 +16,7 @@ use Rattle.ksql_grammar.specs.declared.tree.Select.{Select}
 use Rattle.ksql_grammar.specs.declared.tree.StatementBody.TheVariants.{Query}
 use Rattle.ksql_grammar.specs.declared.tree.WindowText.{WindowText}
 use Rattle.ksql_expr.specs.declared.typed.Typed.{Typed}
+use Rattle.ksql_expr.specs.declared.typed.TypedNode.{TypedNode}
 use Rattle.ksql_expr.specs.Rules.{fits}
 use Rattle.ksql_program.specs.declared.program.Item.{Item}
 use Rattle.ksql_program.specs.declared.query.Agg.{Agg}
@@ -24,11 +25,9 @@ use Rattle.ksql_program.specs.declared.query.Shape.TheVariants as shape
 use Rattle.ksql_types.specs.declared.relation.Window.{Window}
 use Rattle.ksql_types.specs.Names.{is_among}
 use Rattle.ksql_program.specs.Sound as sound
-use Rattle.ksql_program.specs.Sound.{IsWindowed, IsCondition, IsSoundOver, Makes, window_types, grouped_kind}
+use Rattle.ksql_program.specs.Sound.{AreColumns, IsWindowed, IsCondition, Makes, window_types, grouped_kind}
 use Rattle.ksql_scope.specs.declared.scope.Scope.{Scope}
-use Rattle.ksql_scope.specs.Scope.{column_types}
-use Rattle.ksql_scope.specs.Functions.{is_unknown}
-use Rattle.ksql_scope.specs.Uses.{IsSmall, calls, has_unknown_function}
+use Rattle.ksql_scope.specs.Uses.{IsSmall, calls}
 use Rattle.ksql_scope.specs.Typing.{CanBeTrue}
 use Rattle.ksql_grouping.specs.Grouping.{has_aggregate, has_nested_aggregate, has_bare_column, aggregates_of, ordered_aggregates}
 use Rattle.ksql_clauses.specs.declared.items.Named.{Named}
@@ -39,22 +38,24 @@ use Rattle.ksql_clauses.specs.Sources.{from_scope, item_scope, from_columns, rea
 use Rattle.ksql_clauses.specs.Windows.{window_of, is_bad}
 use Rattle.ksql_rules.specs.Breaks.{is_grouped, group_exprs, shown_exprs, is_bad_window, has_large_window, value_columns, IfThere}
 use Rattle.ksql_rules.specs.Limits.{IsQueryWithin}
-use Rattle.ksql_analyse.specs.Judgement.{IsShape, IsResult, IsTypedPart, AreAggs, AreLateTypes, agg_types, late_scope, aggregate_exprs, exprs, late}
-use Rattle.ksql_analyse.proofs.Cleanness.{IsClean}
+use Rattle.ksql_trees.specs.Grouped.{after}
+use Rattle.ksql_analyse.specs.Judgement.{IsShape, IsResult, IsTypedPart, aggregate_exprs, exprs, grouped_columns}
 use Rattle.ksql_analyse.proofs.Handing.{IsFlat, CallsNone}
-use Rattle.ksql_analyse.proofs.LateNames.{columns-typed}
 use Rattle.ksql_analyse.proofs.Once.{IsAmong}
 use Rattle.ksql_analyse.proofs.Refusals.{KeepsQuery, stated, not-not, or-three}
-use Rattle.ksql_analyse.proofs.Resolution.{calls-resolved}
 use Rattle.ksql_analyse.proofs.ResolvedTypes.{resolved-type}
-use Rattle.ksql_analyse.proofs.SoundGroup.{window-sound, shown-hold, shown-name, shown-resolved, some-aggregates, shown-among, aggregates-fit, aggs-length, aggs-sound, late-plain, IsShown}
-use Rattle.ksql_analyse.proofs.SoundHaving.{AreSound, late-type, reserved-nowhere}
+use Rattle.ksql_analyse.proofs.SoundGroup.{window-sound, shown-hold, shown-name, shown-resolved, some-aggregates, shown-among, aggregates-fit, aggs-length, aggs-sound, after-sound, all-ready, columns-after, IsShown}
+use Rattle.ksql_analyse.proofs.PlacedTrees.{grouping, trees, types-are}
+use Rattle.ksql_analyse.proofs.ReadyForms as forms
+use Rattle.ksql_analyse.proofs.Reserved.{AreSound, reserved-nowhere}
 use Rattle.ksql_analyse.proofs.SoundPlain.{plain-resolved}
-use Rattle.ksql_analyse.proofs.SoundQuery.{IsRead, early-plain, group-part, having-part, values-hold}
-use Rattle.ksql_analyse.proofs.SoundTrees.{IsPlain, stable, tree-sound, columns-sound, each-false, each-front, each-behind}
+use Rattle.ksql_analyse.proofs.SoundQuery.{IsRead, early-plain, group-part, values-hold}
+use Rattle.ksql_analyse.proofs.SoundTrees.{IsPlain, stable, type-is, columns-sound, each-both, each-false, each-front, each-behind}
+use Rattle.ksql_analyse.proofs.TreesAfter.{IsGrouping, kept-type}
 use Rattle.ksql_analyse.proofs.SoundPlain.{typed_column}
 use Rattle.ksql_analyse.proofs.Distinct.{and-false}
 use Rattle.ksql_analyse.proofs.SoundColumns.{each-map, each-of-map, each-weaker}
+use Rattle.ksql_analyse.proofs.Timeless.{scope-over}
 use Rattle.ksql_analyse.proofs.ValuedTrees.{trees-counted}
 
 each-zip : {A : Type 0} (C : Type 0) (P Q : A → Type 0) (R : C → A → Type 0) (xs : List A) → Each P xs → Each Q xs → ((c : C) → Each (R c) xs)
@@ -69,9 +70,6 @@ module _ (before : List Item) (catalog : List Relation) (table : Bool) (name : L
 
   abbrev aggs : List Expr
   aggs = aggregate_exprs q ks
-
-  abbrev behind : List Expr → Expr → Expr
-  behind typed a = late q ks typed a
 
   parts : (not (list_any has_aggregate (late_exprs q)) ≡ false) × (is_some q.partition ≡ false) × (list_any (has_bare_column (group_exprs q ks)) (shown_exprs q ks) ≡ false)
   parts = or-three (not (list_any has_aggregate (late_exprs q))) (is_some q.partition) (list_any (has_bare_column (group_exprs q ks)) (shown_exprs q ks))
@@ -95,12 +93,10 @@ module _ (before : List Item) (catalog : List Relation) (table : Bool) (name : L
   of-having : (P : Expr → Type 0) → Each P (shown_exprs q ks) → Each P (there (option_map (resolved s) q.having))
   of-having P h = each-behind P (map (λ (c : Named). c.expr) (result_columns q ks)) (there (option_map (resolved s) q.having)) h
 
-  values-plain : (typed : List Expr) → Each IsPlain (map (behind typed) (exprs (value_columns q ks)))
-  values-plain typed =
-      each-map IsPlain (behind typed) (exprs (value_columns q ks))
-      (each-weaker IsSmall (λ a. IsPlain (behind typed a)) (late-plain (group_exprs q ks) typed) (exprs (value_columns q ks))
-      (values-hold IsSmall q ks (each-of-map IsSmall (λ (c : Named). c.expr) (result_columns q ks)
-      (each-front IsSmall (map (λ (c : Named). c.expr) (result_columns q ks)) (there (option_map (resolved s) q.having)) small))))
+  ready : Each (λ a. forms.IsReady (group_exprs q ks) aggs a × IsSmall a) (shown_exprs q ks)
+  ready =
+      each-both (forms.IsReady (group_exprs q ks) aggs) IsSmall (shown_exprs q ks)
+      (all-ready (group_exprs q ks) aggs (shown_exprs q ks) (each-false (has_bare_column (group_exprs q ks)) (shown_exprs q ks) parts.2) among) small
 
   -- the window
   windowed : (o : Option WindowText) → q.window ≡ o → (over : Kind) → (if reads_stream ks then kind.Stream else kind.Table) ≡ over → IsWindowed over (option_map window_of o)
@@ -122,50 +118,49 @@ module _ (before : List Item) (catalog : List Relation) (table : Bool) (name : L
       → IsShape q ks (shape.Group keys window gs having values) → IsResult number (stated table name (Query ps q)) ps q ks (shape.Group keys window gs having values) out
       → Makes read.left read.types (shape.Group keys window gs having values) out
   makes-grouped f keys values window gs having number out read h r =
-      let typed = h.3.0 in
-      let types = h.3.2 in
-      let ats : List (Option SqlType) = map (λ t. Some t) (agg_types gs) in
+      let xs : List Typed = h.3.0 in
+      let ats : List (Option SqlType) = map (λ (x : Typed). x.ty) xs in
+      let all : List (Option SqlType) = map (λ (x : Typed). x.ty) keys ++ ats ++ window_types window in
       let row : map typed_column (from_columns q ks) ≡ read.types = sym (append-nil (map typed_column (from_columns q ks))) ∙ read.scoped in
-      let all : column_types (late_scope q types) ≡ map (λ (x : Typed). x.ty) keys ++ ats ++ window_types window =
-      ap₂ (λ x y. x ++ y) (columns-typed 0 types ∙ sym h.3.3) (window-added q.window ∙ ap window_types (sym h.1)) in
+      let columns : List TypedNode = grouped_columns s keys gs in
+      let rows : map (λ (x : Typed). x.ty) (trees q ks keys gs h.2 h.3 relations) ≡ all =
+      types-are s keys xs gs h.3.2 ∙ ap (λ ts. map (λ (x : Typed). x.ty) keys ++ ats ++ ts) (window-added q.window ∙ ap window_types (sym h.1)) in
+      let places : IsGrouping s (group_exprs q ks) aggs columns all = subst (IsGrouping s (group_exprs q ks) aggs columns) rows (grouping q ks keys gs h.2 h.3 relations) in
       let groups = trees-counted (from_scope q ks) (group_exprs q ks) keys h.2 in
       let some-groups : 0 < length q.group = ltb-true 0 (length q.group) g in
       let few-groups : length q.group ≤ 8 = ltb-false 8 (length q.group) keeps.few_groups in
       let same-length : length (group_exprs q ks) ≡ length q.group = length-map q.group (resolved (from_scope q ks)) in
       sound.grouped ats (omega arith) (omega arith)
-      (columns-sound (from_scope q ks) read.types read.scoped (group_exprs q ks) keys out.schema.keys
+      (columns-sound read.left.kind (from_scope q ks) (scope-over (from_scope q ks) read.left.kind read.kinded) read.types read.scoped (group_exprs q ks) keys out.schema.keys
       (each-map IsPlain (resolved (from_scope q ks)) q.group
       (each-weaker IsPlain (λ a. IsPlain (resolved (from_scope q ks) a)) (plain-resolved (from_scope q ks)) q.group
       (group-part IsPlain q (early-plain q keeps.early_plain within)))) h.2 r.keyed.1)
-      (aggs-length h.3.1 (some-aggregates q ks keeps.few (not-not (list_any has_aggregate (late_exprs q)) parts.0)))
-      (aggs-sound read.left.kind (reads_stream ks) s read.types row read.kinded h.3.1 (aggregates-fit q ks keeps.few (reads_stream ks) shown))
+      (aggs-length xs gs s aggs h.3.1 h.3.2 (some-aggregates q ks keeps.few (not-not (list_any has_aggregate (late_exprs q)) parts.0)))
+      (aggs-sound read.left.kind s read.types row read.kinded aggs xs gs h.3.1 h.3.2 (aggregates-fit q ks keeps.few (reads_stream ks) shown))
       (subst (IsWindowed read.left.kind) (sym h.1) (windowed q.window refl read.left.kind read.kinded))
-      (condition typed types h.3.1 h.3.3 (map (λ (x : Typed). x.ty) keys ++ ats ++ window_types window) all q.having refl having h.3.4)
-      (columns-sound (late_scope q types) (map (λ (x : Typed). x.ty) keys ++ ats ++ window_types window) all (map (behind typed) (exprs (value_columns q ks))) values out.schema.values
-      (values-plain typed) h.3.5 r.valued.1)
+      (subst (IsCondition (grouped_kind window) all) (sym h.4.2) (condition (grouped_kind window) columns all places q.having refl h.4.0 h.4.1))
+      (subst (λ vs. AreColumns (grouped_kind window) all vs out.schema.values) (sym h.5.2)
+      (columns-after (grouped_kind window) s (group_exprs q ks) aggs columns all places (exprs (value_columns q ks)) h.5.0 out.schema.values
+      (values-hold (λ a. forms.IsReady (group_exprs q ks) aggs a × IsSmall a) q ks
+      (each-of-map (λ a. forms.IsReady (group_exprs q ks) aggs a × IsSmall a) (λ (c : Named). c.expr) (result_columns q ks)
+      (each-front (λ a. forms.IsReady (group_exprs q ks) aggs a × IsSmall a) (map (λ (c : Named). c.expr) (result_columns q ks)) (there (option_map (resolved s) q.having)) ready)))
+      h.5.1 (r.valued.1 ∙ ap (map (λ (x : Typed). x.ty)) h.5.2)))
       (r.kinded ∙ ap (λ (b : Bool). if b then (if is_some q.window then kind.Windowed else kind.Table) else if reads_stream ks then kind.Stream else kind.Table) g
       ∙ kind-added q.window ∙ ap grouped_kind (sym h.1))
     where
-      condition : (typed : List Expr) (types : List SqlType) → AreAggs s aggs typed gs → AreLateTypes keys gs types
-          → (all : List (Option SqlType)) → column_types (late_scope q types) ≡ all → (o : Option Expr) → q.having ≡ o → (x : Option Typed)
-          → IsTypedPart (late_scope q types) (option_map (λ a. behind typed (resolved s a)) o) x → IsCondition all x
-      condition typed types are_aggs are_types all same None e None v = tt
-      condition typed types are_aggs are_types all same None e (Some x) v = absurd v
-      condition typed types are_aggs are_types all same (Some a) e None v = absurd v
-      condition typed types are_aggs are_types all same (Some a) e (Some x) v =
+      condition : (over : Kind) (columns : List TypedNode) (all : List (Option SqlType)) → IsGrouping s (group_exprs q ks) aggs columns all → (o : Option Expr) → q.having ≡ o
+          → (x : Option Typed) → IsTypedPart s (option_map (resolved s) o) x → IsCondition over all (option_map (after columns) x)
+      condition over columns all places None e None v = tt
+      condition over columns all places None e (Some x) v = absurd v
+      condition over columns all places (Some a) e None v = absurd v
+      condition over columns all places (Some a) e (Some x) v =
           let here : there (option_map (resolved s) q.having) ≡ resolved s a ∷ [] = ap (λ o. there (option_map (resolved s) o)) e in
-          let short = (subst (Each IsSmall) here (of-having IsSmall small)).0 in
-          let mine = (subst (Each (λ z. Each (IsAmong aggs) (aggregates_of z))) here (of-having (λ z. Each (IsAmong aggs) (aggregates_of z)) among)).0 in
-          let bare = (subst (Each (λ z. has_bare_column (group_exprs q ks) z ≡ false)) here
-          (of-having (λ z. has_bare_column (group_exprs q ks) z ≡ false) (each-false (has_bare_column (group_exprs q ks)) (shown_exprs q ks) parts.2))).0 in
-          let known = (subst (Each (λ z. has_unknown_function z ≡ false)) (ap there e)
-          (having-part (λ z. has_unknown_function z ≡ false) q (each-false has_unknown_function (late_exprs q) keeps.late_known))).0 in
-          let clean : IsClean (group_exprs q ks) aggs (resolved s a) =
-          record { known = ap (list_any is_unknown) (calls-resolved s a) ∙ known; bound = bare; among = mine } in
+          let fit = (subst (Each (λ b. forms.IsReady (group_exprs q ks) aggs b × IsSmall b)) here
+          (of-having (λ b. forms.IsReady (group_exprs q ks) aggs b × IsSmall b) ready)).0 in
           let no-time = reserved-nowhere q ks (codes "ROWTIME") refl refl relations in (
-            subst (λ t. IsSoundOver t x) same (tree-sound (late_scope q types) (behind typed (resolved s a)) x (late-plain (group_exprs q ks) typed (resolved s a) short) v),
-            stable (fits sql.Bool x.ty) (λ never. keeps.typed (λ t.
+            after-sound over s (group_exprs q ks) aggs columns all places (resolved s a) x fit.0 fit.1 v,
+            ap (fits sql.Bool) (kept-type columns x)
+                ∙ stable (fits sql.Bool x.ty) (λ never. keeps.typed (λ t.
                 let can : CanBeTrue s a = subst (IfThere (CanBeTrue s)) e t.having_true in
-                never (ap (fits sql.Bool) (late-type q ks keys gs typed types h.2 are_aggs are_types relations (resolved s a) can.0 (resolved-type s no-time a can.0 can.1) clean x v.0 v.1)
-                ∙ can.2))),
+                never (ap (fits sql.Bool) (type-is s (resolved s a) x can.0 v (resolved-type s no-time a can.0 can.1)) ∙ can.2))),
           )

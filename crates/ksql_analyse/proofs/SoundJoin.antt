@@ -1,5 +1,5 @@
 -- What a query over two relations reads is sound.
-use Rattle.std.proofs.Common.{◌≡◌, ℕ, zero, suc, ◌+◌, ◌<◌, arith, Bool, true, false, if◌then◌else◌, List, [], ◌∷◌, ◌++◌, length, map, Some, refl, ap, ap₂, sym, ◌∙◌, inl, inr}
+use Rattle.std.proofs.Common.{◌≡◌, ℕ, zero, suc, ◌+◌, ◌<◌, arith, Bool, true, false, if◌then◌else◌, List, [], ◌∷◌, ◌++◌, length, map, Option, Some, refl, ap, ap₂, sym, ◌∙◌, inl, inr}
 use Rattle.std.specs.Prelude.{◌⊎◌, slice_get, bytes_eq, take}
 use Rattle.std.specs.List.{AllByRecursion as Each}
 use Rattle.std.proofs.lemmas.Bool.{false≢true}
@@ -7,26 +7,25 @@ use Rattle.std.proofs.lemmas.List.{append-nil, append_assoc, length-map, map-app
 use Rattle.std.proofs.lemmas.Option.{same_Some}
 use Rattle.std.proofs.lemmas.Slice.Eq.{bytes_eq-Decides}
 use Rattle.ksql_types.specs.declared.relation.Column.{Column}
+use Rattle.ksql_types.specs.declared.value.SqlType.{SqlType}
 use Rattle.ksql_grammar.specs.declared.tree.JoinWord.{JoinWord}
 use Rattle.ksql_grammar.specs.declared.tree.JoinWord.TheVariants as word
 use Rattle.ksql_grammar.specs.declared.tree.Select.{Select}
 use Rattle.ksql_program.specs.declared.query.JoinKind.{JoinKind}
+use Rattle.ksql_program.specs.declared.query.JoinKind.TheVariants as join
 use Rattle.ksql_program.specs.Sound as sound
 use Rattle.ksql_types.specs.Columns.{columns}
 use Rattle.ksql_program.specs.Sound.{rowkey_types}
 use Rattle.ksql_scope.specs.declared.scope.ScopeColumn.{ScopeColumn}
 use Rattle.ksql_scope.specs.Scope.{column_types}
 use Rattle.ksql_clauses.specs.declared.sources.Known.{Known}
-use Rattle.ksql_clauses.specs.Sources.{is_full, is_full_word, scope_column, scope_columns, rowkey_of, rowkey, from_scope, from_columns}
+use Rattle.ksql_clauses.specs.Sources.{is_full, is_full_word, key_columns_of, scope_column, scope_columns, rowkey_of, rowkey, from_scope, from_columns}
 use Rattle.ksql_analyse.specs.Judgement.{join_kind}
+use Rattle.ksql_analyse.proofs.Appended.{front-at, behind-at}
 use Rattle.ksql_analyse.proofs.SoundColumns.{each-at, each-append}
-use Rattle.ksql_analyse.proofs.SoundPlain.{types-of, scoped-at, front-at, typed_column}
+use Rattle.ksql_analyse.proofs.SoundPlain.{types-of, scoped-at, typed_column}
 
 -- ---- the columns of two relations
-
-pub behind-at : {A : Type 0} (xs ys : List A) (j : ℕ) → slice_get (xs ++ ys) (length xs + j) ≡ slice_get ys j
-behind-at [] ys j = let z : 0 + j ≡ j = omega arith in ap (slice_get ys) z
-behind-at (x ∷ xs) ys j = let z : suc (length xs) + j ≡ suc (length xs + j) = omega arith in ap (slice_get (x ∷ (xs ++ ys))) z ∙ behind-at xs ys j
 
 in-front-or-behind : {A : Type 0} (xs ys : List A) (j : ℕ) (x : A) → slice_get (xs ++ ys) j ≡ Some x → (j < length xs) ⊎ ((i : ℕ) × (slice_get ys i ≡ Some x))
 in-front-or-behind [] ys j x h = inr (j, h)
@@ -57,7 +56,7 @@ module _ (q : Select) (l r : Known) where
       → slice_get (from_columns q (l ∷ r ∷ [])) (length (columns l.relation) + length (columns r.relation)) ≡ Some (rowkey_of c)
   rowkey-at c full keys =
       let rk : rowkey q (l ∷ r ∷ []) ≡ rowkey_of c ∷ [] =
-      ap₂ (λ (b : Bool) ks. if b then map rowkey_of (take 1 ks) else []) full keys in
+      ap₂ (λ (b : Bool) ks. if b then map rowkey_of (take 1 (ks ++ (r.relation.schema.keys ++ []))) else []) full keys in
       let z : length (columns r.relation) ≡ length (scope_columns r) + 0 = omega (arith, length-map (columns r.relation) (scope_column r.alias)) in
       ap (λ cs. slice_get cs (length (columns l.relation) + length (columns r.relation))) columns-two
       ∙ ap₂ (λ k i. slice_get (scope_columns l ++ (scope_columns r ++ rowkey q (l ∷ r ∷ []))) (k + i)) (sym (length-map (columns l.relation) (scope_column l.alias))) z
@@ -82,23 +81,28 @@ module _ (q : Select) (l r : Known) where
       of-keys [] = tt
       of-keys (d ∷ cs) = (λ same. cc (same), of-keys cs)
 
-      of-rowkey : (b : Bool) → Each (λ d. d.alias ≡ Some l.alias → ⊥) (if b then map rowkey_of (take 1 l.relation.schema.keys) else [])
-      of-rowkey true = of-keys (take 1 l.relation.schema.keys)
+      of-rowkey : (b : Bool) → Each (λ d. d.alias ≡ Some l.alias → ⊥) (if b then map rowkey_of (take 1 (key_columns_of (l ∷ r ∷ []))) else [])
+      of-rowkey true = of-keys (take 1 (key_columns_of (l ∷ r ∷ [])))
       of-rowkey false = tt
 
   -- the types of a row
-  map-take : (cs : List Column) → map typed_column (map rowkey_of (take 1 cs)) ≡ take 1 (sound.column_types cs)
-  map-take [] = refl
-  map-take (c ∷ cs) = refl
+  map-take : (cs ds : List Column) → length cs ≡ 1 → map typed_column (map rowkey_of (take 1 (cs ++ ds))) ≡ take 1 (sound.column_types cs)
+  map-take [] ds one = absurd (cc (one))
+  map-take (c ∷ cs) ds one = refl
 
-  rowkey-types : (k : JoinKind) (w : JoinWord) → is_full q ≡ is_full_word w → k ≡ join_kind w → map typed_column (rowkey q (l ∷ r ∷ [])) ≡ rowkey_types k l.relation
-  rowkey-types k word.Inner f g =
-      ap (λ (b : Bool). map typed_column (if b then map rowkey_of (take 1 l.relation.schema.keys) else [])) f ∙ ap (λ x. rowkey_types x l.relation) (sym g)
-  rowkey-types k word.Left f g =
-      ap (λ (b : Bool). map typed_column (if b then map rowkey_of (take 1 l.relation.schema.keys) else [])) f ∙ ap (λ x. rowkey_types x l.relation) (sym g)
-  rowkey-types k word.Full f g =
-      ap (λ (b : Bool). map typed_column (if b then map rowkey_of (take 1 l.relation.schema.keys) else [])) f ∙ map-take l.relation.schema.keys
-      ∙ ap (λ x. rowkey_types x l.relation) (sym g)
+  -- in a FULL join the left relation has one key column
+  abbrev pub HasLeftKey : JoinKind → Type 0
+  HasLeftKey k = k ≡ join.Full → length l.relation.schema.keys ≡ 1
+
+  rowkey-where : Bool → List (Option SqlType)
+  rowkey-where b = map typed_column (if b then map rowkey_of (take 1 (key_columns_of (l ∷ r ∷ []))) else [])
+
+  rowkey-types : (k : JoinKind) (w : JoinWord) → HasLeftKey k → is_full q ≡ is_full_word w → k ≡ join_kind w → map typed_column (rowkey q (l ∷ r ∷ [])) ≡ rowkey_types k l.relation
+  unfolding rowkey-where
+  rowkey-types k word.Inner one f g = ap rowkey-where f ∙ ap (λ x. rowkey_types x l.relation) (sym g)
+  rowkey-types k word.Left one f g = ap rowkey-where f ∙ ap (λ x. rowkey_types x l.relation) (sym g)
+  rowkey-types k word.Full one f g =
+      ap rowkey-where f ∙ map-take l.relation.schema.keys (r.relation.schema.keys ++ []) (one g) ∙ ap (λ x. rowkey_types x l.relation) (sym g)
 
   -- the left relation's and then the others
   pub types-apart : column_types (from_scope q (l ∷ r ∷ [])) ≡ sound.column_types (columns l.relation) ++ (sound.column_types (columns r.relation) ++ map typed_column (rowkey q (l ∷ r ∷ [])))
@@ -109,8 +113,8 @@ module _ (q : Select) (l r : Known) where
       (map-append typed_column (scope_columns r) (rowkey q (l ∷ r ∷ []))
       ∙ ap (λ x. x ++ map typed_column (rowkey q (l ∷ r ∷ []))) (types-of r.alias (columns r.relation)))
 
-  pub types-two : (k : JoinKind) (w : JoinWord) → is_full q ≡ is_full_word w → k ≡ join_kind w → column_types (from_scope q (l ∷ r ∷ []))
+  pub types-two : (k : JoinKind) (w : JoinWord) → HasLeftKey k → is_full q ≡ is_full_word w → k ≡ join_kind w → column_types (from_scope q (l ∷ r ∷ []))
       ≡ sound.column_types (columns l.relation) ++ sound.column_types (columns r.relation) ++ rowkey_types k l.relation
-  types-two k w f g =
+  types-two k w one f g =
       types-apart ∙ sym (append_assoc (sound.column_types (columns l.relation)) (sound.column_types (columns r.relation)) (map typed_column (rowkey q (l ∷ r ∷ []))))
-      ∙ ap (λ x. (sound.column_types (columns l.relation) ++ sound.column_types (columns r.relation)) ++ x) (rowkey-types k w f g)
+      ∙ ap (λ x. (sound.column_types (columns l.relation) ++ sound.column_types (columns r.relation)) ++ x) (rowkey-types k w one f g)

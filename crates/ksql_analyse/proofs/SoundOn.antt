@@ -108,7 +108,7 @@ module _ (q : Select) (l r : Known) where
   some-names (x ∷ xs) h = refl
 
   -- an expression of the left relation's columns
-  over-left : bytes_eq l.alias r.alias ≡ false → (a : Expr) (x : Typed) → IsPlain a → IsTypedTree s a x → is_of_left s l a ≡ true → IsSoundOver left_types x
+  over-left : bytes_eq l.alias r.alias ≡ false → (a : Expr) (x : Typed) → IsPlain a → IsTypedTree s a x → is_of_left s l a ≡ true → IsSoundOver kind.Stream left_types x
   over-left apart a x p h ok =
       let held = bears (is_past (length left_types)) (is_left_name s l) (left-near apart) h.0 in
       let all = (both-true (nat_lt 0 (length (names a))) (list_all (is_left_name s l) (names a)) ok).1 in
@@ -117,6 +117,7 @@ module _ (q : Select) (l r : Known) where
             (subst (λ ts. HasTypes ts (w.one x)) (types-apart q l r) h.1) (held.aggregates p.0) (held.near p.0 all);
         plain = no-aggregate-held s a x h.0 p.0;
         short = short-texts-held s a x h.0 p.1;
+        timeless = λ other. absurd (other refl);
       }
 
   -- ---- the type of the other side

@@ -38,11 +38,12 @@ use Rattle.ksql_clauses.specs.declared.items.Named.{Named}
 use Rattle.ksql_clauses.specs.declared.sources.Known.{Known}
 use Rattle.ksql_clauses.specs.Items.{result_columns, star_column, star_of, is_join}
 use Rattle.ksql_clauses.specs.Resolved.{resolved}
-use Rattle.ksql_clauses.specs.Sources.{is_stream, is_windowed, is_full, reads_stream, scope_column, scope_columns, rowkey_of, from_scope, item_scope, from_columns, item_exprs, there}
+use Rattle.ksql_clauses.specs.Sources.{is_stream, is_windowed, is_full, reads_stream, scope_column, scope_columns, rowkey_of, from_scope, item_scope, from_columns, item_exprs, key_columns_of, there}
 use Rattle.ksql_rules.specs.Breaks.{key_columns, is_grouped, is_bad_window, lacks_key}
 use Rattle.ksql_rules.specs.Keys.{key_exprs, key_places, needs, alone}
 use Rattle.ksql_grouping.proofs.Equality.{equal}
 use Rattle.ksql_analyse.specs.Judgement.{IsFrom, AreTypedTrees, exprs}
+use Rattle.ksql_analyse.proofs.Appended.{front-at}
 use Rattle.ksql_analyse.proofs.Distinct.{or-false}
 use Rattle.ksql_analyse.proofs.Meant.{meant-known}
 use Rattle.ksql_analyse.proofs.Parsed.{name_small}
@@ -146,7 +147,7 @@ not-full-join q h = ap (λ j. is_full (record q { join = j })) h
 
 from-columns-one : (q : Select) (k : Known) → q.join ≡ None → from_columns q (k ∷ []) ≡ scope_columns k
 from-columns-one q k h =
-    ap (λ (b : Bool). (scope_columns k ++ []) ++ (if b then map rowkey_of (take 1 k.relation.schema.keys) else [])) (not-full-join q h) ∙ append-nil (scope_columns k ++ []) ∙ append-nil (scope_columns k)
+    ap (λ (b : Bool). (scope_columns k ++ []) ++ (if b then map rowkey_of (take 1 (key_columns_of (k ∷ []))) else [])) (not-full-join q h) ∙ append-nil (scope_columns k ++ []) ∙ append-nil (scope_columns k)
 
 pub from-types-one : (q : Select) (k : Known) → q.join ≡ None → column_types (from_scope q (k ∷ [])) ≡ sound.column_types (columns k.relation)
 from-types-one q k h =
@@ -204,11 +205,6 @@ pub scoped-at : (alias : List ℕ) (cs : List Column) (j : ℕ) (c : Column) →
 scoped-at alias [] j c h = absurd (cc (h))
 scoped-at alias (d ∷ cs) zero c h = ap (λ o. option_map (scope_column alias) o) h
 scoped-at alias (d ∷ cs) (suc j) c h = scoped-at alias cs j c h
-
-pub front-at : {A : Type 0} (xs ys : List A) (j : ℕ) (x : A) → slice_get xs j ≡ Some x → slice_get (xs ++ ys) j ≡ Some x
-front-at [] ys j x h = absurd (cc (h))
-front-at (y ∷ xs) ys zero x h = h
-front-at (y ∷ xs) ys (suc j) x h = front-at xs ys j x h
 
 -- a query over one relation whose key is its own or that of PARTITION BY has its key
 pub keyed-one : (before : List Item) (q : Select) (k : Known) (f : From) (xs : List Typed) → IsFrom q (k ∷ []) f → q.join ≡ None → is_grouped q ≡ false

@@ -36,7 +36,7 @@ use Rattle.ksql_analyse.proofs.Parsed.{IsKept, IsPlainShort, parsed-kept}
 use Rattle.ksql_analyse.proofs.Refusals.{KeepsQuery, stated, not-taken, not-full, declaration-kept, query-kept}
 use Rattle.ksql_analyse.proofs.SoundDeclared.{declaration-sound, topic-there}
 use Rattle.ksql_analyse.proofs.SoundGrouped.{makes-grouped}
-use Rattle.ksql_analyse.proofs.SoundHaving.{AreSound}
+use Rattle.ksql_analyse.proofs.Reserved.{AreSound}
 use Rattle.ksql_analyse.proofs.SoundPlain.{keyed-one}
 use Rattle.ksql_analyse.proofs.SoundQuery.{IsRead, early-plain, makes-plain, query-sound}
 use Rattle.ksql_analyse.proofs.SoundReading.{read-one, read-two, keyed-two}
@@ -107,7 +107,7 @@ module _ (before : List Item) (sound : AreSoundItems [] before) (table : Bool) (
 
 -- ---- an item
 
--- an item that is sound behind others, with a name and a topic of its own
+-- an item that is sound after others, with a name and a topic of its own
 pub record IsNew (before : List Item) (i : Item) : Type 0 where
   pub sound : IsSoundItem before i
   pub name : list_any (has_name (relation_of i).name) (relations before) ≡ false

@@ -33,6 +33,7 @@ use Rattle.ksql_analyse.proofs.SoundPlain.{exprs-hold, plain-name, plain-resolve
 use Rattle.ksql_analyse.proofs.SoundResult.{HasShortName, result-sound}
 use Rattle.ksql_analyse.proofs.SoundTrees.{IsPlain, columns-sound, condition-sound, each-false, each-both, each-front, each-behind}
 use Rattle.ksql_analyse.proofs.Distinct.{or-false, true-not}
+use Rattle.ksql_analyse.proofs.Timeless.{IsScopeOver, scope-over}
 
 -- what a query reads, and what the rest of it needs to know of that
 pub record IsRead (before : List Item) (q : Select) (ks : List Known) (f : From) : Type 0 where
@@ -100,16 +101,18 @@ module _ (before : List Item) (catalog : List Relation) (table : Bool) (name : L
   makes-plain f keys values number out read h r =
       let g = true-not (is_grouped q) h.0 in
       let plain = columns-plain g in
-      let scope = item-types q ks (no-window q ks g keeps.window) ∙ read.scoped in
+      let over : IsScopeOver read.left.kind (item_scope q ks) = scope-over (item_scope q ks) read.left.kind read.kinded in
+      let same = item-types q ks (no-window q ks g keeps.window) ∙ read.scoped in
       sound.plain
-      (columns-sound (item_scope q ks) read.types scope (exprs (key_columns q ks)) keys out.schema.keys (keys-hold IsPlain q ks plain) h.1 r.keyed.1)
-      (columns-sound (item_scope q ks) read.types scope (exprs (value_columns q ks)) values out.schema.values (values-hold IsPlain q ks plain) h.2 r.valued.1)
+      (columns-sound read.left.kind (item_scope q ks) over read.types same (exprs (key_columns q ks)) keys out.schema.keys (keys-hold IsPlain q ks plain) h.1 r.keyed.1)
+      (columns-sound read.left.kind (item_scope q ks) over read.types same (exprs (value_columns q ks)) values out.schema.values (values-hold IsPlain q ks plain) h.2 r.valued.1)
       (r.kinded ∙ ap (λ (b : Bool). if b then (if is_some q.window then kind.Windowed else kind.Table) else if reads_stream ks then kind.Stream else kind.Table) g ∙ read.kinded)
 
   filter-sound : (number : ℕ) (made : OneQuery) (read : IsRead before q ks made.from) → IsQuery number (stated table name (Query ps q)) ps q ks made
-      → IsCondition read.types made.filter
+      → IsCondition read.left.kind read.types made.filter
   filter-sound number made read h =
-      condition-sound (from_scope q ks) read.types read.scoped q.filter made.filter h.filters (filter-part IsPlain q early) (λ no. keeps.typed (λ t. no t.where_true))
+      condition-sound read.left.kind (from_scope q ks) (scope-over (from_scope q ks) read.left.kind read.kinded) read.types read.scoped q.filter made.filter h.filters
+      (filter-part IsPlain q early) (λ no. keeps.typed (λ t. no t.where_true))
 
   -- the query and its relation
   pub query-sound : (number : ℕ) (made : OneQuery) (read : IsRead before q ks made.from) → IsQuery number (stated table name (Query ps q)) ps q ks made → length name ≤ 128

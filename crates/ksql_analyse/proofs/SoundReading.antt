@@ -88,6 +88,12 @@ plain-sides o x y p =
         let l = none-of cs ds r.1 in
         (ap₂ (λ a b. a || b) r.0 l.0, l.1)
 
+-- the left relation of a FULL join has one key column
+full-key : (k : JoinKind) (on : Typed) (l r : Relation) → sound.IsJoined k on l r → k ≡ join.Full → length l.schema.keys ≡ 1
+full-key join.Inner on l r h full = absurd (cc (full))
+full-key join.Left on l r h full = absurd (cc (full))
+full-key join.Full on l r h full = h.one_key_left
+
 same-left : (l r a b : Known) → l ∷ r ∷ [] ≡ a ∷ b ∷ [] → a ≡ l
 same-left l r a b h = cc (h)
 
@@ -156,14 +162,14 @@ module _ (before : List Item) (q : Select) (l r : Known) (j : JoinText) (joins :
         let kinds = kind-is k h.3 in
         let sides = sides-of h.6 h.7 in
         let p = side-plain h.6 sides (on-plain early) in
+        let joined = by-kind q l r (on_sides j.on) h.6 on sides apart p h.8 agrees k windows.0 (λ stream full. no-full-stream stream k kinds full) in
         let at-left : relation_at before left ≡ Some l.relation = ap (relation_at before) (h.4 ∙ ap (λ o. o.relation.number) mine) ∙ left-there.at in
         let at-right : relation_at before right ≡ Some r.relation = ap (relation_at before) (h.5 ∙ ap (λ o. o.relation.number) theirs) ∙ right-there.at in
         record {
           types = sound.column_types (columns l.relation) ++ sound.column_types (columns r.relation) ++ sound.rowkey_types k l.relation;
           left = l.relation;
-          reads = sound.joined at-left at-right (differ left right at-left at-right) (table-kind r.relation right-table windows.1) equal
-              (by-kind q l r (on_sides j.on) h.6 on sides apart p h.8 agrees k windows.0 (λ stream full. no-full-stream stream k kinds full));
-          scoped = types-two q l r k j.kind full-is kinds;
+          reads = sound.joined at-left at-right (differ left right at-left at-right) (table-kind r.relation right-table windows.1) equal joined;
+          scoped = types-two q l r k j.kind (full-key k on l.relation r.relation joined) full-is kinds;
           kinded = kind-kept l.relation windows.0;
           some_partition = left-there.sound.some_partition;
           few_partitions = left-there.sound.partitions_few;

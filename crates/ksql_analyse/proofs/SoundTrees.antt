@@ -3,6 +3,7 @@ use Rattle.std.proofs.Common.{◌≡◌, Bool, true, false, List, [], ◌∷◌,
 use Rattle.std.specs.List.{list_any, AllByRecursion as Each}
 use Rattle.std.proofs.lemmas.Option.{same_Some}
 use Rattle.ksql_types.specs.declared.relation.Column.{Column}
+use Rattle.ksql_types.specs.declared.relation.Kind.{Kind}
 use Rattle.ksql_types.specs.declared.value.SqlType.{SqlType}
 use Rattle.ksql_types.specs.declared.value.SqlType.TheVariants as sql
 use Rattle.ksql_grammar.specs.declared.tree.Expr.{Expr}
@@ -22,26 +23,33 @@ use Rattle.ksql_rules.specs.Breaks.{IfThere}
 use Rattle.ksql_analyse.specs.Judgement.{IsTypedPart, AreTypedTrees}
 use Rattle.ksql_analyse.proofs.Bearing.{no-aggregate-held, short-texts-held}
 use Rattle.ksql_analyse.proofs.Distinct.{or-false}
+use Rattle.ksql_analyse.proofs.Timeless.{IsScopeOver, time-over}
 
 -- an expression without an aggregate whose literals keep their limits
 abbrev pub IsPlain : Expr → Type 0
 IsPlain a = (has_aggregate a ≡ false) × IsSmall a
 
-pub tree-sound : (s : Scope) (a : Expr) (x : Typed) → IsPlain a → IsTypedTree s a x → IsSoundOver (column_types s) x
-tree-sound s a x p h = record { typed = h.1; plain = no-aggregate-held s a x h.0 p.0; short = short-texts-held s a x h.0 p.1 }
+pub tree-sound : (over : Kind) (s : Scope) → IsScopeOver over s → (a : Expr) (x : Typed) → IsPlain a → IsTypedTree s a x → IsSoundOver over (column_types s) x
+tree-sound over s scope a x p h = record {
+  typed = h.1;
+  plain = no-aggregate-held s a x h.0 p.0;
+  short = short-texts-held s a x h.0 p.1;
+  timeless = time-over over s a x scope h.0;
+}
 
 -- the columns of some expressions
-pub columns-sound : (s : Scope) (types : List (Option SqlType)) → column_types s ≡ types → (es : List Expr) (xs : List Typed) (cs : List Column) → Each IsPlain es
-    → AreTypedTrees s es xs → map (λ c. Some c.ty) cs ≡ map (λ x. x.ty) xs → AreColumns types xs cs
-columns-sound s types same [] [] [] k h e = tt
-columns-sound s types same [] [] (c ∷ cs) k h e = absurd (cc (e))
-columns-sound s types same [] (x ∷ xs) cs k h e = absurd h
-columns-sound s types same (a ∷ es) [] cs k h e = absurd h
-columns-sound s types same (a ∷ es) (x ∷ xs) [] k h e = absurd (cc (e))
-columns-sound s types same (a ∷ es) (x ∷ xs) (c ∷ cs) k h e =
+pub columns-sound : (over : Kind) (s : Scope) → IsScopeOver over s → (types : List (Option SqlType)) → column_types s ≡ types
+    → (es : List Expr) (xs : List Typed) (cs : List Column) → Each IsPlain es → AreTypedTrees s es xs → map (λ c. Some c.ty) cs ≡ map (λ x. x.ty) xs
+    → AreColumns over types xs cs
+columns-sound over s scope types same [] [] [] k h e = tt
+columns-sound over s scope types same [] [] (c ∷ cs) k h e = absurd (cc (e))
+columns-sound over s scope types same [] (x ∷ xs) cs k h e = absurd h
+columns-sound over s scope types same (a ∷ es) [] cs k h e = absurd h
+columns-sound over s scope types same (a ∷ es) (x ∷ xs) [] k h e = absurd (cc (e))
+columns-sound over s scope types same (a ∷ es) (x ∷ xs) (c ∷ cs) k h e =
     let first : Some c.ty ≡ x.ty = cc (e) in
     let rest : map (λ d. Some d.ty) cs ≡ map (λ y. y.ty) xs = cc (e) in
-    (subst (λ t. IsSoundOver t x) same (tree-sound s a x k.0 h.0), sym first, columns-sound s types same es xs cs k.1 h.1 rest)
+    (subst (λ t. IsSoundOver over t x) same (tree-sound over s scope a x k.0 h.0), sym first, columns-sound over s scope types same es xs cs k.1 h.1 rest)
 
 -- ---- conditions
 
@@ -56,13 +64,13 @@ type-is s a x t h k =
     let o = makes k m.1 in
     ap (λ y. y.ty) (same_Some x o.0 (sym m.0 ∙ o.1)) ∙ o.2
 
-pub condition-sound : (s : Scope) (types : List (Option SqlType)) → column_types s ≡ types → (a : Option Expr) (x : Option Typed) → IsTypedPart s a x
-    → Each IsPlain (there a) → ¬ ¬ IfThere (CanBeTrue s) a → IsCondition types x
-condition-sound s types same None None h k l = tt
-condition-sound s types same None (Some x) h k l = absurd h
-condition-sound s types same (Some a) None h k l = absurd h
-condition-sound s types same (Some a) (Some x) h k l = (
-  subst (λ t. IsSoundOver t x) same (tree-sound s a x k.0 h),
+pub condition-sound : (over : Kind) (s : Scope) → IsScopeOver over s → (types : List (Option SqlType)) → column_types s ≡ types
+    → (a : Option Expr) (x : Option Typed) → IsTypedPart s a x → Each IsPlain (there a) → ¬ ¬ IfThere (CanBeTrue s) a → IsCondition over types x
+condition-sound over s scope types same None None h k l = tt
+condition-sound over s scope types same None (Some x) h k l = absurd h
+condition-sound over s scope types same (Some a) None h k l = absurd h
+condition-sound over s scope types same (Some a) (Some x) h k l = (
+  subst (λ t. IsSoundOver over t x) same (tree-sound over s scope a x k.0 h),
   stable (fits sql.Bool x.ty) (λ no. l (λ can. no (ap (fits sql.Bool) (type-is s a x can.0 h can.1) ∙ can.2))),
 )
 

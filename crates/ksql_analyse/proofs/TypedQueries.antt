@@ -31,7 +31,7 @@ use Rattle.ksql_rules.proofs.Smallness.{small-Name}
 use Rattle.ksql_analyse.specs.Judgement.{aggregate_exprs, exprs}
 use Rattle.ksql_analyse.specs.Typable.{IsTypable, IsValued, IsAggregable}
 use Rattle.ksql_analyse.proofs.AggregateTrees.{aggregates-fine, IsFine}
-use Rattle.ksql_analyse.proofs.LateTrees.{HasPlainColumns}
+use Rattle.ksql_analyse.proofs.PlainColumns.{HasPlainColumns}
 use Rattle.ksql_analyse.proofs.Once.{once-each}
 use Rattle.ksql_analyse.proofs.Refusals.{KeepsQuery}
 use Rattle.ksql_analyse.proofs.Resolution.{calls-resolved, small-resolved}

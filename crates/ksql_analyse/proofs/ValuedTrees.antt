@@ -1,12 +1,12 @@
 -- The trees of expressions that have a type have one, and there is one for each expression.
 use Rattle.std.proofs.Common.{◌≡◌, ◌∙◌, suc, List, [], ◌∷◌, All, map, length, is_some, refl, ap, sym, subst}
 use Rattle.std.proofs.lemmas.List.{length-map}
-use Rattle.std.proofs.lemmas.List.Elements.{All-nil, All-cons, All-head, All-tail, All-map, All-from_recursion, recursion_from_All}
-use Rattle.std.proofs.lemmas.Simd.{map-map}
+use Rattle.std.proofs.lemmas.List.Elements.{All-nil, All-cons, All-head, All-tail, All-map, All-weaker, All-from_recursion, recursion_from_All}
 use denote.Bor.{Bor}
 use Rattle.ksql_grammar.specs.declared.tree.Expr.{Expr}
 use Rattle.ksql_grammar.specs.declared.tree.Select.{Select}
 use Rattle.ksql_expr.specs.declared.typed.Typed.{Typed}
+use Rattle.ksql_expr.specs.declared.typed.TypedNode.{TypedNode}
 use Rattle.ksql_scope.specs.declared.scope.Scope.{Scope}
 use Rattle.ksql_typing.specs.Standing.{IsTypedTree}
 use Rattle.ksql_typing.proofs.OneTyping.{one-tree}
@@ -16,9 +16,11 @@ use Rattle.ksql_clauses.specs.Items.{result_columns}
 use Rattle.ksql_rules.specs.Breaks.{key_columns, value_columns}
 use Rattle.ksql_rules.specs.Keys.{key_places}
 use Rattle.ksql_rules.proofs.Within.{All-unmap}
+use Rattle.ksql_trees.specs.Grouped.{after}
 use Rattle.ksql_analyse.specs.Judgement.{AreTypedTrees, exprs}
 use Rattle.ksql_analyse.specs.Typable.{AreColumnTrees, IsValue, IsValued}
 use Rattle.ksql_analyse.proofs.SoundColumns.{besides-each, places-each}
+use Rattle.ksql_analyse.proofs.TreesAfter.{kept-type}
 
 -- ---- trees
 
@@ -38,24 +40,19 @@ trees-counted s [] (x ∷ xs) h = absurd h
 trees-counted s (a ∷ es) [] h = absurd h
 trees-counted s (a ∷ es) (x ∷ xs) h = ap suc (trees-counted s es xs h.1)
 
--- what is made of the expressions of columns, and their trees
-pub column-trees : (s : Scope) (f : Expr → Expr) (cs : List Named) (xs : List Typed) → All (λ c. IsValued s (f c.expr)) cs → AreTypedTrees s (map f (exprs cs)) xs
-    → AreColumnTrees cs xs
-column-trees s f cs xs h k =
-    let same : map f (exprs cs) ≡ map (λ c. f c.expr) cs = map-map f (λ (c : Named). c.expr) cs in
-    let trees = subst (λ es. AreTypedTrees s es xs) same k in
-    record {
-      counted = sym (length-map cs (λ (c : Named). f c.expr)) ∙ trees-counted s (map (λ c. f c.expr) cs) xs trees;
-      values = trees-valued s (map (λ c. f c.expr) cs) xs (All-map (IsValued s) (λ (c : Named). f c.expr) cs h) trees;
-    }
-
--- the columns' own expressions
+-- the trees of columns' expressions
 pub own-trees : (s : Scope) (cs : List Named) (xs : List Typed) → All (λ c. IsValued s c.expr) cs → AreTypedTrees s (exprs cs) xs → AreColumnTrees cs xs
-own-trees s cs xs h k = column-trees s (λ a. a) cs xs h (subst (λ es. AreTypedTrees s es xs) (sym (kept (exprs cs))) k)
-  where
-    kept : (es : List Expr) → map (λ a. a) es ≡ es
-    kept [] = refl
-    kept (a ∷ es) = ap (λ os. a ∷ os) (kept es)
+own-trees s cs xs h k = record {
+  counted = sym (length-map cs (λ (c : Named). c.expr)) ∙ trees-counted s (exprs cs) xs k;
+  values = trees-valued s (exprs cs) xs (All-map (IsValued s) (λ (c : Named). c.expr) cs h) k;
+}
+
+-- and what these become after a grouping
+pub trees-after : (columns : List TypedNode) (cs : List Named) (xs : List Typed) → AreColumnTrees cs xs → AreColumnTrees cs (map (after columns) xs)
+trees-after columns cs xs h = record {
+  counted = h.counted ∙ sym (length-map xs (after columns));
+  values = All-map IsValue (after columns) xs (All-weaker IsValue (λ x. IsValue (after columns x)) (λ x k. ap is_some (kept-type columns x) ∙ k) xs h.values);
+}
 
 -- ---- columns of a result, as lent ones
 

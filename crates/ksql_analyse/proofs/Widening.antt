@@ -1,7 +1,6 @@
--- A typed tree has its types where there are more columns behind, and a tree that can name the bounds of windows is that
+-- A typed tree has its types where there are more columns after, and a tree that can name the bounds of windows is that
 -- of the expression without them.
-use Rattle.std.proofs.Common.{◌≡◌, ℕ, suc, zero, Bool, false, if◌then◌else◌, List, [], ◌∷◌, ◌++◌, map, Option, Some, None, ap, sym, ◌∙◌, subst}
-use Rattle.std.specs.Prelude.{slice_get}
+use Rattle.std.proofs.Common.{◌≡◌, ℕ, Bool, false, if◌then◌else◌, List, [], ◌∷◌, ◌++◌, map, Option, Some, None, ap, sym, ◌∙◌, subst}
 use Rattle.std.proofs.lemmas.List.{append-nil}
 use Rattle.ksql_types.specs.declared.value.SqlType.{SqlType}
 use Rattle.ksql_types.specs.declared.value.SqlType.TheVariants as sql
@@ -12,13 +11,9 @@ use Rattle.ksql_expr.specs.Typing.{HasTypes, Part}
 use Rattle.ksql_scope.specs.declared.scope.Scope.{Scope}
 use Rattle.ksql_scope.specs.Scope.{Meaning, meanings, columns_known_as, row_time, window_bounds, seen, inside}
 use Rattle.ksql_typing.specs.Standing.{IsTypedTree}
+use Rattle.ksql_analyse.proofs.Appended.{front-at}
 use Rattle.ksql_analyse.proofs.OneStanding.{Agree, agree-itself, alike}
 use Rattle.ksql_analyse.proofs.EqualLists.{heads}
-
-front-at : (ts us : List (Option SqlType)) (i : ℕ) (t : Option SqlType) → slice_get ts i ≡ Some t → slice_get (ts ++ us) i ≡ Some t
-front-at [] us i t h = absurd (cc (h))
-front-at (x ∷ ts) us zero t h = h
-front-at (x ∷ ts) us (suc i) t h = front-at ts us i t h
 
 pub widened : (ds : List (Option SqlType)) {cs : List (Option SqlType)} {p : Part} → HasTypes cs p → HasTypes (cs ++ ds) p
 widened ds (w.literal {x = x}) = w.literal {x = x}

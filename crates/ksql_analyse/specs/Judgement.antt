@@ -1,15 +1,13 @@
 -- The judgement of statements: the program that they are, or their first refusal.
-use Rattle.std.specs.Prelude.{Result, Ok, Err, ◌≡◌, ℕ, suc, Bool, true, false, if◌then◌else◌, List, [], ◌∷◌, ◌++◌, length, map, filter, filter_map, not, Option, Some, None, is_some, unwrap_or, option_map, IsTrue}
+use Rattle.std.specs.Prelude.{Result, Ok, Err, ◌≡◌, ℕ, ◌+◌, suc, Bool, true, false, if◌then◌else◌, List, [], ◌∷◌, ◌++◌, length, map, filter, not, Option, Some, None, is_some, unwrap_or, option_map, IsTrue}
 use Rattle.std.specs.List.{flat_map}
 use Rattle.ksql_types.specs.declared.relation.Column.{Column}
 use Rattle.ksql_types.specs.declared.relation.Format.TheVariants.{Json}
 use Rattle.ksql_types.specs.declared.relation.Kind.{Kind}
 use Rattle.ksql_types.specs.declared.relation.Kind.TheVariants as kind
 use Rattle.ksql_types.specs.declared.relation.Relation.{Relation}
-use Rattle.ksql_types.specs.declared.value.SqlType.{SqlType}
 use Rattle.ksql_grammar.specs.declared.tree.ColumnText.{ColumnText}
-use Rattle.ksql_grammar.specs.declared.tree.Expr.{Expr, out-Expr}
-use Rattle.ksql_grammar.specs.declared.tree.Expr.TheOpen.{Expr-F}
+use Rattle.ksql_grammar.specs.declared.tree.Expr.{Expr}
 use Rattle.ksql_grammar.specs.declared.tree.JoinWord.{JoinWord}
 use Rattle.ksql_grammar.specs.declared.tree.JoinWord.TheVariants as word
 use Rattle.ksql_grammar.specs.declared.tree.Property.{Property}
@@ -21,6 +19,7 @@ use Rattle.ksql_types.specs.declared.code.Code.{Code}
 use Rattle.ksql_lexer.specs.declared.token.TokenKind.{TokenKind}
 use Rattle.ksql_parser.specs.Script.{AreTrees}
 use Rattle.ksql_expr.specs.declared.typed.Typed.{Typed}
+use Rattle.ksql_expr.specs.declared.typed.TypedNode.{TypedNode}
 use Rattle.ksql_expr.specs.declared.typed.TypedNode.TheVariants as n
 use Rattle.ksql_program.specs.declared.program.Item.{Item}
 use Rattle.ksql_program.specs.declared.program.Program.{Program}
@@ -33,13 +32,11 @@ use Rattle.ksql_program.specs.declared.query.JoinKind.TheVariants as join
 use Rattle.ksql_program.specs.declared.query.Query.{Query}
 use Rattle.ksql_program.specs.declared.query.Shape.{Shape}
 use Rattle.ksql_program.specs.declared.query.Shape.TheVariants as shape
-use Rattle.ksql_expr.specs.Rules.{agg_type}
 use Rattle.ksql_program.specs.Program.{relations}
-use Rattle.ksql_program.specs.Sound.{argument_type}
 use Rattle.ksql_scope.specs.declared.scope.Scope.{Scope}
-use Rattle.ksql_scope.specs.declared.scope.ScopeColumn.{ScopeColumn}
 use Rattle.ksql_rules.specs.Breaks.{topic_of, key_columns, value_columns, result_format, is_grouped, group_exprs, shown_exprs, is_key}
-use Rattle.ksql_grouping.specs.Grouping.{aggregates_of, once_from, regrouped, late_column}
+use Rattle.ksql_grouping.specs.Grouping.{aggregates_of, once_from}
+use Rattle.ksql_trees.specs.Grouped.{after}
 use Rattle.ksql_clauses.specs.declared.items.Named.{Named}
 use Rattle.ksql_rules.specs.Keys.{join_key}
 use Rattle.ksql_rules.specs.Lowest.{IsAccepted, IsRefused}
@@ -107,57 +104,40 @@ exprs cs = map (λ c. c.expr) cs
 abbrev pub aggregate_exprs : Select → List Known → List Expr
 aggregate_exprs q ks = once_from [] (flat_map aggregates_of (shown_exprs q ks))
 
--- some aggregates, those of them that have a type, and what all of them are in the program
-pub data AreAggs (s : Scope) : List Expr → List Expr → List Agg → Type 0 where
-  none : AreAggs s [] [] []
-  kept : {a : Expr} {es typed : List Expr} {g : Agg} {gs : List Agg} (t : Typed) (ty : SqlType) → IsTypedTree s a t
-      → t.node ≡ n.Aggregate g.fun g.arg → t.ty ≡ Some ty → AreAggs s es typed gs → AreAggs s (a ∷ es) (a ∷ typed) (g ∷ gs)
-  null : {a : Expr} {es typed : List Expr} {g : Agg} {gs : List Agg} (t : Typed) → IsTypedTree s a t
-      → t.node ≡ n.Aggregate g.fun g.arg → t.ty ≡ None → AreAggs s es typed gs → AreAggs s (a ∷ es) typed (g ∷ gs)
+-- an aggregate, as a form of typed trees
+abbrev pub agg_form : Agg → TypedNode
+agg_form g = n.Aggregate g.fun g.arg
 
--- the name that a form writes; other forms write none
-abbrev pub name_in : {A B : Type 0} → Expr-F A B → List ℕ
-name_in (Expr-F.Name q name) = name
-name_in form = []
+-- what some aggregates are in the program
+abbrev pub AreAggs : Scope → List Expr → List Agg → Type 0
+AreAggs s es gs = (xs : List Typed) × AreTypedTrees s es xs × (map (λ x. x.node) xs ≡ map agg_form gs)
 
--- columns of these types, the first with this number; no script can write their names
-unfoldable pub late_columns : ℕ → List SqlType → List ScopeColumn
-late_columns number [] = []
-late_columns number (t ∷ ts) =
-    record { alias = Some []; column = record { name = name_in (out-Expr (late_column number)); ty = t } } ∷ late_columns (suc number) ts
+-- the bounds of a window, after the columns of a scope: its start and its end
+abbrev pub bound_forms : Scope → List TypedNode
+bound_forms s = if s.windowed then n.Column (length s.columns) ∷ n.Column (length s.columns + 1) ∷ [] else []
 
--- what HAVING and the items can name after a grouping: the keys, the aggregates that have a type and, where there is a window,
--- its start and end
-abbrev pub late_scope : Select → List SqlType → Scope
-late_scope q types = record { columns = late_columns 0 types; stream = false; windowed = is_some q.window }
+-- what the columns after a grouping stand for in the scope of the items: the keys, the aggregates and, where there is a window, its
+-- start and end
+abbrev pub grouped_columns : Scope → List Typed → List Agg → List TypedNode
+grouped_columns s keys gs = map (λ x. x.node) keys ++ map agg_form gs ++ bound_forms s
 
--- an expression after a grouping, where these aggregates have a type
-abbrev pub late : Select → List Known → List Expr → Expr → Expr
-late q ks typed a = regrouped (group_exprs q ks) typed a
+-- a part that may be left out, and some expressions, over the rows after a grouping that have these columns
+abbrev pub IsPartAfter : List TypedNode → Scope → Option Expr → Option Typed → Type 0
+IsPartAfter columns s part made = (x : Option Typed) × IsTypedPart s part x × (made ≡ option_map (after columns) x)
 
--- the type of an aggregate, where it has one
-abbrev pub own_type : Agg → Option SqlType
-own_type g = unwrap_or (agg_type g.fun (argument_type g.arg)) None
-
--- the types of those aggregates that have one
-abbrev pub agg_types : List Agg → List SqlType
-agg_types aggs = filter_map own_type aggs
-
--- the types of the group expressions, and of those aggregates that have one
-abbrev pub AreLateTypes : List Typed → List Agg → List SqlType → Type 0
-AreLateTypes keys aggs types = map (λ x. x.ty) keys ++ map (λ t. Some t) (agg_types aggs) ≡ map (λ t. Some t) types
+abbrev pub AreTreesAfter : List TypedNode → Scope → List Expr → List Typed → Type 0
+AreTreesAfter columns s es made = (xs : List Typed) × AreTypedTrees s es xs × (made ≡ map (after columns) xs)
 
 -- what is made of the rows
 abbrev pub IsShape : Select → List Known → Shape → Type 0
 IsShape q ks (shape.Plain keys values) =
     IsTrue (not (is_grouped q)) × AreTypedTrees (item_scope q ks) (exprs (key_columns q ks)) keys
     × AreTypedTrees (item_scope q ks) (exprs (value_columns q ks)) values
-IsShape q ks (shape.Group keys window aggs having values) =
+IsShape q ks (shape.Group keys window gs having values) =
     IsTrue (is_grouped q) × (window ≡ option_map window_of q.window) × AreTypedTrees (from_scope q ks) (group_exprs q ks) keys
-    × ((typed : List Expr) × AreAggs (item_scope q ks) (aggregate_exprs q ks) typed aggs
-    × (types : List SqlType) × AreLateTypes keys aggs types
-    × IsTypedPart (late_scope q types) (option_map (λ h. late q ks typed (resolved (item_scope q ks) h)) q.having) having
-    × AreTypedTrees (late_scope q types) (map (late q ks typed) (exprs (value_columns q ks))) values)
+    × AreAggs (item_scope q ks) (aggregate_exprs q ks) gs
+    × IsPartAfter (grouped_columns (item_scope q ks) keys gs) (item_scope q ks) (option_map (resolved (item_scope q ks)) q.having) having
+    × AreTreesAfter (grouped_columns (item_scope q ks) keys gs) (item_scope q ks) (exprs (value_columns q ks)) values
 
 -- ---- the relation of a query
 

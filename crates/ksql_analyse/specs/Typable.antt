@@ -1,13 +1,11 @@
 -- Which expressions have typed trees, and that all of an accepted query have them.
-use Rattle.std.specs.Prelude.{◌≡◌, ◌≤◌, ◌-◌, ◌^◌, All, IsTrue, is_some, List, length, Option, option_map, true}
-use Rattle.ksql_types.specs.declared.value.SqlType.{SqlType}
+use Rattle.std.specs.Prelude.{◌≡◌, ◌+◌, ◌≤◌, ◌-◌, ◌^◌, All, IsTrue, is_some, List, length, Option, option_map, true}
 use Rattle.ksql_grammar.specs.declared.tree.Expr.{Expr}
 use Rattle.ksql_grammar.specs.declared.tree.Select.{Select}
 use Rattle.ksql_expr.specs.declared.typed.AggFun.{AggFun}
 use Rattle.ksql_expr.specs.declared.typed.Typed.{Typed}
 use Rattle.ksql_expr.specs.declared.typed.TypedNode.{TypedNode}
 use Rattle.ksql_expr.specs.declared.typed.TypedNode.TheVariants as n
-use Rattle.ksql_program.specs.declared.query.Agg.{Agg}
 use Rattle.ksql_scope.specs.declared.scope.Scope.{Scope}
 use Rattle.ksql_scope.specs.Uses.{IsSmall}
 use Rattle.ksql_typing.specs.Standing.{IsTypedTree}
@@ -16,9 +14,8 @@ use Rattle.ksql_clauses.specs.declared.sources.Known.{Known}
 use Rattle.ksql_clauses.specs.Items.{result_columns}
 use Rattle.ksql_clauses.specs.Resolved.{resolved}
 use Rattle.ksql_clauses.specs.Sources.{from_scope, item_scope, there}
-use Rattle.ksql_grouping.specs.Grouping.{regrouped}
 use Rattle.ksql_rules.specs.Breaks.{group_exprs, is_grouped, key_columns, value_columns}
-use Rattle.ksql_analyse.specs.Judgement.{AreAggs, AreLateTypes, AreTypedTrees, aggregate_exprs, late_scope}
+use Rattle.ksql_analyse.specs.Judgement.{aggregate_exprs}
 
 -- ---- expressions
 
@@ -53,21 +50,13 @@ pub record AreColumnTrees (cs : List Named) (xs : List Typed) : Type 0 where
   pub counted : length cs ≡ length xs
   pub values : All IsValue xs
 
--- a row after a grouping with these group expressions and aggregates has few columns, over which HAVING and the values have typed
--- trees
-pub record IsLateTypable (s : Scope) (groups aggs : List Expr) (h : Option Expr) (cs : List Named) : Type 0 where
-  pub few : length s.columns ≤ 2 ^ 32 - 2
-  pub having : All (IsTypable s) (there (option_map (regrouped groups aggs) h))
-  pub columns : All (λ c. IsValued s (regrouped groups aggs c.expr)) cs
-
 -- a grouped query whose expressions have typed trees
 pub record IsGroupTypable (q : Select) (ks : List Known) : Type 0 where
   pub keyed : length (key_columns q ks) ≡ length (group_exprs q ks)
   pub keys : All (IsValued (from_scope q ks)) (group_exprs q ks)
   pub aggregates : All (IsAggregable (item_scope q ks)) (aggregate_exprs q ks)
-  pub late : (keys : List Typed) (typed : List Expr) (aggs : List Agg) (types : List SqlType) → AreTypedTrees (from_scope q ks) (group_exprs q ks) keys
-      → AreAggs (item_scope q ks) (aggregate_exprs q ks) typed aggs → AreLateTypes keys aggs types
-      → IsLateTypable (late_scope q types) (group_exprs q ks) typed (option_map (resolved (item_scope q ks)) q.having) (value_columns q ks)
+  pub having : All (IsTypable (item_scope q ks)) (there (option_map (resolved (item_scope q ks)) q.having))
+  pub few : length (group_exprs q ks) + length (aggregate_exprs q ks) ≤ 2 ^ 32 - 2
 
 -- a query whose expressions have typed trees
 pub record IsQueryTypable (q : Select) (ks : List Known) : Type 0 where

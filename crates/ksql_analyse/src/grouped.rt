@@ -1,24 +1,24 @@
 //! What a grouped query makes of its rows.
 
-ghost use Rattle.std.specs.Prelude.{◌≡◌, ◌≤◌, ◌<◌, ◌-◌, ◌^◌, ◌++◌, ◌∷◌, [], All, IfOk, Some, false, decimal, length, map, option_map, option_to_list};
+ghost use Rattle.std.specs.Prelude.{◌≡◌, ◌≤◌, ◌-◌, ◌^◌, ◌++◌, [], All, IfOk, length, map, option_map};
 ghost use Rattle.std.specs.List.{flat_map};
 ghost use Rattle.ksql_clauses.specs.Resolved.{resolved as resolved_in};
 ghost use Rattle.ksql_clauses.specs.Sources.{there};
 ghost use Rattle.ksql_grouping.specs.Grouping as groups;
-ghost use Rattle.ksql_grouping.specs.Grouping.{regrouped as regrouped_by};
 ghost use Rattle.ksql_expr.specs.declared.typed.TypedNode.TheVariants as node;
-ghost use Rattle.ksql_typing.specs.Standing.{IsTypedTree};
+ghost use Rattle.ksql_trees.specs.Grouped.{after as after_in};
 ghost use Rattle.ksql_analyse.specs.Judgement as spec;
-ghost use Rattle.ksql_analyse.specs.Typable.{IsAggregable, IsAggregateNode, IsTypable, IsValue};
+ghost use Rattle.ksql_analyse.specs.Typable.{IsAggregable, IsAggregateNode};
 
 use crate::trees::tree_of;
 use ksql_clauses::{Named, resolved};
 use ksql_expr::{Typed, TypedNode};
 use ksql_grammar::Expr;
-use ksql_grouping::{aggregates_of, once, regrouped};
+use ksql_grouping::{aggregates_of, once};
 use ksql_program::Agg;
-use ksql_scope::{Scope, ScopeColumn};
-use ksql_types::{Boxed, Chars, Column, CopyOf, Items, SqlType};
+use ksql_scope::Scope;
+use ksql_trees::after;
+use ksql_types::{Boxed, CopyOf};
 use std::alloc::{AllocError, Global};
 
 /// Each expression with resolved names.
@@ -78,49 +78,17 @@ fn push_all(all: &mut Vec<Expr>, more: Vec<Expr>) -> Result<(), AllocError>
     Ok(())
 }
 
-/// The aggregates of a query that have a type, and what all of its aggregates are in its program.
-#[derive(Drop)]
-pub(crate) struct Aggregates {
-    pub typed: Vec<Expr>,
-    pub aggs: Vec<Agg>,
-}
-
-/// What the aggregates of a query are in its program, and those that have a type.
-pub(crate) fn aggs_of(
-    alloc: Global,
-    scope: &Scope,
-    exprs: &[Expr],
-) -> Result<Aggregates, AllocError>
+/// What the aggregates of a query are in its program.
+pub(crate) fn aggs_of(alloc: Global, scope: &Scope, exprs: &[Expr]) -> Result<Vec<Agg>, AllocError>
     requires aggregable { All (IsAggregable scope.now) exprs.now }
     requires columns { length scope.now.columns ≤ 2 ^ 32 - 2 }
-    ensures { IfOk result (λ found. spec.AreAggs scope.now exprs.now found.typed.items found.aggs.items) }
+    ensures { IfOk result (λ aggs. spec.AreAggs scope.now exprs.now aggs.items) }
 {
-    let mut typed = Vec::new(alloc);
     let mut aggs = Vec::new(alloc);
     for expr in exprs {
-        let tree = tree_of(alloc, scope, expr)?;
-        push_typed(alloc, &mut typed, expr, &tree)?;
-        aggs.push(agg_in(tree))?;
+        aggs.push(agg_in(tree_of(alloc, scope, expr)?))?;
     }
-    Ok(Aggregates { typed, aggs })
-}
-
-/// Puts an expression after others, if its tree has a type.
-fn push_typed(
-    alloc: Global,
-    typed: &mut Vec<Expr>,
-    expr: &Expr,
-    tree: &Typed,
-) -> Result<(), AllocError>
-    ensures { IfOk result (λ _. typed.new.items ≡ typed.old.items ++ option_to_list (option_map (λ _. expr.now) tree.now.ty)) }
-{
-    match tree.ty {
-        Some(_) => {
-            typed.push(expr.copy(alloc)?)?;
-            Ok(())
-        }
-        None => Ok(()),
-    }
+    Ok(aggs)
 }
 
 /// The aggregate that a tree is.
@@ -146,117 +114,94 @@ fn unboxed(part: Option<Boxed<Typed>>) -> Option<Typed>
     }
 }
 
-/// The types of the rows after a grouping: those of the keys, and of the aggregates that have one.
-pub(crate) fn late_types(
-    alloc: Global,
-    keys: &[Typed],
-    aggs: &[Agg],
-) -> Result<Vec<SqlType>, AllocError>
-    requires keys { All IsValue keys.now }
-    ensures { IfOk result (λ types. spec.AreLateTypes keys.now aggs.now types.items) }
-{
-    let mut types = key_types(alloc, keys)?;
-    for agg in aggs {
-        push_type(&mut types, own_type(agg))?;
-    }
-    Ok(types)
-}
-
-/// Puts a type after others, where there is one.
-fn push_type(types: &mut Vec<SqlType>, ty: Option<SqlType>) -> Result<(), AllocError>
-    ensures { IfOk result (λ _. types.new.items ≡ types.old.items ++ option_to_list ty) }
-{
-    match ty {
-        Some(ty) => {
-            types.push(ty)?;
-            Ok(())
-        }
-        None => Ok(()),
-    }
-}
-
-/// The types of trees that have one.
-fn key_types(alloc: Global, keys: &[Typed]) -> Result<Vec<SqlType>, AllocError>
-    requires { All IsValue keys.now }
-    ensures { IfOk result (λ types. map (λ x. x.ty) keys.now ≡ map (λ t. Some t) types.items) }
-{
-    let mut types = Vec::new(alloc);
-    for key in keys {
-        types.push(type_in(key))?;
-    }
-    Ok(types)
-}
-
-/// The type of a tree that has one.
-fn type_in(tree: &Typed) -> SqlType
-    requires { IsValue tree.now }
-    ensures { tree.now.ty ≡ Some result }
-{
-    match tree.ty {
-        Some(ty) => ty,
-        None => unreachable!(),
-    }
-}
-
-/// The type of an aggregate, where it has one.
-fn own_type(agg: &Agg) -> Option<SqlType>
-    ensures { result ≡ spec.own_type agg.now }
-{
-    let arg = match &agg.arg {
-        Some(arg) => Some(arg.ty),
-        None => None,
-    };
-    ksql_expr::agg_type(agg.fun, arg).unwrap_or(None)
-}
-
-/// What HAVING and the items can name after a grouping whose rows have these types.
-#[tactic(auto, unfolding(ksql_types::specs::Text::longest_text))]
-pub(crate) fn late_scope(
-    alloc: Global,
-    windowed: bool,
-    types: &[SqlType],
-) -> Result<Scope, AllocError>
-    ensures { IfOk result (λ scope. scope ≡ record {
-      columns = spec.late_columns 0 types.now;
-      stream = false;
-      windowed = windowed;
-    }) }
-{
-    let mut columns = Vec::new(alloc);
-    for (number, ty) in types.iter().enumerate() {
-        columns.push(late_column_of(alloc, number, *ty)?)?;
-    }
-    Ok(Scope {
-        columns: Items::of(columns),
-        stream: false,
-        windowed,
-    })
-}
-
-/// The column of this number of the rows after a grouping.
-#[tactic(auto, unfolding(ksql_types::specs::Text::longest_text))]
-fn late_column_of(alloc: Global, number: usize, ty: SqlType) -> Result<ScopeColumn, AllocError>
-    ensures { IfOk result (λ column. column ≡ record { alias = Some []; column = record { name = decimal number; ty = ty } }) }
-{
-    let name = Chars::of(format!(in alloc; "{number}")?);
-    Ok(ScopeColumn {
-        alias: Some(Chars::of(String::new(alloc))),
-        column: Column { name, ty },
-    })
-}
-
-/// The typed tree of an expression after a grouping.
-pub(crate) fn late_tree(
+/// What the columns after a grouping stand for in the scope of the items.
+pub(crate) fn grouped_columns(
     alloc: Global,
     scope: &Scope,
-    groups: &[Expr],
-    aggs: &[Expr],
-    expr: &Expr,
-) -> Result<Typed, AllocError>
-    requires typable { IsTypable scope.now (regrouped_by groups.now aggs.now expr.now) }
-    requires columns { length scope.now.columns ≤ 2 ^ 32 - 2 }
-    ensures { IfOk result (λ tree. IsTypedTree scope.now (regrouped_by groups.now aggs.now expr.now) tree) }
+    keys: &[Typed],
+    aggs: &[Agg],
+) -> Result<Vec<TypedNode>, AllocError>
+    requires { length scope.now.columns ≤ 2 ^ 32 - 2 }
+    ensures { IfOk result (λ columns. columns.items ≡ spec.grouped_columns scope.now keys.now aggs.now) }
 {
-    let late = regrouped(alloc, groups, aggs, expr)?;
-    tree_of(alloc, scope, &late)
+    let mut columns = Vec::new(alloc);
+    push_keys(alloc, &mut columns, keys)?;
+    push_aggs(alloc, &mut columns, aggs)?;
+    push_bounds(&mut columns, scope)?;
+    Ok(columns)
+}
+
+/// Puts the forms of trees after others.
+fn push_keys(alloc: Global, columns: &mut Vec<TypedNode>, keys: &[Typed]) -> Result<(), AllocError>
+    ensures { IfOk result (λ _. columns.new.items ≡ columns.old.items ++ map (λ x. x.node) keys.now) }
+{
+    for key in keys {
+        columns.push(key.node.copy(alloc)?)?;
+    }
+    Ok(())
+}
+
+/// Puts the forms of aggregates after others.
+fn push_aggs(alloc: Global, columns: &mut Vec<TypedNode>, aggs: &[Agg]) -> Result<(), AllocError>
+    ensures { IfOk result (λ _. columns.new.items ≡ columns.old.items ++ map spec.agg_form aggs.now) }
+{
+    for agg in aggs {
+        columns.push(agg_form(alloc, agg)?)?;
+    }
+    Ok(())
+}
+
+/// An aggregate, as a form of typed trees.
+fn agg_form(alloc: Global, agg: &Agg) -> Result<TypedNode, AllocError>
+    ensures { IfOk result (λ made. made ≡ spec.agg_form agg.now) }
+{
+    let arg = match &agg.arg {
+        Some(arg) => Some(Boxed::of(alloc, arg.copy(alloc)?)?),
+        None => None,
+    };
+    Ok(TypedNode::Aggregate { fun: agg.fun, arg })
+}
+
+/// Puts the bounds of a window after others.
+fn push_bounds(columns: &mut Vec<TypedNode>, scope: &Scope) -> Result<(), AllocError>
+    requires { length scope.now.columns ≤ 2 ^ 32 - 2 }
+    ensures { IfOk result (λ _. columns.new.items ≡ columns.old.items ++ spec.bound_forms scope.now) }
+{
+    if scope.windowed {
+        let start = scope.columns.items().len() as u32;
+        columns.push(TypedNode::Column(start))?;
+        columns.push(TypedNode::Column(start + 1))?;
+    }
+    Ok(())
+}
+
+/// A part that may be left out, over the rows after a grouping.
+pub(crate) fn part_after(
+    alloc: Global,
+    part: &Option<Typed>,
+    columns: &[TypedNode],
+) -> Result<Option<Typed>, AllocError>
+    requires { length columns.now ≤ 2 ^ 32 }
+    ensures { IfOk result (λ made. made ≡ option_map (after_in columns.now) part.now) }
+{
+    match part {
+        None => Ok(None),
+        Some(tree) => Ok(Some(after(alloc, tree, columns)?)),
+    }
+}
+
+/// Trees over the rows after a grouping.
+pub(crate) fn trees_after(
+    alloc: Global,
+    trees: &[Typed],
+    columns: &[TypedNode],
+) -> Result<Vec<Typed>, AllocError>
+    requires { length columns.now ≤ 2 ^ 32 }
+    ensures { IfOk result (λ made. made.items ≡ map (after_in columns.now) trees.now) }
+{
+    let mut made = Vec::new(alloc);
+    for tree in trees {
+        made.push(after(alloc, tree, columns)?)?;
+    }
+    Ok(made)
 }

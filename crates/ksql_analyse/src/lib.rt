@@ -18,6 +18,7 @@ mod trees;
 pub use fault::AnalyseFault;
 pub use judgement::analyse;
 pub use ksql_scope::{Scope, ScopeColumn, ScopeColumns};
+pub use ksql_types::CopyOf;
 pub use ksql_typing::{TypeFault, typed};
 pub use laws::{one_judgement, some_judgement};
 pub use soundness::programs_are_sound;

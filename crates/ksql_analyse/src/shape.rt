@@ -1,26 +1,23 @@
 //! What a query makes of its rows.
 
-ghost use Rattle.std.specs.Prelude.{◌≡◌, ◌≤◌, ◌-◌, ◌^◌, All, IfOk, IsTrue, List, false, length, map, not, option_map};
+ghost use Rattle.std.specs.Prelude.{◌≡◌, ◌≤◌, ◌-◌, ◌^◌, All, IfOk, IsTrue, false, length, map, not, option_map};
 ghost use Rattle.ksql_clauses.specs.Items as items;
 ghost use Rattle.ksql_clauses.specs.Resolved.{resolved as resolved_in};
 ghost use Rattle.ksql_clauses.specs.Windows as windows;
 ghost use Rattle.ksql_clauses.specs.Sources as sources;
-ghost use Rattle.ksql_grouping.specs.Grouping.{regrouped};
 ghost use Rattle.ksql_rules.specs.Breaks as breaks;
-ghost use Rattle.ksql_types.specs.declared.value.SqlType.{SqlType as Sql};
 ghost use Rattle.ksql_analyse.specs.Judgement as spec;
-ghost use Rattle.ksql_analyse.specs.Typable.{AreColumnTrees, IsGroupTypable, IsLateTypable, IsTypable, IsValue, IsValued};
+ghost use Rattle.ksql_analyse.specs.Typable.{AreColumnTrees, IsGroupTypable, IsTypable, IsValued};
 
 use crate::grouped::{
-    Aggregates, aggregate_exprs, aggs_of, all_resolved, late_scope, late_tree, late_types,
-    part_resolved,
+    aggregate_exprs, aggs_of, all_resolved, grouped_columns, part_after, part_resolved, trees_after,
 };
 use crate::reading::Reading;
-use crate::trees::{column_trees, trees_of};
+use crate::trees::{column_trees, part_tree, trees_of};
 use ksql_clauses::{Named, window_of};
-use ksql_expr::Typed;
+use ksql_expr::{Typed, TypedNode};
 use ksql_grammar::{Expr, Select, WindowText};
-use ksql_program::Shape;
+use ksql_program::{Agg, Shape};
 use ksql_scope::Scope;
 use ksql_types::{Items, Window};
 use std::alloc::{AllocError, Global};
@@ -87,6 +84,7 @@ pub(crate) fn grouped_shape(
 ) -> Result<Shape, AllocError>
     requires grouped { IsTrue (breaks.is_grouped select.now) }
     requires typable { IsGroupTypable select.now reading.now.known.items }
+    requires valued_values { All (λ c. IsValued reading.now.late c.now.expr) values.now }
     requires window { breaks.has_large_window select.now.window ≡ false }
     requires of_from { reading.now.from ≡ sources.from_scope select.now reading.now.known.items }
     requires of_items { reading.now.late ≡ sources.item_scope select.now reading.now.known.items }
@@ -99,49 +97,74 @@ pub(crate) fn grouped_shape(
 {
     let grouping = grouping_of(alloc, reading, select)?;
     let keys = trees_of(alloc, &reading.from, grouping.groups.as_slice())?;
-    let found = aggs_of(alloc, &reading.late, grouping.aggs.as_slice())?;
-    let behind = behind_of(alloc, select, &grouping, keys.as_slice(), &found, values)?;
+    let aggs = aggs_of(alloc, &reading.late, grouping.aggs.as_slice())?;
+    let after = after_grouping(
+        alloc,
+        &reading.late,
+        keys.as_slice(),
+        aggs.as_slice(),
+        &grouping.having,
+        values,
+    )?;
     Ok(Shape::Group {
         keys: Items::of(keys),
         window: window_in(&select.window),
-        aggs: Items::of(found.aggs),
-        having: behind.having,
-        values: Items::of(behind.values),
+        aggs: Items::of(aggs),
+        having: after.having,
+        values: Items::of(after.values),
     })
 }
 
 /// What stands after a grouping.
 #[derive(Drop)]
-struct Behind {
+struct After {
     having: Option<Typed>,
     values: Vec<Typed>,
 }
 
-/// HAVING and the values after a grouping that has these keys and aggregates.
-fn behind_of(
+/// HAVING and the values over the rows after a grouping by these keys with these aggregates.
+fn after_grouping(
     alloc: Global,
-    select: &Select,
-    grouping: &Grouping,
+    scope: &Scope,
     keys: &[Typed],
-    found: &Aggregates,
+    aggs: &[Agg],
+    having: &Option<Expr>,
     values: &[&Named],
-) -> Result<Behind, AllocError>
-    requires keys { All IsValue keys.now }
-    requires late { (types : List Sql) → spec.AreLateTypes keys.now found.now.aggs.items types
-        → IsLateTypable (spec.late_scope select.now types) grouping.now.groups.items found.now.typed.items grouping.now.having (map (λ c. c.now) values.now) }
-    ensures trees { IfOk result (λ b. (types : List Sql) × spec.AreLateTypes keys.now found.now.aggs.items types
-        × spec.IsTypedPart (spec.late_scope select.now types) (option_map (regrouped grouping.now.groups.items found.now.typed.items) grouping.now.having) b.having
-        × spec.AreTypedTrees (spec.late_scope select.now types) (map (regrouped grouping.now.groups.items found.now.typed.items)
-        (spec.exprs (map (λ c. c.now) values.now))) b.values.items) }
-    ensures values { IfOk result (λ b. AreColumnTrees (map (λ c. c.now) values.now) b.values.items) }
+) -> Result<After, AllocError>
+    requires having { All (IsTypable scope.now) (sources.there having.now) }
+    requires values { All (λ c. IsValued scope.now c.now.expr) values.now }
+    requires scope { length scope.now.columns ≤ 2 ^ 32 - 2 }
+    requires columns { length (spec.grouped_columns scope.now keys.now aggs.now) ≤ 2 ^ 32 }
+    ensures having { IfOk result (λ made. spec.IsPartAfter (spec.grouped_columns scope.now keys.now aggs.now) scope.now having.now made.having) }
+    ensures values { IfOk result (λ made. spec.AreTreesAfter (spec.grouped_columns scope.now keys.now aggs.now) scope.now (spec.exprs (map (λ c. c.now) values.now)) made.values.items) }
+    ensures valued { IfOk result (λ made. AreColumnTrees (map (λ c. c.now) values.now) made.values.items) }
 {
-    let types = late_types(alloc, keys, found.aggs.as_slice())?;
-    let scope = late_scope(alloc, select.window.is_some(), types.as_slice())?;
-    let groups = grouping.groups.as_slice();
-    let typed = found.typed.as_slice();
-    let having = late_having(alloc, &scope, groups, typed, &grouping.having)?;
-    let values = late_values(alloc, &scope, groups, typed, values)?;
-    Ok(Behind { having, values })
+    let columns = grouped_columns(alloc, scope, keys, aggs)?;
+    after_of(alloc, scope, having, values, columns.as_slice())
+}
+
+/// HAVING and the values over rows of these columns after a grouping.
+fn after_of(
+    alloc: Global,
+    scope: &Scope,
+    having: &Option<Expr>,
+    values: &[&Named],
+    columns: &[TypedNode],
+) -> Result<After, AllocError>
+    requires having { All (IsTypable scope.now) (sources.there having.now) }
+    requires values { All (λ c. IsValued scope.now c.now.expr) values.now }
+    requires scope { length scope.now.columns ≤ 2 ^ 32 - 2 }
+    requires columns { length columns.now ≤ 2 ^ 32 }
+    ensures having { IfOk result (λ made. spec.IsPartAfter columns.now scope.now having.now made.having) }
+    ensures values { IfOk result (λ made. spec.AreTreesAfter columns.now scope.now (spec.exprs (map (λ c. c.now) values.now)) made.values.items) }
+    ensures valued { IfOk result (λ made. AreColumnTrees (map (λ c. c.now) values.now) made.values.items) }
+{
+    let having = part_tree(alloc, scope, having)?;
+    let values = column_trees(alloc, scope, values)?;
+    Ok(After {
+        having: part_after(alloc, &having, columns)?,
+        values: trees_after(alloc, values.as_slice(), columns)?,
+    })
 }
 
 fn window_in(window: &Option<WindowText>) -> Option<Window>
@@ -152,43 +175,4 @@ fn window_in(window: &Option<WindowText>) -> Option<Window>
         Some(window) => Some(window_of(window)),
         None => None,
     }
-}
-
-/// HAVING after a grouping.
-fn late_having(
-    alloc: Global,
-    scope: &Scope,
-    groups: &[Expr],
-    typed: &[Expr],
-    having: &Option<Expr>,
-) -> Result<Option<Typed>, AllocError>
-    requires typable { All (IsTypable scope.now) (sources.there (option_map (regrouped groups.now typed.now) having.now)) }
-    requires columns { length scope.now.columns ≤ 2 ^ 32 - 2 }
-    ensures { IfOk result (λ tree. spec.IsTypedPart scope.now (option_map (regrouped groups.now typed.now) having.now) tree) }
-{
-    match having {
-        None => Ok(None),
-        Some(having) => Ok(Some(late_tree(alloc, scope, groups, typed, having)?)),
-    }
-}
-
-/// The values after a grouping.
-fn late_values(
-    alloc: Global,
-    scope: &Scope,
-    groups: &[Expr],
-    typed: &[Expr],
-    values: &[&Named],
-) -> Result<Vec<Typed>, AllocError>
-    requires valued { All (λ c. IsValued scope.now (regrouped groups.now typed.now c.now.expr)) values.now }
-    requires columns { length scope.now.columns ≤ 2 ^ 32 - 2 }
-    ensures trees { IfOk result (λ trees. spec.AreTypedTrees scope.now (map (regrouped groups.now typed.now)
-        (spec.exprs (map (λ c. c.now) values.now))) trees.items) }
-    ensures values { IfOk result (λ trees. AreColumnTrees (map (λ c. c.now) values.now) trees.items) }
-{
-    let mut trees = Vec::new(alloc);
-    for value in values {
-        trees.push(late_tree(alloc, scope, groups, typed, &value.expr)?)?;
-    }
-    Ok(trees)
 }

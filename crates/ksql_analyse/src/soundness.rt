@@ -6,8 +6,8 @@ ghost use Rattle.ksql_program.specs.declared.program.Item.{Item as OneItem};
 ghost use Rattle.ksql_program.specs.Sound.{IsSound};
 
 /// The program of statements that are accepted is sound: its relations have names, topics, columns and partitions of
-/// their own within the limits, and each query reads relations before it, makes what its columns say of them, and has
-/// its key.
+/// their own within the limits, and each query reads relations before it, makes what its columns say of them, asks for
+/// the row's time over streams alone, and has its key.
 pub fn programs_are_sound()
     ensures { (statements : List OneStatement) (items : List OneItem) → AreParsed statements
         → IsProgramOf statements items → IsSound items }

@@ -109,10 +109,13 @@ scope_columns k = map (scope_column k.alias) (columns k.relation)
 abbrev pub rowkey_of : Column → ScopeColumn
 rowkey_of c = record { alias = None; column = record { name = codes "ROWKEY"; ty = c.ty } }
 
--- ROWKEY, in a FULL join: it has the type of the left source's first key column
+-- the key columns of all that is read
+abbrev pub key_columns_of : List Known → List Column
+key_columns_of ks = flat_map (λ k. k.relation.schema.keys) ks
+
+-- ROWKEY, in a FULL join: it has the type of the first key column, which is the left source's where that has one
 abbrev pub rowkey : Select → List Known → List ScopeColumn
-rowkey q [] = []
-rowkey q (k ∷ ks) = if is_full q then map rowkey_of (take 1 k.relation.schema.keys) else []
+rowkey q ks = if is_full q then map rowkey_of (take 1 (key_columns_of ks)) else []
 
 -- the columns of all that is read, and ROWKEY
 abbrev pub from_columns : Select → List Known → List ScopeColumn

@@ -1,6 +1,6 @@
 //! What a query reads, and what its names can stand for.
 
-ghost use Rattle.std.specs.Prelude.{◌≡◌, ◌==◌, ◌++◌, map, length, IfOk};
+ghost use Rattle.std.specs.Prelude.{◌≡◌, ◌==◌, ◌++◌, map, length, option_copied, option_to_list, take, IfOk};
 ghost use Rattle.ksql_clauses.specs.Sources as spec;
 
 use ksql_grammar::{JoinText, JoinWord, Select, Source};
@@ -215,15 +215,25 @@ fn with_rowkey(
 ) -> Result<Vec<ScopeColumn>, AllocError>
     ensures { IfOk result (λ all. all.items ≡ found.items ++ spec.rowkey select.now known.now) }
 {
-    let [left, ..] = known else {
-        return Ok(found);
-    };
     if is_full(select) {
-        if let [key, ..] = left.relation.schema.keys.items() {
+        if let Some(key) = first_key(known) {
             found.push(rowkey_of(alloc, key)?)?;
         }
     }
     Ok(found)
+}
+
+/// The first key column of the sources.
+fn first_key<'a>(known: &'a [Known]) -> Option<&'a Column>
+    ensures { option_to_list (option_copied result) ≡ take 1 (spec.key_columns_of known.now) }
+{
+    let [source, others @ ..] = known else {
+        return None;
+    };
+    match source.relation.schema.keys.items() {
+        [key, ..] => Some(key),
+        [] => first_key(others),
+    }
 }
 
 #[tactic(auto, unfolding(ksql_types::specs::Text::longest_text))]

@@ -25,14 +25,14 @@ pub if_some_both : {A : Type 0} (o : Option A) (P Q R : A → Type 0) → ((x : 
 if_some_both None P Q R both p q = tt
 if_some_both (Some x) P Q R both p q = both x p q
 
--- the names that joined while the script was read, and others behind them
+-- the names that joined while the script was read, and others after them
 joined_later : (words old mid new : List (List ℕ)) (name : List ℕ) → MayJoinScript words old mid → JoinedLast mid new name → JoinedLast old new name
 joined_later words old mid new name (inl same) joined =
     (joined.0, joined.1 ∙ ap (λ (names : List (List ℕ)). names ++ (joined.0 ++ name ∷ [])) same)
 joined_later words old mid new name (inr script) joined =
     (script.0 ∷ joined.0, joined.1 ∙ ap (λ (names : List (List ℕ)). names ++ (joined.0 ++ name ∷ [])) script.2 ∙ append_assoc old (script.0 ∷ []) (joined.0 ++ name ∷ []))
 
--- a failure at the topic files, behind a script that was read
+-- a failure at the topic files, after a script that was read
 pub topic_cause : (words : List (List ℕ)) (all : Files) (program : Program) (old mid new : List (List ℕ)) (status : Status) →
     MayJoinScript words old mid → IsProgramRead words all program →
     IsTopicFailure all whole_room (declared_of program.items) mid new status → HasCause words all old new status
@@ -60,7 +60,7 @@ pub script_due : (words : List (List ℕ)) (all : Files) (old new : List (List �
 script_due words all old new (inl same) = ([], same ∙ sym (append-nil old), tt)
 script_due words all old new (inr script) = (script.0 ∷ [], script.2, (inl script.1, tt))
 
--- and behind it those of the topic files
+-- and after it those of the topic files
 each_due : (words : List (List ℕ)) (all : Files) (program : Program) → IsProgramRead words all program → (names : List (List ℕ)) →
     AllByRecursion (IsTopicDue all whole_room (declared_of program.items)) names → AllByRecursion (IsDue words all) names
 each_due words all program read [] due = tt
@@ -114,7 +114,7 @@ same_rest : (all : Files) (room : Room) (relation : Relation) (relations : List 
 same_rest all room relation relations a b topic line why same bad =
     subst (λ (file : List ℕ). IsFirstBad all (room_after room relation file) relations topic line why) same bad
 
--- the fault of a file, or one of a file behind it
+-- the fault of a file, or one of a file after it
 abbrev HereOrLater : Files → Room → Relation → List Relation → List ℕ → List ℕ → ℕ → LineWhy → Type 0
 HereOrLater all room relation relations file topic line why =
     ((first_fault room file ≡ Some (line, why)) × (topic ≡ relation.topic))
@@ -204,7 +204,7 @@ agree words all old new a (ended.ReadFault n) da db ca cb = absurd db
 agree words all old new a ended.WriteFault da db ca cb = absurd db
 agree words all old new a ended.OutOfMemory da db ca cb = absurd db
 
--- what has its cause is the answer, where the words and the files decided it, or want of memory is
+-- what has its cause is the answer, where the words and the files decided it, or it is out of memory
 pub decided : (words : List (List ℕ)) (all : Files) (old new : List (List ℕ)) (answer status : Status) → IsRefusal answer →
     HasCause words all old new answer → NoDueFails words all old new → IsDecided status → HasCause words all old new status →
     (answer ≡ status) ⊎ (answer ≡ ended.OutOfMemory)

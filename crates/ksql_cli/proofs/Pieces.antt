@@ -1,4 +1,4 @@
--- What pieces that are written one behind another come to.
+-- What pieces that are written one after another come to.
 use Rattle.std.proofs.Common.{◌≡◌, ℕ, ◌+◌, ◌-◌, ◌≤◌, List, [], ◌∷◌, ◌++◌, drop, get_or, length, take, Option, None, Some, refl, ap, ap₂, ◌∙◌, sym, subst, append_assoc, arith, length-append}
 use Rattle.std.specs.Prelude.{Result, Ok, Err, OnErr, OnOk, codes, decimal}
 use Rattle.std.specs.List.{flat_map}

@@ -1,4 +1,4 @@
--- From what is said of one topic file, and of those behind it, to what is said of all of them.
+-- From what is said of one topic file, and of those after it, to what is said of all of them.
 use Rattle.std.proofs.Common.{◌≡◌, ◌∙◌, ap, sym, refl, subst, ℕ, ◌-◌, List, [], ◌∷◌, ◌++◌, append_assoc, inl, inr, length, take, drop, arith}
 use Rattle.std.specs.Prelude.{◌≤◌, All, Option, None, Some, IfSome, Result, Ok, Err, IfOk, IfErr, slice_index_or}
 use Rattle.std.specs.List.{AllByRecursion}
@@ -17,7 +17,7 @@ use Rattle.ksql_cli.specs.Command.{Files, topic_file, whole_room, room_after, Is
 use Rattle.ksql_cli.specs.Run.{declared_of}
 use Rattle.ksql_cli.specs.Steps.{AreTopicsDue, IsFeedable, IsJoined, IsTopicFailure}
 
--- the items behind the first
+-- the items after the first
 abbrev pub rest_of : List Item → List Item
 rest_of items = take (length items - 1) (drop 1 items)
 
@@ -63,7 +63,7 @@ all_found (Ok a) items (Some all) later room left relation rest relations before
 
 -- ---- the names that joined
 
--- a name that may have joined, and others behind it
+-- a name that may have joined, and others after it
 pub joined_behind : (old mid new : List (List ℕ)) (here name : List ℕ) → MayJoin old mid here → JoinedLast mid new name → JoinedLast old new name
 joined_behind old mid new here name (inl same) joined =
     (joined.0, joined.1 ∙ ap (λ (names : List (List ℕ)). names ++ (joined.0 ++ name ∷ [])) same)

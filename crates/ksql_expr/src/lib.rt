@@ -1,23 +1,14 @@
-//! Expressions with their types, and what they are worth on a row.
+//! Expressions with their types, the rules of types, and what an expression is worth on a row.
 #![tactic(auto)]
 
-mod comparison;
 mod copies;
-mod evaluation;
 mod laws;
-mod number;
-mod pattern;
 mod rules;
-mod text;
 mod typed;
 
-pub use evaluation::eval;
 pub use laws::timeless_values;
 pub use rules::{
     agg_type, are_comparable, are_ordered, binary_type, can_be_when, can_cast, case_type, fits,
     fun_type, is_between_typed, is_in_typed, is_number, joint, joint_type, same_type, sign_type,
 };
 pub use typed::{AggFun, Exprs, Fun, Typed, TypedNode, TypedWhen, TypedWhens};
-
-#[cfg(test)]
-mod tests;

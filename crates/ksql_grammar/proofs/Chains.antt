@@ -143,7 +143,7 @@ module _ {A : Type 0} (item : Reader A) (more : List Symbol → Option (List Sym
       same_bind (item ts) _ _ (λ x e. same_end x (more x.1) (list_of item more k) (list_of item more m)
       (λ us f. let t = takes ts x e in let u = fewer x.1 us f in list_fuel takes fewer k m us (omega arith) (omega arith)))
 
--- what is read behind items that were read before
+-- what is read after items that were read before
 abbrev pub with_front : {A : Type 0} → List A → Option (List A × List Symbol) → Option (List A × List Symbol)
 with_front front read = read >>= λ x. Some (front ++ x.0, x.1)
 

@@ -22,7 +22,7 @@ pub rest_weaker : (P Q : Symbol → Type 0) → ((s : Symbol) → P s → Q s) �
 rest_weaker P Q h [] r = tt
 rest_weaker P Q h (s ∷ ts) r = h s r
 
--- `(` or `.`, behind a name
+-- `(` or `.`, after a name
 abbrev pub extends : Symbol → Bool
 extends (Sign mark.Open) = true
 extends (Sign mark.Dot) = true

@@ -228,7 +228,7 @@ module _ (n : ℕ) where
       ap₂ (r.tested_at (r.within n) a us) (first_out comparison_of us c) (key_out key.Is (λ s. is_is s ≡ false) us i (λ p. false≢true (sym p)))
       ∙ ap (λ x. r.ranged (r.within n) x.0 a x.1) m
 
-  -- behind [NOT] comes one of the words
+  -- after [NOT] comes one of the words
   range_of : (b : Bool) (a : Expr) (us ws : List Symbol) (k : Keyword) → Spells (negation b) us (Key k ∷ ws) → comparison_of (Key k) ≡ None → is_is (Key k) ≡ false → is_not (Key k) ≡ false
       → r.tested (r.within n) a us ≡ r.ranged (r.within n) b a (Key k ∷ ws)
   unfolding is_is

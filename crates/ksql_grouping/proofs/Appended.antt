@@ -1,4 +1,4 @@
--- The aggregates in an expression, one behind the other.
+-- The aggregates in an expression, one after the other.
 use Rattle.std.proofs.Common.{◌≡◌, Bool, true, false, if◌then◌else◌, List, [], ◌∷◌, ◌++◌, Some, None, ap, sym, ◌∙◌}
 use Rattle.std.proofs.lemmas.List.{append-nil, append_assoc}
 use Rattle.ksql_grammar.specs.declared.tree.Expr.{Expr}

@@ -1,19 +1,16 @@
 -- Aggregates and groups (ksqlDB reference manual, "Aggregate functions" and "GROUP BY").
 use Rattle.std.specs.Prelude.{ℕ, ◌+◌, suc, Bool, true, false, not, ◌&&◌, ◌||◌, if◌then◌else◌, List, [], ◌∷◌, ◌++◌, length, Option, Some, None, is_some, codes, bytes_eq}
-use Rattle.std.specs.Fmt.{decimal}
 use Rattle.std.specs.List.{list_any}
 use Rattle.ksql_grammar.specs.declared.tree.Expr.{Expr, para-Expr, out-Expr}
-use Rattle.ksql_grammar.specs.declared.tree.Expr.TheVariants as e
 use Rattle.ksql_grammar.specs.declared.tree.Expr.TheOpen.{Expr-F}
 use Rattle.ksql_grammar.specs.declared.tree.WhenText.{WhenText}
 use Rattle.ksql_types.specs.Names.{is_among}
 use Rattle.ksql_grouping.specs.declared.aggregates.Called.{Called}
 use Rattle.ksql_grouping.specs.declared.aggregates.Called.TheVariants.{Aggregate, Ordered, Unknown}
-use Rattle.ksql_grouping.specs.declared.regrouping.Replaced.{Replaced}
 use Rattle.ksql_scope.specs.Functions.{is_aggregate, is_unknown}
 use Rattle.ksql_grouping.specs.Same.{same_expr}
 use Rattle.ksql_scope.specs.Uses.{gathered, calls}
-use Rattle.ksql_walks.specs.Parts.{decided_or, passes, becomes}
+use Rattle.ksql_walks.specs.Parts.{decided_or, passes}
 
 -- the aggregates that a table has no place for
 abbrev pub ordered_aggregates : List (List ℕ)
@@ -95,23 +92,6 @@ place_from number (g ∷ gs) a = if same_expr g a then Some number else place_fr
 abbrev pub place_among : List Expr → Expr → Option ℕ
 place_among es a = place_from 0 es a
 
--- a column of the rows after a grouping: it has no name that a script can write
-abbrev pub late_column : ℕ → Expr
-late_column number = e.Name (Some []) (decimal number)
-
--- an expression after a grouping: outside aggregates each largest part that is a group expression becomes the column of the first
--- such, an aggregate becomes its column, and one that has none is NULL
-abbrev pub late_part : List Expr → List Expr → Expr → Option Expr
-late_part groups aggs a = of (place_among groups a) (place_among aggs a)
-  where
-    of : Option ℕ → Option ℕ → Option Expr
-    of (Some group) agg = Some (late_column group)
-    of None (Some agg) = Some (late_column (length groups + agg))
-    of None None = if is_aggregate_call a then Some e.Null else None
-
-abbrev pub regrouped : List Expr → List Expr → Expr → Expr
-regrouped groups aggs a = becomes (late_part groups aggs) a
-
 -- whether a name is that of a window's bound
 abbrev pub is_window_bound : Option (List ℕ) → List ℕ → Bool
 is_window_bound None name = bytes_eq name (codes "WINDOWSTART") || bytes_eq name (codes "WINDOWEND")
@@ -129,7 +109,3 @@ is_bare groups a = if is_some (place_among groups a) then Some false else of (ou
 -- whether an expression, with resolved names, has such a column
 abbrev pub has_bare_column : List Expr → Expr → Bool
 has_bare_column groups a = passes (is_bare groups) a
-
--- what a part becomes where a grouping replaces some
-abbrev pub replacement : Replaced → Expr → Option Expr
-replacement r a = late_part r.groups.now r.aggs.now a

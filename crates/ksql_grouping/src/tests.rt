@@ -20,13 +20,6 @@ fn column(alloc: Global, name: &str) -> Result<Expr, Fail> {
     })
 }
 
-// A column after a grouping: its source has no name.
-fn late(alloc: Global, number: &str) -> Result<Expr, Fail> {
-    let qualifier = Some(chars(alloc, "")?);
-    let name = chars(alloc, number)?;
-    Ok(Expr::Name { qualifier, name })
-}
-
 fn call(alloc: Global, name: &str, star: bool, args: Vec<Expr>) -> Result<Expr, Fail> {
     let name = chars(alloc, name)?;
     let args = Items::of(args);
@@ -87,9 +80,6 @@ fn part(alloc: Global, word: &str, stack: &mut Vec<Expr>) -> Result<Expr, Fail> 
     if let Ok(number) = word.parse::<u64>() {
         return Ok(Expr::Digits(number));
     }
-    if let Some(number) = word.strip_prefix('#') {
-        return late(alloc, number);
-    }
     if let Some(name) = word.strip_suffix("(*)") {
         return call(alloc, name, true, Vec::new(alloc));
     }
@@ -101,7 +91,6 @@ fn part(alloc: Global, word: &str, stack: &mut Vec<Expr>) -> Result<Expr, Fail> 
         "NOT" => negation(alloc, stack),
         "IN" => one_of(alloc, stack),
         "CASE" => case(alloc, stack),
-        "NULL" => Ok(Expr::Null),
         _ => column(alloc, word),
     }
 }
@@ -144,24 +133,6 @@ fn held(alloc: Global, groups: &str, text: &str) -> Result<String, Fail> {
     Ok(words)
 }
 
-fn regrouped_by(alloc: Global, groups: &[Expr], expr: &Expr) -> Result<Expr, Fail> {
-    let aggs = once(alloc, aggregates_of(alloc, expr)?)?;
-    Ok(regrouped(alloc, groups, &aggs, expr)?)
-}
-
-fn read_regrouped(alloc: Global, groups: &str, text: &str) -> Result<Expr, Fail> {
-    let groups = read_all(alloc, groups)?;
-    let expr = read(alloc, text)?;
-    regrouped_by(alloc, &groups, &expr)
-}
-
-// Whether an expression becomes another after a grouping by these groups and its own aggregates.
-fn becomes(alloc: Global, groups: &str, text: &str, want: &str) -> Result<bool, Fail> {
-    let found = read_regrouped(alloc, groups, text)?;
-    let want = read(alloc, want)?;
-    Ok(same_expr(&found, &want))
-}
-
 #[test]
 fn what_stands_in_an_expression(rt: HostRuntime) -> Result<(), Fail> {
     for (groups, text, want) in [
@@ -185,45 +156,12 @@ fn what_stands_in_an_expression(rt: HostRuntime) -> Result<(), Fail> {
 }
 
 #[test]
-fn what_an_expression_becomes(rt: HostRuntime) -> Result<(), Fail> {
-    for (groups, text, want) in [
-        ("A", "A", "#0"),
-        ("A, A", "A", "#0"),
-        ("A", "A B SUM() +", "#0 #1 +"),
-        ("A, B", "B SUM()", "#2"),
-        ("A", "B SUM() COUNT(*) + B SUM() +", "#1 #2 + #1 +"),
-        ("A, A 1 +", "A 1 + A +", "#1 #0 +"),
-        ("A", "A B SUM() IN", "#0 #1 IN"),
-        ("A", "1 A CASE", "1 #0 CASE"),
-        ("A", "A ABS()", "#0 ABS()"),
-    ] {
-        assert!(rt; becomes(rt.alloc(), groups, text, want)?, "{text}");
-    }
-    assert!(rt; !becomes(rt.alloc(), "A", "A 1 +", "1 #0 +")?);
-    Ok(())
-}
-
-#[test]
-fn an_aggregate_without_a_column_is_null(rt: HostRuntime) -> Result<(), Fail> {
-    let alloc = rt.alloc();
-    let groups = read_all(alloc, "A")?;
-    let expr = read(alloc, "A B MAX() +")?;
-    let found = regrouped(alloc, &groups, &[], &expr)?;
-    assert!(rt; same_expr(&found, &read(alloc, "#0 NULL +")?));
-    Ok(())
-}
-
-#[test]
 fn deep_expressions_are_walked(rt: HostRuntime) -> Result<(), Fail> {
     let alloc = rt.alloc();
-    for (inner, outer, times) in [("A", " 1 +", 999), ("A", " NOT", 1998)] {
-        let behind = outer.repeat(alloc, times)?;
-        let text = format!(in alloc; "{inner}{behind}")?;
-        let want = format!(in alloc; "#0{behind}")?;
-        assert!(rt;
-            becomes(alloc, "A", text.as_str(), want.as_str())?,
-            "{outer}"
-        );
+    for (outer, times) in [(" 1 +", 999), (" NOT", 1998)] {
+        let after = outer.repeat(alloc, times)?;
+        let text = format!(in alloc; "A{after}")?;
+        assert_eq!(rt; held(alloc, "A", text.as_str())?.as_str(), "", "{outer}");
     }
     Ok(())
 }

@@ -34,7 +34,7 @@ run_at p bs n run rest e f r = subst₂ (IsRun p bs) (sym f) (sym r) (prefix_run
 word_byte_ascii : (b : ℕ) → is_word_byte b ≡ true → b < 128
 word_byte_ascii b h = grind (arith, nat_tests)
 
--- a text may be cut behind its first word
+-- a text may be cut after its first word
 pub word_boundary : (bs : List ℕ) (n : ℕ) → n ≡ prefix_len is_word_byte bs → IsUtf8 bs → IsCharBoundary bs n
 word_boundary bs n e utf8 =
     ⊎_elim

@@ -40,7 +40,7 @@ module _ (us vs : List ℕ) where
   quote_clash : (y : ℕ) → 39 ∷ us ≡ y ∷ vs → y ≢ 39 → ⊥
   quote_clash y e ne = ne (sym (head_same 39 y us vs e))
 
--- what is left behind a text that isn't closed again is the least that any text leaves
+-- what is left after a text that isn't closed again is the least that any text leaves
 pub doubled_le : (c us d vs : List ℕ) → doubled c ++ 39 ∷ us ≡ doubled d ++ 39 ∷ vs → NoneBetween 39 us → length us ≤ length vs
 doubled_le c us [] vs e none = omega (arith, ap length e, length-append (doubled c) (39 ∷ us))
 doubled_le [] us (y ∷ ys) vs e none =

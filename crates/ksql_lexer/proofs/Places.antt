@@ -138,7 +138,7 @@ text_longest text content rest held c e none f = subst (λ n. Longest text (Some
 pub text_first : (text inside rest content : List ℕ) → IsBetween 39 text inside rest → content ≡ inside → text ≡ 39 ∷ (doubled content ++ 39 ∷ rest)
 text_first text inside rest content b e = b.whole ∙ ap (λ l. 39 ∷ (l ++ 39 ∷ rest)) (sym (doubled-Lacks inside b.lacks) ∙ ap doubled (sym e))
 
--- one more piece of a text, behind a quote that was written twice
+-- one more piece of a text, after a quote that was written twice
 pub text_more : (text content rest inside behind more : List ℕ) → text ≡ 39 ∷ (doubled content ++ 39 ∷ rest) → IsBetween 39 rest inside behind → more ≡ (content ++ 39 ∷ []) ++ inside → text ≡ 39 ∷ (doubled more ++ 39 ∷ behind)
 text_more text content rest inside behind more e b m =
     let twice : doubled more ≡ (doubled content ++ 39 ∷ 39 ∷ []) ++ inside =
@@ -179,7 +179,7 @@ blank_longest (b ∷ bs) rest c e =
       longest = blank_le b bs blank;
     })
 
--- a text may be cut behind a blank
+-- a text may be cut after a blank
 pub blank_boundary : (text : List ℕ) → first_class text ≡ Some Blank → IsUtf8 text → IsCharBoundary text 1
 blank_boundary [] c utf8 = let h : None ≡ Some Blank = c in absurd cc
 blank_boundary (b ∷ bs) c utf8 =
@@ -239,7 +239,7 @@ block_longest text inner inside rest e u =
       longest = block_le inside rest u.lacks;
     })
 
--- without `--` in front, and without `/*` in front and `*/` behind it, no comment begins
+-- without `--` in front, and without `/*` in front and `*/` after it, no comment begins
 pub no_comment : (text : List ℕ) → ((rest : List ℕ) → text ≢ 45 ∷ 45 ∷ rest) → ((inside rest : List ℕ) → text ≢ 47 ∷ 42 ∷ (inside ++ 42 ∷ 47 ∷ rest)) → NoComment text
 no_comment text no_line no_block front rest e comment =
     ⊎_elim
@@ -251,7 +251,7 @@ no_comment text no_line no_block front rest e comment =
 pub stripped : (p text rest : List ℕ) → StripsPrefix (FindsTextPrefix p) text rest → text ≡ p ++ rest
 stripped p text rest h = h.1.1 ∙ ap (λ l. p ++ l) (sym h.2)
 
--- no `*/` stands behind the `/*` in front
+-- no `*/` stands after the `/*` in front
 pub front_open : (text inner : List ℕ) → text ≡ 47 ∷ 42 ∷ inner → ¬ (HasSubslice inner (codes "*/")) → NoneCloses text
 front_open text inner e none front inside rest f = at front (sym e ∙ f)
   where

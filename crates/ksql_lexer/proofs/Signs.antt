@@ -104,7 +104,7 @@ pair_spelled b c m h = of_pair (λ x y n. Spelled (Some (kind.Mark n)) (x ∷ y 
 pair_ascii : (b c : ℕ) (m : Mark) → pair_mark b c ≡ Some m → c < 128
 pair_ascii b c m h = of_pair (λ x y n. y < 128) (omega arith) (omega arith) (omega arith) (omega arith) (omega arith) b c m h
 
--- a text may be cut behind its sign
+-- a text may be cut after its sign
 pub pair_boundary : (bs : List ℕ) (m : Mark) → pair_at bs ≡ Some m → IsUtf8 bs → IsCharBoundary bs 2
 pair_boundary [] m h utf8 = cc
 pair_boundary (b ∷ []) m h utf8 = cc

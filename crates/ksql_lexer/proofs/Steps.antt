@@ -17,7 +17,7 @@ lexes_on done m = m
 lexes_on (skip l n) m = skip l (lexes_on n m)
 lexes_on (next l n) m = next l (lexes_on n m)
 
--- whether the list that comes behind these tokens has tokens already
+-- whether the list that comes after these tokens has tokens already
 abbrev begun_from : Bool → List TokenKind → Bool
 begun_from begun [] = begun
 begun_from begun (k ∷ ks) = begun_from (not (is_semicolon k)) ks

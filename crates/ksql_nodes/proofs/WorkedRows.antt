@@ -1,8 +1,9 @@
 -- Worked examples, by evaluation.
-use Rattle.std.proofs.Common.{◌≡◌, refl, sym, ℕ, ◌+◌, List, [], ◌∷◌, ◌++◌}
+use Rattle.std.proofs.Common.{◌≡◌, ◌∙◌, ap, refl, sym, ℕ, ◌+◌, List, [], ◌∷◌, ◌++◌}
 use Rattle.std.specs.Prelude.{Option, Some, None, pos, negsuc}
 use Rattle.std.specs.Int.{int_wrap}
 use Rattle.ksql_types.specs.Lane.{hash}
+use Rattle.ksql_types.specs.declared.value.SqlType.{SqlType}
 use Rattle.ksql_types.specs.declared.value.SqlType.TheVariants as sql
 use Rattle.ksql_types.specs.declared.value.Value.{Value}
 use Rattle.ksql_types.specs.declared.value.Value.TheVariants.{Null, Int, Big, Txt}
@@ -10,11 +11,12 @@ use Rattle.ksql_types.specs.declared.relation.Kind.TheVariants as kind
 use Rattle.ksql_place.specs.declared.change.Body.{Body}
 use Rattle.ksql_place.specs.declared.change.Body.TheVariants.{Said, Turned}
 use Rattle.ksql_place.specs.declared.change.Change.{Change}
-use Rattle.ksql_expr.specs.Value.{value_of, cell}
+use Rattle.ksql_expr.specs.Value.{value_of, node_value, cell}
 use Rattle.ksql_expr.specs.declared.typed.AggFun.TheVariants.{CountAll, Sum, Min, Max, Latest}
-use Rattle.ksql_expr.specs.declared.typed.Typed.{Typed}
+use Rattle.ksql_expr.specs.declared.typed.Typed.{Typed, fold-roll-Typed}
+use Rattle.ksql_expr.specs.declared.typed.TypedNode.{TypedNode, fold-TypedNode, fold-roll-TypedNode}
+use Rattle.ksql_expr.specs.declared.typed.TypedNode.TheOpen.{TypedNode-F}
 use Rattle.ksql_expr.specs.declared.typed.TypedNode.TheVariants as node
-use Rattle.ksql_expr.proofs.Values.{value_of-Column}
 use Rattle.ksql_program.specs.declared.query.Agg.{Agg}
 use Rattle.ksql_program.specs.declared.query.JoinKind.TheVariants.{Inner, Left, Full}
 use Rattle.ksql_nodes.specs.declared.node.Node.TheVariants.{Table, Group, Aggregate, JoinTables, JoinStreamTable}
@@ -30,7 +32,13 @@ abbrev column : ℕ → Typed
 column i = record { ty = Some sql.Text; node = node.Column i }
 
 column-value : (row : List Value) (time i : ℕ) → value_of row time (column i) ≡ cell row i
-column-value row time i = sym (value_of-Column row time (column i) i refl)
+unfolding value_of
+column-value row time i =
+    fold-roll-Typed (Option SqlType → Value) Value (Value × Value) (node_value row time) (λ e. e.node e.ty) (λ w. (w.cond, w.result)) (record { ty = Some sql.Text; node = node.Column i })
+    ∙ ap (λ (n : TypedNode). fold-TypedNode (Option SqlType → Value) Value (Value × Value) (node_value row time) (λ e. e.node e.ty) (λ w. (w.cond, w.result)) n (Some sql.Text))
+    (sym (node.rolls-Column i))
+    ∙ ap (λ (made : Option SqlType → Value). made (Some sql.Text))
+    (fold-roll-TypedNode (Option SqlType → Value) Value (Value × Value) (node_value row time) (λ e. e.node e.ty) (λ w. (w.cond, w.result)) (TypedNode-F.Column i))
 
 abbrev count_all : Agg
 count_all = record { fun = CountAll; arg = None }

@@ -1,4 +1,4 @@
--- What pieces that are written one behind another come to.
+-- What pieces that are written one after another come to.
 use Rattle.std.proofs.Common.{◌≡◌, ℕ, ◌+◌, ◌-◌, List, ◌++◌, length, take, drop, Option, None, Some, refl, ap, sym, ◌∙◌, append_assoc, arith}
 use Rattle.std.proofs.Math.Seq.{take-add}
 use Rattle.std.proofs.lemmas.Grind.{common_steps}
@@ -15,7 +15,7 @@ followed_by-take (Some w) piece m n =
 rest_whole : (piece : List ℕ) (m : ℕ) → take (length piece - m) (drop m piece) ≡ drop m piece
 rest_whole piece m = grind (arith, common_steps)
 
--- the first bytes of the piece stood there, and the first of the rest were written behind them
+-- the first bytes of the piece stood there, and the first of the rest were written after them
 pub written_further : (old now new : Option (List ℕ)) (piece : List ℕ) (m n : ℕ)
     → new ≡ followed_by now (take n (take (length piece - m) (drop m piece)))
     → now ≡ followed_by old (take m piece)

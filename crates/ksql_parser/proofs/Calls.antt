@@ -7,7 +7,7 @@ use Rattle.ksql_grammar.specs.declared.fault.ReadError.{ReadError}
 use Rattle.ksql_grammar.specs.declared.fault.ReadError.TheVariants.{Unspelled, OutOfMemory}
 use Rattle.ksql_grammar.specs.Reading.{Gives}
 
--- behind the first symbol
+-- after the first symbol
 pub behind_one : List Symbol → List Symbol
 behind_one [] = []
 behind_one (s ∷ ts) = ts
@@ -16,7 +16,7 @@ pub same_tail : (s t : Symbol) (ts us : List Symbol) → s ∷ ts ≡ t ∷ us �
 unfolding behind_one
 same_tail s t ts us e = ap behind_one e
 
--- a call failed for want of memory, where its reader reads something
+-- a call failed out of memory, where its reader reads something
 pub failed_at : {A B X Y : Type 0} (seen : X → A) (other : Y → B) (e : ReadError) (read : Option A) (a : A) (b : B)
     → read ≡ Some a → Gives seen (Err e) read → Gives other (Err e) (Some b)
 failed_at seen other Unspelled read a b h k = absurd (none-some a (sym k ∙ h))

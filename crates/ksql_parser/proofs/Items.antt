@@ -28,7 +28,7 @@ use Rattle.ksql_parser.proofs.Only.{both}
 use Rattle.ksql_parser.proofs.Calls.{same_tail}
 use Rattle.ksql_parser.proofs.Joins.{StartsNoAlias, alias_only}
 
--- behind a name and `.` no expression goes on with `*`
+-- after a name and `.` no expression goes on with `*`
 abbrev dot_star : List Symbol → List Symbol
 dot_star ts = Sign mark.Dot ∷ Sign mark.Star ∷ ts
 
@@ -72,7 +72,7 @@ unfolding e.within e.disjunction e.conjunction
 within_fails k n name ts h =
     chain_empty or_of (e.conjunction (e.within k)) (n ∷ dot_star ts) (chain_empty and_of (e.negations (e.within k)) (n ∷ dot_star ts) (negations_fails (e.within k) n name ts h))
 
--- behind an item no expression and no alias goes on
+-- after an item no expression and no alias goes on
 item_no_alias : (s : Symbol) → ends_item s ≡ true → StartsNoAlias s
 item_no_alias (Sign mark.Comma) h = refl
 item_no_alias (Key key.From) h = refl
@@ -180,7 +180,7 @@ item_takes i ts us (g.one {n} {us = vs} d f) = let t = takes d in let u = alias_
 
 -- ---- lists of items
 
--- what is spelled from here on is spelled behind the items that were read
+-- what is spelled from here on is spelled after the items that were read
 abbrev pub FrontSpelled : List SelectItem → List Symbol → List Symbol → Type 0
 FrontSpelled front ts whole = (is : List SelectItem) (us : List Symbol) → Spells (g.items is) ts us → Spells (g.items (front ++ is)) whole us
 
@@ -201,7 +201,7 @@ spelled_more front i ts us whole h d = λ is vs f. subst (λ xs. Spells (g.items
 from_ends : (us rest : List Symbol) → us ≡ Key key.From ∷ rest → EndsItem us
 from_ends us rest e = subst EndsItem (sym e) refl
 
--- items behind a first one that has a comma
+-- items after a first one that has a comma
 abbrev Behind : List SelectItem → SelectItem → List Symbol → List Symbol → Type 0
 Behind is i us vs = (others : List SelectItem) × (is ≡ i ∷ others) × Spells (g.items others) us vs
 

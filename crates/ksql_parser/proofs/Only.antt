@@ -40,7 +40,7 @@ tail_of : List Symbol → List Symbol
 tail_of [] = []
 tail_of (s ∷ ss) = ss
 
--- what is read: a tree, and the symbols behind it
+-- what is read: a tree, and the symbols after it
 abbrev pub both : {A : Type 0} → A → List Symbol → Option (A × List Symbol)
 both a ts = Some (a, ts)
 

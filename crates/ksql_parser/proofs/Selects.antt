@@ -113,7 +113,7 @@ parts_of q ts rest e (g.a_select {is} {s} {j} {w} {f} {g = es} {p} {h} {s0} {s1}
     let second = group_from es s5 s6 group third in
     (s4, s8, front, clauses, filter_from f s4 s5 filter second, last, emit_only s8 rest emit e)
 
--- the symbols behind a reserved word
+-- the symbols after a reserved word
 pub same_key : (k : Keyword) (ts us vs : List Symbol) → ts ≡ Key k ∷ us → behind_key k ts ≡ Some vs → us ≡ vs
 same_key k ts us vs e h = same_Some us vs (sym (ap (behind_key k) e ∙ key_there k us) ∙ h)
 

@@ -42,7 +42,7 @@ only_push tss trees ts s firsts last others are =
     let r = split_trees tss ts others are in
     r.2 ∙ (λ i. firsts r.0 r.3 i ++ last r.1 r.4.1 i ∷ [])
 
--- a refusal behind statements with trees
+-- a refusal after statements with trees
 refused_behind : (tss : List (List TokenKind)) (trees : List Statement) (rest : List (List TokenKind)) (n : ℕ) (code : Code)
     → AreTrees tss trees → FirstRefused rest n code → FirstRefused (tss ++ rest) (length tss + n) code
 refused_behind [] [] rest n code are refused =

@@ -116,7 +116,7 @@ found_of seen o P x h e = if_some o P (seen x) h e
 pub copied_of : (o : Option (Bor (List Symbol))) (p : Option (List Symbol)) (P : List Symbol → Type 0) (x : Bor (List Symbol)) → If p P → option_copied o ≡ p → o ≡ Some x → P x.now
 copied_of o p P x h e k = if_some p P x.now h (sym e ∙ ap option_copied k)
 
--- a call that failed where something stands failed for want of memory
+-- a call that failed where something stands failed out of memory
 pub failed : {A B X Y : Type 0} (seen : X → A) (other : Y → B) (e : ReadError) (a : A) (b : B) → Gives seen (Err e) (Some a) → Gives other (Err e) (Some b)
 failed seen other Unspelled a b h = absurd (none-some a (sym h))
 failed seen other OutOfMemory a b h = tt

@@ -63,7 +63,7 @@ expression ts = reading.within (suc (length ts)) ts
 pub expressions : Reader (List Expr)
 expressions ts = reading.exprs (reading.within (suc (length ts))) ts
 
--- an optional part, behind its words where they stand
+-- an optional part, after its words where they stand
 abbrev pub option_at : {A : Type 0} → Reader A → List Symbol → Option (List Symbol) → Option (Option A × List Symbol)
 option_at read ts (Some us) = read us >>= λ a. Some (Some a.0, a.1)
 option_at read ts None = Some (None, ts)
@@ -149,7 +149,7 @@ pub windowed_from : {w : Option WindowText} {ts us : List Symbol} → Spells (g.
 windowed_from (g.no_window {ts}) h = from_weaker 2 3 ts (omega arith) h
 windowed_from (g.a_window d) h = omega arith
 
--- ---- expressions behind their words
+-- ---- expressions after their words
 
 pub filter_read : {f : Option Expr} {ts us : List Symbol} → Spells (g.filter f) ts us → BeginsFrom 4 us → filter ts ≡ Some (f, us)
 unfolding filter

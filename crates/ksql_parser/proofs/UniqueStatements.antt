@@ -65,7 +65,7 @@ alias_ends (g.no_alias {ts}) h = item_ends ts h
 alias_ends (g.plain_alias {n} {name} e) h = name_ends n name e
 alias_ends (g.as_alias e) h = refl
 
--- behind a name, `.` and `*` are no expression
+-- after a name, `.` and `*` are no expression
 chain_none : (op : Symbol → Option BinaryOp) (operand : Reader Expr) (ts : List Symbol) → operand ts ≡ None → reading.chain op operand ts ≡ None
 unfolding reading.chain
 chain_none op operand ts h = ap (λ o. o >>= λ a. reading.chain_with op operand (suc (length a.1)) a.0 a.1) h

@@ -116,7 +116,7 @@ if_none : {A : Type 0} (o : Option A) (P : A → Type 0) → If o P → ((x : A)
 if_none None P h k = refl
 if_none (Some x) P h k = absurd (k x h)
 
--- behind the window stands WHERE, a later clause or nothing
+-- after the window stands WHERE, a later clause or nothing
 pub window_only : (w : Option WindowText) (ts rest : List Symbol) → Spells (g.windowed w) ts rest → BeginsFrom 3 rest → r.windowed ts ≡ Some (w, rest)
 unfolding r.windowed
 window_only w ts rest g.no_window b =

@@ -255,7 +255,7 @@ first-apart : (w : Waiting) (q : Queue) (qs : List Queue) → Follows w q → Al
 first-apart w q [] on apart = tt
 first-apart w q (r ∷ qs) on apart = (follows-apart w q r on apart.0, first-apart w q qs on apart.1)
 
--- taking a head that is after no other leaves such a state behind its stamp
+-- taking a head that is after no other leaves such a state after its stamp
 taken-left : (m : Stamp) {qs rest : List Queue} {w : Waiting} → Takes qs w rest →
     AllByRecursion (Fits m) qs → AllByRecursion IsPart qs → AllApart qs → AllByRecursion (IsNoLater w) qs → IsLeft w.stamp rest
 taken-left m (here {w} {q} {qs}) fits parts apart first =

@@ -15,7 +15,7 @@ use Rattle.ksql_place.proofs.Orders.{stamp_total}
 use Rattle.ksql_place.proofs.Stamps.{greatest-append}
 use Rattle.ksql_place.proofs.Merging.{Fits, Follows, IsPart, AreApart, AllApart, IsLeft, queue_stamps, waiting_stamps, follows-low, cmp-from_low, taken-only, taken-some}
 
--- the records of one partition behind these times
+-- the records of one partition after these times
 abbrev line : (feed topic part first : ℕ) (before times : List ℕ) → Queue
 line feed topic part first before times = map waiting (zip times (stamped feed topic part first before times))
 

@@ -11,7 +11,7 @@ greatest-append (n ∷ ns) t = omega (arith, greatest-append ns t)
 pub greatest-take_more : (times : List ℕ) (i : ℕ) → i < length times → greatest (take (i + 1) times) ≡ max (greatest (take i times)) (get_or times i 0)
 greatest-take_more times i below = ap greatest (take_more times i 0 below) ∙ omega (arith, greatest-append (take i times) (get_or times i 0))
 
--- the stamps from a record on, and those behind it
+-- the stamps from a record on, and those after it
 stamped-drop : (feed topic part first : ℕ) (times : List ℕ) (i high : ℕ) → i < length times → high ≡ greatest (take (i + 1) times) →
     stamped feed topic part first (take i times) (drop i times)
     ≡ record { feed = feed; high = high; topic = topic; part = part; offset = first + i } ∷ stamped feed topic part first (take (i + 1) times) (drop (i + 1) times)

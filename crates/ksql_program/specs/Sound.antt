@@ -12,7 +12,7 @@ use Rattle.ksql_expr.specs.declared.typed.AggFun.{AggFun}
 use Rattle.ksql_expr.specs.declared.typed.AggFun.TheVariants.{CountAll, Count, Sum}
 use Rattle.ksql_expr.specs.declared.typed.Typed.{Typed}
 use Rattle.ksql_expr.specs.declared.typed.TypedNode.TheVariants as n
-use Rattle.ksql_expr.specs.Aggregates.{HoldsNoAggregate, HoldsColumn, HoldsShortTexts}
+use Rattle.ksql_expr.specs.Aggregates.{HoldsNoAggregate, HoldsColumn, HoldsShortTexts, IsTimeless}
 use Rattle.ksql_expr.specs.Rules.{fits, agg_type}
 use Rattle.ksql_expr.specs.Typing.{IsTyped}
 use Rattle.ksql_program.specs.declared.program.Item.{Item}
@@ -60,22 +60,24 @@ pub record IsSoundDeclaration (r : Relation) : Type 0 where
 
 -- ---- expressions
 
--- an expression without an aggregate and without too long a text that has its type over columns of these types
-pub record IsSoundOver (types : List (Option SqlType)) (e : Typed) : Type 0 where
+-- an expression over rows of a relation of this kind with columns of these types: it has its type, no aggregate, no text that is
+-- too long, and the row's time over a stream alone, since a table's row is worth the same at any time
+pub record IsSoundOver (over : Kind) (types : List (Option SqlType)) (e : Typed) : Type 0 where
   pub typed : IsTyped types e
   pub plain : HoldsNoAggregate e
   pub short : HoldsShortTexts e
+  pub timeless : over ≢ kind.Stream → IsTimeless e
 
 -- each of some expressions, whose types are those of the columns, one by one
-abbrev pub AreColumns : List (Option SqlType) → List Typed → List Column → Type 0
-AreColumns types [] [] = Unit {0}
-AreColumns types (e ∷ es) (c ∷ cs) = IsSoundOver types e × (e.ty ≡ Some c.ty) × AreColumns types es cs
-AreColumns types _ _ = ⊥
+abbrev pub AreColumns : Kind → List (Option SqlType) → List Typed → List Column → Type 0
+AreColumns over types [] [] = Unit {0}
+AreColumns over types (e ∷ es) (c ∷ cs) = IsSoundOver over types e × (e.ty ≡ Some c.ty) × AreColumns over types es cs
+AreColumns over types _ _ = ⊥
 
 -- a condition
-abbrev pub IsCondition : List (Option SqlType) → Option Typed → Type 0
-IsCondition types None = Unit {0}
-IsCondition types (Some e) = IsSoundOver types e × IsTrue (fits sql.Bool e.ty)
+abbrev pub IsCondition : Kind → List (Option SqlType) → Option Typed → Type 0
+IsCondition over types None = Unit {0}
+IsCondition over types (Some e) = IsSoundOver over types e × IsTrue (fits sql.Bool e.ty)
 
 -- ---- what a query reads
 
@@ -91,7 +93,7 @@ rowkey_types _ left = []
 -- a stream is joined with a table: its key is an expression of the stream's columns, and the table has one key column
 pub record JoinsStream (on : Typed) (left right : Relation) : Type 0 where
   pub left_stream : left.kind ≡ kind.Stream
-  pub over_left : IsSoundOver (column_types (columns left)) on
+  pub over_left : IsSoundOver kind.Stream (column_types (columns left)) on
   pub some_column : HoldsColumn on
   pub one_key : length right.schema.keys ≡ 1
   pub like_key : IfSome on.ty (λ t. row_key right ≡ Some t ∷ [])
@@ -137,23 +139,20 @@ IsAggOver kind.Stream f = Unit {0}
 IsAggOver _ f = IsOverTable f
 
 -- an aggregate's argument
-abbrev pub IsArgument : List (Option SqlType) → Option Typed → Type 0
-IsArgument types None = Unit {0}
-IsArgument types (Some e) = IsSoundOver types e
+abbrev pub IsArgument : Kind → List (Option SqlType) → Option Typed → Type 0
+IsArgument over types None = Unit {0}
+IsArgument over types (Some e) = IsSoundOver over types e
 
 -- the type of an argument
 abbrev pub argument_type : Option Typed → Option (Option SqlType)
 argument_type None = None
 argument_type (Some e) = Some e.ty
 
--- aggregates over rows of these columns, and the types of the columns that they have after a grouping; one that has only NULL's
--- type has no column there
+-- aggregates over rows of these columns, and the types of the columns that they have after a grouping
 pub data Aggregates (over : Kind) (types : List (Option SqlType)) : List Agg → List (Option SqlType) → Type 0 where
   none : Aggregates over types [] []
-  more : {a : Agg} {gs : List Agg} {t : SqlType} {ts : List (Option SqlType)} → IsAggOver over a.fun → IsArgument types a.arg
-      → agg_type a.fun (argument_type a.arg) ≡ Some (Some t) → Aggregates over types gs ts → Aggregates over types (a ∷ gs) (Some t ∷ ts)
-  untyped : {a : Agg} {gs : List Agg} {ts : List (Option SqlType)} → IsAggOver over a.fun → IsArgument types a.arg
-      → agg_type a.fun (argument_type a.arg) ≡ Some None → Aggregates over types gs ts → Aggregates over types (a ∷ gs) ts
+  more : {a : Agg} {gs : List Agg} {t : Option SqlType} {ts : List (Option SqlType)} → IsAggOver over a.fun → IsArgument over types a.arg
+      → agg_type a.fun (argument_type a.arg) ≡ Some t → Aggregates over types gs ts → Aggregates over types (a ∷ gs) (t ∷ ts)
 
 -- a window: it has a size, moves on, by no more than its size, and a time has at most 64 of them
 pub record IsSoundWindow (w : Window) : Type 0 where
@@ -212,17 +211,18 @@ HasItsKey before f (shape.Group ks w gs h vs) = Unit {0}
 
 -- what is made of rows of a relation's kind with columns of these types
 pub data Makes (over : Relation) (types : List (Option SqlType)) : Shape → Relation → Type 0 where
-  plain : {ks vs : List Typed} {out : Relation} → AreColumns types ks out.schema.keys → AreColumns types vs out.schema.values
+  plain : {ks vs : List Typed} {out : Relation} → AreColumns over.kind types ks out.schema.keys → AreColumns over.kind types vs out.schema.values
       → out.kind ≡ over.kind → Makes over types (shape.Plain ks vs) out
   grouped : {ks vs : List Typed} {w : Option Window} {gs : List Agg} {h : Option Typed} {out : Relation} (ats : List (Option SqlType))
-      → 1 ≤ length ks → length ks ≤ 8 → AreColumns types ks out.schema.keys
+      → 1 ≤ length ks → length ks ≤ 8 → AreColumns over.kind types ks out.schema.keys
       → 1 ≤ length gs → Aggregates over.kind types gs ats → IsWindowed over.kind w
-      → IsCondition (map (λ k. k.ty) ks ++ ats ++ window_types w) h → AreColumns (map (λ k. k.ty) ks ++ ats ++ window_types w) vs out.schema.values
+      → IsCondition (grouped_kind w) (map (λ k. k.ty) ks ++ ats ++ window_types w) h
+      → AreColumns (grouped_kind w) (map (λ k. k.ty) ks ++ ats ++ window_types w) vs out.schema.values
       → out.kind ≡ grouped_kind w → Makes over types (shape.Group ks w gs h vs) out
 
 -- a query after some items
 pub data IsSoundQuery (before : List Item) : Query → Type 0 where
-  query : {q : Query} {types : List (Option SqlType)} {left : Relation} → Reads before q.from types left → IsCondition types q.filter
+  query : {q : Query} {types : List (Option SqlType)} {left : Relation} → Reads before q.from types left → IsCondition left.kind types q.filter
       → Makes left types q.shape q.out → HasItsKey before q.from q.shape → q.out.declared ≡ false → IsSoundQuery before q
 
 -- an item after others

@@ -35,7 +35,7 @@ pub enum JoinKind {
 
 /// What a query makes of its rows. A plain query's keys and values are over a row in `from`. A grouped query's keys,
 /// and the arguments of its aggregates, are over a row in `from`; its `having` and `values` are over a row after the
-/// grouping, which has the keys, the aggregates that have a type and, where there is a window, its start and end.
+/// grouping, which has the keys, the aggregates and, where there is a window, its start and end.
 #[derive(Debug, Drop)]
 pub enum Shape {
     Plain {

@@ -1,4 +1,4 @@
--- The first of some codes whose rule is broken, from that of the codes behind the first.
+-- The first of some codes whose rule is broken, from that of the codes after the first.
 use Rattle.std.proofs.Common.{◌≡◌, ℕ, ◌-◌, ◌≤◌, suc, Bool, true, false, List, [], ◌∷◌, length, get_or, take, drop, Option, Some, None, IsTrue, inr, arith, ap, ◌∙◌, subst}
 use Rattle.std.specs.Prelude.{◌↔◌, ◌⊎◌, IfSome}
 use Rattle.std.proofs.Math.Seq.{take-length}
@@ -9,7 +9,7 @@ use Rattle.ksql_grammar.specs.declared.tree.Statement.{Statement}
 use Rattle.ksql_rules.specs.Breaks.{Breaks}
 use Rattle.ksql_rules.specs.Lowest.{BreaksFirst, BreaksNone}
 
--- the codes behind the first
+-- the codes after the first
 abbrev pub behind : List Code → List Code
 behind codes = take (length codes - 1) (drop 1 codes)
 

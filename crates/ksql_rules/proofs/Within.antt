@@ -14,7 +14,7 @@ use Rattle.ksql_grammar.specs.declared.tree.Source.{Source}
 use Rattle.ksql_types.specs.Columns.{columns}
 use Rattle.ksql_clauses.specs.declared.sources.Known.{Known}
 use Rattle.ksql_clauses.specs.Items.{HasShortNames}
-use Rattle.ksql_clauses.specs.Sources.{alias_of, sources, known, all_known, is_full, scope_columns, scope_column, rowkey, rowkey_of, from_columns}
+use Rattle.ksql_clauses.specs.Sources.{alias_of, sources, known, all_known, is_full, key_columns_of, scope_columns, scope_column, rowkey, rowkey_of, from_columns}
 use Rattle.ksql_rules.specs.Limits.{IsRelationWithin}
 
 -- ---- lists
@@ -108,8 +108,7 @@ one-rowkey true (c ∷ cs) = omega (arith, length-map (take 1 (c ∷ cs)) rowkey
 one-rowkey false keys = omega arith
 
 rowkey-few : (q : Select) (ks : List Known) → length (rowkey q ks) ≤ 1
-rowkey-few q [] = omega arith
-rowkey-few q (k ∷ ks) = one-rowkey (is_full q) k.relation.schema.keys
+rowkey-few q ks = one-rowkey (is_full q) (key_columns_of ks)
 
 -- the columns of two sources are few
 pub few-columns : (q : Select) (ks : List Known) → All IsKnownWithin ks → length ks ≤ 2 → length (from_columns q ks) ≤ 2 ^ 32 - 2

@@ -27,7 +27,7 @@ use Rattle.ksql_clauses.specs.declared.items.Named.{Named}
 use Rattle.ksql_clauses.specs.declared.sources.Known.{Known}
 use Rattle.ksql_clauses.specs.Items.{result_columns, is_alias, is_join}
 use Rattle.ksql_rules.specs.Keys.{on_sides, join_key, key_places}
-use Rattle.ksql_clauses.specs.Properties.{are_bad, topic_in, partitions_in, format_in, value_of}
+use Rattle.ksql_clauses.specs.Properties.{are_bad, digits_in, format_in, name_of, topic_in, value_of}
 use Rattle.ksql_clauses.specs.Resolved.{resolved}
 use Rattle.ksql_clauses.specs.Sources.{all_known, has_unknown_source, have_one_alias, is_windowed, reads_stream, joined_streams, is_full, from_scope, item_scope, there, late_exprs, early_exprs, on_exprs}
 use Rattle.ksql_scope.specs.Typing.{HasType, HasValue, CanBeTrue, CanAgree}
@@ -36,8 +36,13 @@ use Rattle.ksql_clauses.specs.Windows.{is_too_large, is_bad}
 
 -- ---- TooLarge: a limit is passed
 
+-- whether a property is a PARTITIONS of more than 64
+abbrev pub wants_many_partitions : Property → Bool
+wants_many_partitions p = bytes_eq (name_of p) (codes "PARTITIONS") && nat_lt 64 (unwrap_or (digits_in p.value) 0)
+
+-- whether one of them is, also where there are several
 abbrev pub has_many_partitions : List Property → Bool
-has_many_partitions ps = nat_lt 64 (unwrap_or (partitions_in ps) 0)
+has_many_partitions ps = list_any wants_many_partitions ps
 
 -- whether a name in the result of a join, which may be made of an alias and a name, is above 128 bytes
 abbrev pub has_long_name : List Known → List Named → Bool

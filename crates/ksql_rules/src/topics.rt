@@ -6,8 +6,8 @@ ghost use Rattle.ksql_types.specs.Catalog.{has_name, has_topic as is_topic_of};
 ghost use Rattle.ksql_clauses.specs.Properties as properties;
 ghost use Rattle.ksql_rules.specs.Breaks as spec;
 
-use ksql_clauses::{has_topic, partitions_in, topic_in};
-use ksql_grammar::{Property, Statement, StatementBody};
+use ksql_clauses::{has_topic, is_word, topic_in};
+use ksql_grammar::{Property, PropertyValue, Statement, StatementBody};
 use ksql_types::{Catalog, Chars, is_topic_name};
 
 /// The most partitions of a topic.
@@ -17,9 +17,18 @@ const MOST_PARTITIONS: u64 = 64;
 pub fn has_many_partitions(props: &[Property]) -> bool
     ensures { result ≡ spec.has_many_partitions props.now }
 {
-    match partitions_in(props) {
-        None => false,
-        Some(partitions) => MOST_PARTITIONS < partitions,
+    props.iter().any(wants_many_partitions)
+}
+
+/// Whether a property is a PARTITIONS of more than a topic can have.
+fn wants_many_partitions(prop: &Property) -> bool
+    ensures { result ≡ spec.wants_many_partitions prop.now }
+{
+    match prop.value {
+        PropertyValue::Digits(number) => {
+            is_word(prop.name.items(), "PARTITIONS") && MOST_PARTITIONS < number
+        }
+        PropertyValue::Text(_) => false,
     }
 }
 

@@ -147,12 +147,9 @@ fun-decides f false es d s t g i k =
 
 unknown-decides : (f : List ℕ) (star : Bool) (es : List Expr) → Each Decides es → (s : Scope) (t : Option SqlType) → is_unknown f ≡ true
     → has (call_types None None star (each_of (map possible es) s)) t ≡ true → Has s (h.one (e.Call f star es) t)
-unknown-decides f true es d s t i k = absurd (no-type t k)
-unknown-decides f false es d s None i k = absurd (cc (k))
-unknown-decides f false es d s (Some t) i k =
+unknown-decides f star es d s t i k =
     let sets = each_of (map possible es) s in
-    let l = both-true true (list_all is_some_in sets) (passes (λ u. not (is_same None u) && list_all is_some_in sets) (Some t) k) in
-    let r = each-in (λ u. true) sets l.1 in
+    let r = each-in (λ u. true) sets (passes (λ u. list_all is_some_in sets) t k) in
     h.unknown i (each-decides es d s r.0 r.1)
 
 call-decides : (f : List ℕ) (star : Bool) (es : List Expr) → Each Decides es → (s : Scope) (t : Option SqlType) (o : Option AggFun) (p : Option Fun)

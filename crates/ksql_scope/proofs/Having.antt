@@ -57,8 +57,8 @@ module _ (p : ℕ → Bool) (single : p 1 ≡ false) where
       along s (q.names-Call f false (a ∷ []))
       (ap (λ b. list_any (counted p s) (if b then map in_aggregate us else us)) (is-aggregate f found g)
       ∙ counted-inside p s us ∙ none-either (counted p (inside s)) (names a) [] (clear k) refl)
-  clear {s} (h.unknown {f = f} {args = es} g k) =
-      along s (q.names-Call f false es)
+  clear {s} (h.unknown {f = f} {star = star} {args = es} g k) =
+      along s (q.names-Call f star es)
       (ap (λ b. list_any (counted p s) (if b then map in_aggregate (all_of (map names es)) else all_of (map names es))) (ap is_some (unknown-none f g).1) ∙ clear k)
   clear {s} h.left_out = refl
   clear {s} (h.there k) = clear k

@@ -128,12 +128,11 @@ possibly {s} (h.aggregate {f = f} {a = a} {found = found} {x = x} {t = t} g k e)
     ∙ ap (λ z. call_types (Some found) (function_of f) false (possible a z ∷ [])) (ap (λ o. seen (not (is_some o) && s.windowed) s) g))
     (has-collect (λ u. some_in (possible a (inside s)) (λ y. is_found (agg_type found (Some y)) u)) t
     ∙ some-from (possible a (inside s)) (λ y. is_found (agg_type found (Some y)) t) x (possibly k) (found-from (agg_type found (Some x)) t e))
-possibly {s} (h.unknown {f = f} {args = es} {ts = ts} {t = t} g k) =
+possibly {s} (h.unknown {f = f} {star = star} {args = es} {ts = ts} {t = t} g k) =
     let none = unknown-none f g in
-    at (Some t) (q.possible-Call f false es s ∙ ap₂ (λ o p. call_types o p false (each_of (map possible es) (scope_within f s))) none.1 none.0
-    ∙ ap (λ z. call_types None None false (each_of (map possible es) z)) (plain f s none.1))
-    (has-collect (λ u. not (is_same None u) && list_all is_some_in (each_of (map possible es) s)) (Some t)
-    ∙ all-some (each_of (map possible es) s) ts (possibly k))
+    at t (q.possible-Call f star es s ∙ ap₂ (λ o p. call_types o p star (each_of (map possible es) (scope_within f s))) none.1 none.0
+    ∙ ap (λ z. call_types None None star (each_of (map possible es) z)) (plain f s none.1))
+    (has-collect (λ u. list_all is_some_in (each_of (map possible es) s)) t ∙ all-some (each_of (map possible es) s) ts (possibly k))
 possibly {s} h.left_out = tt
 possibly {s} (h.there k) = possibly k
 possibly {s} h.none = tt

@@ -131,7 +131,7 @@ agg_types f a = collect (λ t. some_in a (λ x. is_found (agg_type f (Some x)) t
 
 -- what a call of an unknown function can have
 abbrev pub unknown_types : Bool → Types
-unknown_types holds = collect (λ t. not (is_same None t) && holds)
+unknown_types holds = collect (λ t. holds)
 
 -- ---- the sets of an expression
 
@@ -164,14 +164,11 @@ agg_call_types f star args = no_types
 abbrev pub fun_call_types : Fun → Bool → List Types → Types
 fun_call_types f star args = if star then no_types else fun_types f args
 
-abbrev pub unknown_call_types : Bool → List Types → Types
-unknown_call_types star args = if star then no_types else unknown_types (list_all is_some_in args)
-
 -- a call, from the functions of its name and the sets of its arguments
 abbrev pub call_types : Option AggFun → Option Fun → Bool → List Types → Types
 call_types (Some f) _ star args = agg_call_types f star args
 call_types None (Some f) star args = fun_call_types f star args
-call_types None None star args = unknown_call_types star args
+call_types None None star args = unknown_types (list_all is_some_in args)
 
 -- the scope of the arguments of a function
 abbrev pub scope_within : List ℕ → Scope → Scope

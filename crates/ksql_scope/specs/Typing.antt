@@ -1,5 +1,5 @@
--- The types that an expression can have in a scope: one rule for each form. A call of an unknown function fits every
--- type, so an expression that holds one can have several.
+-- The types that an expression can have in a scope: one rule for each form. A call of an unknown function can have every
+-- type, that of NULL too, which fits each other one, so an expression that holds one can have several.
 use Rattle.std.specs.Prelude.{◌≡◌, ℕ, Bool, true, false, nat_le, if◌then◌else◌, IsTrue, List, [], ◌∷◌, ◌++◌, Option, Some, None}
 use Rattle.ksql_types.specs.declared.operator.BinaryOp.{BinaryOp}
 use Rattle.ksql_types.specs.declared.value.SqlType.{SqlType}
@@ -63,8 +63,8 @@ pub data Has : Scope → Typing → Type 0 where
   count_all : {s : Scope} {f : List ℕ} → aggregate_of f ≡ Some Count → Has s (one (e.Call f true []) (Some sql.Big))
   aggregate : {s : Scope} {f : List ℕ} {a : Expr} {found : AggFun} {x t : Option SqlType}
       → aggregate_of f ≡ Some found → Has (inside s) (one a x) → agg_type found (Some x) ≡ Some t → Has s (one (e.Call f false (a ∷ [])) t)
-  unknown : {s : Scope} {f : List ℕ} {args : List Expr} {ts : List (Option SqlType)} {t : SqlType}
-      → IsTrue (is_unknown f) → Has s (each args ts) → Has s (one (e.Call f false args) (Some t))
+  unknown : {s : Scope} {f : List ℕ} {star : Bool} {args : List Expr} {ts : List (Option SqlType)} {t : Option SqlType}
+      → IsTrue (is_unknown f) → Has s (each args ts) → Has s (one (e.Call f star args) t)
   left_out : {s : Scope} → Has s (perhaps None None)
   there : {s : Scope} {a : Expr} {x : Option SqlType} → Has s (one a x) → Has s (perhaps (Some a) (Some x))
   none : {s : Scope} → Has s (each [] [])

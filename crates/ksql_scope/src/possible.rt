@@ -456,13 +456,13 @@ pub fn aggregate(fun: AggFun, arg: Types) -> Types
     }
 }
 
-/// What a call of an unknown function can have: every type, where each argument has one.
+/// What a call of an unknown function can have: every type, that of NULL too, where each argument has one.
 pub fn unknown(args: &[Types]) -> Types
     ensures { result ≡ spec.unknown_types (list_all spec.is_some_in args.now) }
 {
     let holds = have_types(args);
     Types {
-        null: false,
+        null: holds,
         int: holds,
         big: holds,
         text: holds,

@@ -11,7 +11,7 @@ use Rattle.ksql_grammar.specs.Expressions.{behind_key, behind_sign}
 use Rattle.ksql_parser.specs.Statements.{behind_by}
 use Rattle.ksql_parser.proofs.Steps.{if_some, key_found, key_there, sign_found, sign_there, by_found}
 
--- S ends at this place, and at no other behind which stands what C says; or at none of those
+-- S ends at this place, and at no other after which stands what C says; or at none of those
 pub data Settled (S C : List Symbol → Type 0) : Type 0 where
   ends : (us : List Symbol) → S us → ((vs : List Symbol) → S vs → C vs → vs ≡ us) → Settled S C
   fails : ((vs : List Symbol) → S vs → C vs → ⊥) → Settled S C
@@ -44,7 +44,7 @@ pub settled_as : {S T C D : List Symbol → Type 0} → Settled S C → ((us : L
 settled_as (ends us s only) to from = ends us (to us s) (λ vs t d. let h = from vs t d in only vs h.0 h.1)
 settled_as (fails none) to from = fails (λ vs t d. let h = from vs t d in none vs h.0 h.1)
 
--- by one in front and another behind it
+-- by one in front and another after it
 module _ {S C R D : List Symbol → Type 0} (T : List Symbol → List Symbol → Type 0) (to : (us vs : List Symbol) → S us → T us vs → R vs)
     (from : (vs : List Symbol) → R vs → D vs → (us : List Symbol) × S us × C us × T us vs) where
   behind_front : (us : List Symbol) → S us → ((vs : List Symbol) → S vs → C vs → vs ≡ us) → Settled (T us) D → Settled R D
@@ -62,7 +62,7 @@ pub settled_then : {S C D : List Symbol → Type 0} (T : List Symbol → List Sy
     → ((us vs : List Symbol) → T us vs → D vs → C us) → Settled (λ vs. (us : List Symbol) × S us × T us vs) D
 settled_then T first next back = settled_by T (λ us vs s t. (us, s, t)) (λ vs h d. (h.0, h.1, back h.0 vs h.2 d, h.2)) first (λ us s. next us)
 
--- behind a reserved word, a sign or a word and BY
+-- after a reserved word, a sign or a word and BY
 pub key_here : (k : Keyword) (ts us : List Symbol) → behind_key k ts ≡ Some us → ts ≡ Key k ∷ us
 key_here k ts us e = if_some (behind_key k ts) (λ us. ts ≡ Key k ∷ us) us (key_found k ts) e
 

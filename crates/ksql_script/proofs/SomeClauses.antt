@@ -41,7 +41,7 @@ some_exprs ts =
     (λ x e. read_some (reading.exprs inner ts) (λ x. Spells (g.exprs x.0) ts x.1) x (exprs_found inner (within_found (suc (length ts))) ts) e)
     (λ es us d c. expressions_only es ts us d c)
 
--- ---- a clause that may be left out: behind its words an expression
+-- ---- a clause that may be left out: after its words an expression
 
 module _ (p : Option Expr → Phrase) (n : ℕ) (ts : List Symbol) (absent : Spells (p None) ts ts) where
   clause_at : (o : Option (List Symbol)) → ((us : List Symbol) → o ≡ Some us → (a : Expr) (vs : List Symbol) → Spells (at expr a) us vs → Spells (p (Some a)) ts vs)

@@ -49,7 +49,7 @@ some_between q (b ∷ bs) =
     (λ other. inr (λ inside rest f. other (head_same b q bs (inside ++ q ∷ rest) f)))
     (cases_eq b q)
 
--- behind two bytes, where they are its first
+-- after two bytes, where they are its first
 abbrev pub BeginsBy : ℕ → ℕ → List ℕ → Type 0
 BeginsBy x y text = (rest : List ℕ) × (text ≡ x ∷ y ∷ rest)
 

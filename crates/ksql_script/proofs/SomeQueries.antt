@@ -55,7 +55,7 @@ some_item ts = star_at (behind_sign mark.Star ts) refl
         let here = sign_here mark.Star ts us e in
         ends us (Star, behind here g.star) (λ vs s c. (some_pair_parts s.0 Star vs us (item_star s.0 ts us vs here s.1)).1)
 
--- behind an item: nothing more of the list, or a comma and the others
+-- after an item: nothing more of the list, or a comma and the others
 abbrev Further : List Symbol → List Symbol → Type 0
 Further us vs = (vs ≡ us) ⊎ ((ws : List Symbol) × (us ≡ Sign mark.Comma ∷ ws) × Spelt g.items ws vs)
 

@@ -1,4 +1,4 @@
--- The relations of a catalog behind their names, a relation found and a relation added.
+-- The relations of a catalog under their names, a relation found and a relation added.
 use Rattle.std.proofs.Common.{◌≡◌, ℕ, ◌+◌, List, [], ◌∷◌, ◌++◌, length, Bool, true, false, cond, not, ◌&&◌, ◌||◌, ◌==◌, Option, None, Some, Bor, refl, sym, ap, ap₂, ◌∙◌, true≢false, is_none, option_copied, slice_get, suc, IfSome, arith, eq-eqb, eqb-true, find}
 use Rattle.std.proofs.lemmas.List.{map-append}
 use Rattle.std.proofs.lemmas.List.Folds.{list_all-append, list_any-append}
@@ -30,7 +30,7 @@ both_true s t p q = ap₂ (λ a b. a && b) p q
 both_false : (s t : Bool) → s ≡ false → t ≡ false → (s || t) ≡ false
 both_false s t p q = ap₂ (λ a b. a || b) p q
 
--- the first entry of relations behind their names
+-- the first entry of relations under their names
 module _ (k : List ℕ) (r : Relation) (es : Entries) (named : AreNamed ((k, r) ∷ es)) where
   own_name : k ≡ r.name
   own_name = (bytes_decides k r.name).0 (first_so (bytes_eq k r.name) (list_all (λ e. bytes_eq e.0 e.1.name) es) named)
@@ -56,7 +56,7 @@ pub is_none-copied : (o : Option (Bor Relation)) → is_none o ≡ is_none (opti
 is_none-copied None = refl
 is_none-copied (Some r) = refl
 
--- a relation stands so far behind the first as its number is above a number
+-- a relation stands so far after the first as its number is above a number
 abbrev StandsFrom : ℕ → List Relation → Relation → Type 0
 StandsFrom first rs r = (i : ℕ) × (r.number ≡ first + i) × (slice_get rs i ≡ Some r)
 

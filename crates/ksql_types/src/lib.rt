@@ -27,7 +27,9 @@ pub use lanes::{key_bytes, lane};
 pub use names::{are_column_names, is_among, is_topic_name};
 pub use operator::BinaryOp;
 pub use order::{cmp_key, cmp_task, keys_are_ordered};
-pub use relation::{Column, Columns, Format, Kind, Relation, Schema, Span, TaskName, Window};
+pub use relation::{
+    Changelog, Column, Columns, Format, Kind, Relation, Schema, Span, StoreEntry, TaskName, Window,
+};
 pub use value::{LONGEST_VALUE, Row, SqlType, Value};
 pub use word::{Word, Words};
 

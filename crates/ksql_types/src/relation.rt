@@ -1,3 +1,4 @@
+use crate::Bytes;
 use crate::chars::Chars;
 use crate::copying::CopyOf;
 use crate::items::Items;
@@ -73,6 +74,18 @@ pub struct TaskName {
     pub part: u32,
 }
 
+/// What a commit says of one key of a state store: its value, or None where it is deleted. `store` is 0 for `left`, 1 for
+/// `right` and 2 for `aggregate`.
+#[derive(Debug, Drop)]
+pub struct StoreEntry {
+    pub store: u32,
+    pub key: Bytes,
+    pub value: Option<Bytes>,
+}
+
+/// Entries in the order of their writing.
+pub type Changelog = Items<StoreEntry>;
+
 impl CopyOf for Column {
     fn copy(&self, alloc: Global) -> Result<Column, AllocError> {
         Ok(Column {
@@ -102,6 +115,16 @@ impl CopyOf for Relation {
             partitions: self.partitions,
             format: self.format,
             declared: self.declared,
+        })
+    }
+}
+
+impl CopyOf for StoreEntry {
+    fn copy(&self, alloc: Global) -> Result<StoreEntry, AllocError> {
+        Ok(StoreEntry {
+            store: self.store,
+            key: self.key.copy(alloc)?,
+            value: self.value.copy(alloc)?,
         })
     }
 }

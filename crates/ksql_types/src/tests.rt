@@ -198,7 +198,7 @@ fn is_added(alloc: Global, catalog: &mut Catalog, name: &str, topic: &str) -> Re
     match catalog.add(alloc, relation(alloc, number as u32, name, topic)?) {
         Ok(()) => Ok(true),
         Err(AddRefusal::NameTaken) => Ok(false),
-        Err(AddRefusal::OutOfMemory) => Err(Fail::from("want of memory")),
+        Err(AddRefusal::OutOfMemory) => Err(Fail::from("out of memory")),
     }
 }
 

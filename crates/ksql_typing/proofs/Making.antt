@@ -161,7 +161,7 @@ makes {s} (h.aggregate {f = f} {a = a} {found = found} {x = x} {t = t} g k e) u 
           (ap (λ o. after o (λ v. Some (v ∷ []))) r.1) (typed-form (agg_type found (Some r.0.ty)) t form (ap (λ v. agg_type found (Some v)) r.2 ∙ e)),
       refl,
     )
-makes {s} (h.unknown {f = f} {args = es} g k) u = never (is_unknown f) g (within-known f false es u).0
+makes {s} (h.unknown {f = f} {star = star} {args = es} g k) u = never (is_unknown f) g (within-known f star es u).0
 makes h.left_out u = (None, refl, refl)
 makes (h.there k) u =
     let r = makes k u in

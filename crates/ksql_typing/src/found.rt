@@ -10,10 +10,11 @@ use crate::judged::{self, Judged, Parts, Perhaps, WhenParts};
 use ksql_types::{BinaryOp, Chars, SqlType};
 use std::alloc::{AllocError, Global};
 
-/// What was found out, unless memory ran out. The functions of such parts keep the frames that stand on the stack once
-/// for each level of a tree small.
+/// What was found out, unless memory ran out. The functions of such parts aren't inlined: they keep the frames that stand
+/// on the stack once for each level of a tree small.
 pub type Found<T> = Result<T, AllocError>;
 
+#[inline(never)]
 pub fn sign(alloc: Global, minus: bool, arg: Found<Judged>) -> Found<Judged>
     ensures { (x : OneJudged) → IfOk arg (λ a. a ≡ x) → IfOk result (λ j. j ≡ spec.sign minus x) }
 {
@@ -21,6 +22,7 @@ pub fn sign(alloc: Global, minus: bool, arg: Found<Judged>) -> Found<Judged>
     judged::sign(alloc, minus, arg)
 }
 
+#[inline(never)]
 pub fn binary(
     alloc: Global,
     op: BinaryOp,
@@ -35,6 +37,7 @@ pub fn binary(
     judged::binary(alloc, op, left, right)
 }
 
+#[inline(never)]
 pub fn negation(alloc: Global, arg: Found<Judged>) -> Found<Judged>
     ensures { (x : OneJudged) → IfOk arg (λ a. a ≡ x) → IfOk result (λ j. j ≡ spec.negation x) }
 {
@@ -42,6 +45,7 @@ pub fn negation(alloc: Global, arg: Found<Judged>) -> Found<Judged>
     judged::negation(alloc, arg)
 }
 
+#[inline(never)]
 pub fn is_null(alloc: Global, negated: bool, arg: Found<Judged>) -> Found<Judged>
     ensures { (x : OneJudged) → IfOk arg (λ a. a ≡ x) → IfOk result (λ j. j ≡ spec.is_null negated x) }
 {
@@ -49,6 +53,7 @@ pub fn is_null(alloc: Global, negated: bool, arg: Found<Judged>) -> Found<Judged
     judged::is_null(alloc, negated, arg)
 }
 
+#[inline(never)]
 pub fn between(
     alloc: Global,
     negated: bool,
@@ -65,6 +70,7 @@ pub fn between(
     judged::between(alloc, negated, arg, low, high)
 }
 
+#[inline(never)]
 pub fn one_of(
     alloc: Global,
     negated: bool,
@@ -79,6 +85,7 @@ pub fn one_of(
     judged::one_of(alloc, negated, arg, choices)
 }
 
+#[inline(never)]
 pub fn like(alloc: Global, negated: bool, arg: Found<Judged>, pattern: &Chars) -> Found<Judged>
     ensures { (x : OneJudged) → IfOk arg (λ a. a ≡ x) → IfOk result (λ j. j ≡ spec.like negated pattern.now x) }
 {
@@ -86,6 +93,7 @@ pub fn like(alloc: Global, negated: bool, arg: Found<Judged>, pattern: &Chars) -
     judged::like(alloc, negated, arg, pattern)
 }
 
+#[inline(never)]
 pub fn cast(alloc: Global, arg: Found<Judged>, to: SqlType) -> Found<Judged>
     ensures { (x : OneJudged) → IfOk arg (λ a. a ≡ x) → IfOk result (λ j. j ≡ spec.cast to x) }
 {
@@ -93,6 +101,7 @@ pub fn cast(alloc: Global, arg: Found<Judged>, to: SqlType) -> Found<Judged>
     judged::cast(alloc, arg, to)
 }
 
+#[inline(never)]
 pub fn case(
     alloc: Global,
     arg: Found<Perhaps>,
@@ -108,6 +117,7 @@ pub fn case(
     judged::case(alloc, arg, whens, otherwise)
 }
 
+#[inline(never)]
 pub fn call(alloc: Global, name: &str, star: bool, args: Found<Parts>) -> Found<Judged>
     ensures { (xs : List OneJudged) → IfOk args (λ p. AreOf p xs) → IfOk result (λ j. j ≡ spec.call name.now star xs) }
 {
@@ -115,6 +125,7 @@ pub fn call(alloc: Global, name: &str, star: bool, args: Found<Parts>) -> Found<
     judged::call(alloc, name, star, args)
 }
 
+#[inline(never)]
 pub fn there(part: Found<Judged>) -> Found<Perhaps>
     ensures { (x : OneJudged) → IfOk part (λ a. a ≡ x) → IfOk result (λ p. p ≡ spec.there x) }
 {
@@ -123,6 +134,7 @@ pub fn there(part: Found<Judged>) -> Found<Perhaps>
 }
 
 /// With one more expression after them.
+#[inline(never)]
 pub fn with_part(parts: Parts, part: Found<Judged>) -> Found<Parts>
     ensures { (x : OneJudged) (xs : List OneJudged) → IfOk part (λ a. a ≡ x) → AreOf parts xs
         → IfOk result (λ all. AreOf all (xs ++ x ∷ [])) }
@@ -132,6 +144,7 @@ pub fn with_part(parts: Parts, part: Found<Judged>) -> Found<Parts>
 }
 
 /// With one more WHEN after them.
+#[inline(never)]
 pub fn with_when(parts: WhenParts, cond: Found<Judged>, then: Found<Judged>) -> Found<WhenParts>
     ensures { (x y : OneJudged) (ws : List JudgedWhen) → IfOk cond (λ a. a ≡ x) → IfOk then (λ a. a ≡ y)
         → AreOfWhens parts ws → IfOk result (λ all. AreOfWhens all (ws ++ spec.when x y ∷ [])) }

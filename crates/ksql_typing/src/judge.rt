@@ -86,6 +86,7 @@ pub fn judge(
 }
 
 #[cycle(judge)]
+#[inline(never)]
 fn judge_binary(
     alloc: Global,
     scope: &Scope,
@@ -108,6 +109,7 @@ fn judge_binary(
 }
 
 #[cycle(judge)]
+#[inline(never)]
 fn judge_between(
     alloc: Global,
     scope: &Scope,
@@ -134,6 +136,7 @@ fn judge_between(
 }
 
 #[cycle(judge)]
+#[inline(never)]
 fn judge_one_of(
     alloc: Global,
     scope: &Scope,
@@ -157,6 +160,7 @@ fn judge_one_of(
 }
 
 #[cycle(judge)]
+#[inline(never)]
 fn judge_case(
     alloc: Global,
     scope: &Scope,
@@ -188,6 +192,7 @@ fn within(name: &str, windowed: bool) -> bool
 }
 
 #[cycle(judge)]
+#[inline(never)]
 fn judge_call(
     alloc: Global,
     scope: &Scope,
@@ -206,6 +211,7 @@ fn judge_call(
 }
 
 #[cycle(judge)]
+#[inline(never)]
 fn judge_each(alloc: Global, scope: &Scope, windowed: bool, exprs: &[Expr]) -> Found<Parts>
     requires small { IsTrue (are_small exprs.now) }
     requires columns { length scope.now.columns ≤ 2 ^ 32 - 2 }
@@ -219,6 +225,7 @@ fn judge_each(alloc: Global, scope: &Scope, windowed: bool, exprs: &[Expr]) -> F
 }
 
 #[cycle(judge)]
+#[inline(never)]
 fn judge_perhaps(
     alloc: Global,
     scope: &Scope,
@@ -236,6 +243,7 @@ fn judge_perhaps(
 }
 
 #[cycle(judge)]
+#[inline(never)]
 fn judge_whens(alloc: Global, scope: &Scope, windowed: bool, whens: &[WhenText]) -> Found<WhenParts>
     requires small { IsTrue (are_whens_small whens.now) }
     requires columns { length scope.now.columns ≤ 2 ^ 32 - 2 }

@@ -197,6 +197,7 @@ fn sure(tree: Option<Typed>, ty: SqlType) -> Judged
     }
 }
 
+#[inline(never)]
 pub fn digits(number: u64) -> Judged
     requires { number ≤ 9223372036854775807 }
     ensures { result ≡ spec.sure (made.literal_tree (digits_value number)) (digits_type number) }
@@ -209,18 +210,21 @@ pub fn digits(number: u64) -> Judged
     sure(Some(form::digits(number)), ty)
 }
 
+#[inline(never)]
 pub fn text(alloc: Global, content: &Chars) -> Result<Judged, AllocError>
     ensures { IfOk result (λ j. j ≡ spec.sure (made.literal_tree (value.Txt content.now)) SqlType.Text) }
 {
     Ok(sure(form::text(alloc, content)?, SqlType::Text))
 }
 
+#[inline(never)]
 pub fn truth(truth: bool) -> Judged
     ensures { result ≡ spec.sure (made.literal_tree (value.Bool truth)) SqlType.Bool }
 {
     sure(Some(form::truth(truth)), SqlType::Bool)
 }
 
+#[inline(never)]
 pub fn null() -> Judged
     ensures { result ≡ spec.null }
 {
@@ -233,6 +237,7 @@ pub fn null() -> Judged
 }
 
 /// A name in a scope, in which the bounds of windows can be named where `windowed` is true.
+#[inline(never)]
 pub fn name(scope: &Scope, windowed: bool, qualifier: &Option<Chars>, name: &Chars) -> Judged
     requires { length scope.now.columns ≤ 2 ^ 32 - 2 }
     ensures { result ≡ spec.named (sense (meanings (seen windowed scope.now) qualifier.now name.now)) }
@@ -562,10 +567,8 @@ fn call_types(name: &str, star: bool, args: &[Types]) -> Types
     if let Some(fun) = aggregate_of(name) {
         return agg_call_types(fun, star, args);
     }
-    if star {
-        return possible::where_found(false, None);
-    }
     match function_of(name) {
+        Some(_) if star => possible::where_found(false, None),
         Some(fun) => possible::call(fun, args),
         None => possible::unknown(args),
     }

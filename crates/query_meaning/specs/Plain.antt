@@ -1,7 +1,8 @@
 -- What a change gives to a query over one relation without a grouping, and where the changes of a relation lie.
-use Rattle.std.specs.Prelude.{ℕ, List, [], ◌∷◌, ◌++◌, flat_map, filter, ◌==◌, Bool, true, if◌then◌else◌, Option, Some, None}
+use Rattle.std.specs.Prelude.{ℕ, ◌≡◌, List, [], ◌∷◌, ◌++◌, flat_map, filter, replicate, ◌==◌, Bool, true, if◌then◌else◌, Option, Some, None}
 use Rattle.ksql_types.specs.declared.relation.Kind.TheVariants.{Stream}
 use Rattle.ksql_types.specs.declared.value.Value.{Value}
+use Rattle.ksql_types.specs.declared.value.Value.TheVariants.{Null}
 use Rattle.ksql_place.specs.Said.{saying}
 use Rattle.ksql_place.specs.declared.change.Body.{Body}
 use Rattle.ksql_place.specs.declared.change.Change.{Change}
@@ -12,6 +13,7 @@ use Rattle.ksql_nodes.specs.Entries.{Row}
 use Rattle.ksql_nodes.specs.Rows.{filtered, selected, values}
 use Rattle.query_meaning.specs.Queries.{key_cells, with_key_cells}
 use Rattle.query_meaning.specs.declared.meaning.At.{At}
+use Rattle.query_meaning.specs.declared.meaning.Plain.{Plain}
 use Rattle.query_meaning.specs.declared.meaning.Listed.{Listed}
 use Rattle.query_meaning.specs.declared.meaning.Listed.TheVariants.{Lent, Made}
 
@@ -33,6 +35,10 @@ change_at at body = record {
   span = at.span;
   body = body;
 }
+
+-- a plain query has a NULL for each key column of its source
+abbrev pub HasNulls : Plain → Type 0
+HasNulls plain = plain.nulls.items ≡ replicate plain.columns Null
 
 -- whether a row passes WHERE at a time
 abbrev pub passes : Option Typed → Row → ℕ → Bool

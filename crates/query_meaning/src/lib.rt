@@ -5,6 +5,11 @@ mod built;
 mod meaning;
 
 pub use built::first_unbuilt;
+pub use ksql_nodes::{Node, Nodes, Side};
+pub use ksql_program::{
+    Agg, Aggs, From, Item, JoinKind, Program, ProgramItems, Query, Shape, relation_of,
+};
+pub use ksql_types::Window;
 pub use meaning::{Listed, Lists, partition_of, slow_meaning};
 
 #[cfg(test)]

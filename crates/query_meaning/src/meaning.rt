@@ -2,14 +2,15 @@ ghost use Rattle.std.specs.Prelude.{◌≡◌, ◌<◌, ◌≤◌, [], ◌∷◌
 ghost use Rattle.std.specs.List.{flat_map};
 ghost use Rattle.ksql_types.specs.declared.value.Value.TheVariants.{Null};
 ghost use Rattle.ksql_place.specs.declared.change.Body.TheVariants as body;
-ghost use Rattle.ksql_expr.specs.Value.{is_true_value};
+ghost use Rattle.ksql_eval.specs.View.{cells};
 ghost use Rattle.ksql_nodes.specs.Rows.{key_of, turned, values};
 ghost use Rattle.query_meaning.specs.Built.{is_built, is_plain, reads_one, AreBuilt};
 ghost use Rattle.query_meaning.specs.Meaning.{item_changes, meaning, partition_of};
-ghost use Rattle.query_meaning.specs.Plain.{change_at, changes_of, passes, plain_gives, row_left, rows_said};
+ghost use Rattle.query_meaning.specs.Plain.{HasNulls, change_at, changes_of, passes, plain_gives, row_left, rows_said};
 ghost use Rattle.query_meaning.specs.Queries.{key_cells, key_columns, query_changes};
 
-use ksql_expr::{Typed, eval};
+use ksql_eval::{RowView, eval, holds};
+use ksql_expr::Typed;
 use ksql_place::{Body, Change, Changes, Path, Place, SourceRecord, Stamp, said_by};
 use ksql_program::{From, Item, Program, Query, Shape, relation_of};
 use ksql_types::{CopyOf, Items, Key, Kind, Relation, Row, Span, Value, lane};
@@ -28,10 +29,12 @@ pub enum Listed<'a> {
 /// One list of changes for each relation of a program, in the order of its items.
 pub type Lists<'a> = Vec<Listed<'a>>;
 
-/// A query over one relation without a grouping: how many key columns the relation has, WHERE, and the select list.
+/// A query over one relation without a grouping: how many key columns the relation has, a NULL for each of them, WHERE,
+/// and the select list.
 #[derive(Drop)]
 struct Plain<'a> {
     columns: usize,
+    nulls: Vec<Value>,
     filter: &'a Option<Typed>,
     keys: &'a [Typed],
     values: &'a [Typed],
@@ -115,16 +118,38 @@ fn query_changes(
     let Shape::Plain { keys, values } = &query.shape else {
         unreachable!()
     };
-    let plain = Plain {
-        columns: key_columns(program, *relation),
-        filter: &query.filter,
-        keys: keys.items(),
-        values: values.items(),
-    };
     match lists.get(*relation as usize) {
-        Some(source) => results_of(alloc, &plain, source),
+        Some(source) => plain_changes(
+            alloc,
+            key_columns(program, *relation),
+            &query.filter,
+            keys.items(),
+            values.items(),
+            source,
+        ),
         None => Ok(Vec::new(alloc)),
     }
+}
+
+/// What the changes of a relation with so many key columns give to a query without a grouping.
+fn plain_changes(
+    alloc: Global,
+    columns: usize,
+    filter: &Option<Typed>,
+    keys: &[Typed],
+    values: &[Typed],
+    source: &Listed,
+) -> Result<Vec<Change>, AllocError>
+    ensures { IfOk result (λ changes. changes.items ≡ flat_map (plain_gives columns filter.now keys.now values.now) (changes_of source.now)) }
+{
+    let plain = Plain {
+        columns,
+        nulls: nulls(alloc, columns)?,
+        filter,
+        keys,
+        values,
+    };
+    results_of(alloc, &plain, source)
 }
 
 /// How many key columns a relation has.
@@ -139,6 +164,7 @@ fn key_columns(program: &Program, relation: u32) -> usize
 
 /// What the changes of a relation give to a query.
 fn results_of(alloc: Global, plain: &Plain, source: &Listed) -> Result<Vec<Change>, AllocError>
+    requires { HasNulls plain.now }
     ensures { IfOk result (λ changes. changes.items ≡ flat_map (plain_gives plain.now.columns plain.now.filter.now plain.now.keys.now plain.now.values.now) (changes_of source.now)) }
 {
     match source {
@@ -154,12 +180,12 @@ fn results_of_records(
     number: u32,
     order: &[SourceRecord],
 ) -> Result<Vec<Change>, AllocError>
+    requires { HasNulls plain.now }
     ensures { IfOk result (λ changes. changes.items ≡ flat_map (plain_gives plain.now.columns plain.now.filter.now plain.now.keys.now plain.now.values.now) (rows_said number order.now)) }
 {
     let mut changes = Vec::new(alloc);
-    let mut whole = Vec::new(alloc);
     for fed in order {
-        push_record(alloc, &mut changes, &mut whole, plain, number, fed)?;
+        push_record(alloc, &mut changes, plain, number, fed)?;
     }
     Ok(changes)
 }
@@ -170,25 +196,25 @@ fn results_of_changes(
     plain: &Plain,
     source: &[Change],
 ) -> Result<Vec<Change>, AllocError>
+    requires { HasNulls plain.now }
     ensures { IfOk result (λ changes. changes.items ≡ flat_map (plain_gives plain.now.columns plain.now.filter.now plain.now.keys.now plain.now.values.now) source.now) }
 {
     let mut changes = Vec::new(alloc);
-    let mut whole = Vec::new(alloc);
     for change in source {
-        push_result(alloc, &mut changes, &mut whole, plain, change)?;
+        push_result(alloc, &mut changes, plain, change)?;
     }
     Ok(changes)
 }
 
-/// Adds what a record gives to a query over a stream of this number. What `whole` held before doesn't matter.
+/// Adds what a record gives to a query over a stream of this number.
 fn push_record(
     alloc: Global,
     changes: &mut Vec<Change>,
-    whole: &mut Vec<Value>,
     plain: &Plain,
     number: u32,
     fed: &SourceRecord,
 ) -> Result<(), AllocError>
+    requires { HasNulls plain.now }
     ensures { OnOk result (changes.new.items ≡ changes.old.items ++ flat_map (plain_gives plain.now.columns plain.now.filter.now plain.now.keys.now plain.now.values.now) (rows_said number (fed.now ∷ []))) }
 {
     if fed.stamp.topic != number {
@@ -205,17 +231,17 @@ fn push_record(
         key: &fed.key,
         span: None,
     };
-    push_said(alloc, changes, whole, plain, at, row.items())
+    push_said(alloc, changes, plain, at, row.items())
 }
 
-/// Adds what a change gives to a query. What `whole` held before doesn't matter.
+/// Adds what a change gives to a query.
 fn push_result(
     alloc: Global,
     changes: &mut Vec<Change>,
-    whole: &mut Vec<Value>,
     plain: &Plain,
     change: &Change,
 ) -> Result<(), AllocError>
+    requires { HasNulls plain.now }
     ensures { OnOk result (changes.new.items ≡ changes.old.items ++ plain_gives plain.now.columns plain.now.filter.now plain.now.keys.now plain.now.values.now change.now) }
 {
     let at = At {
@@ -226,49 +252,46 @@ fn push_result(
         span: change.span,
     };
     match &change.body {
-        Body::Said(row) => push_said(alloc, changes, whole, plain, at, row.items()),
-        Body::Turned { old, new } => push_turned(alloc, changes, whole, plain, at, old, new),
+        Body::Said(row) => push_said(alloc, changes, plain, at, row.items()),
+        Body::Turned { old, new } => push_turned(alloc, changes, plain, at, old, new),
     }
 }
 
-/// Adds what a stream's change gives. What `whole` held before doesn't matter.
+/// Adds what a stream's change gives.
 fn push_said(
     alloc: Global,
     changes: &mut Vec<Change>,
-    whole: &mut Vec<Value>,
     plain: &Plain,
     at: At,
     row: &[Value],
 ) -> Result<(), AllocError>
+    requires { HasNulls plain.now }
     ensures { OnOk result (changes.new.items ≡ changes.old.items ++ plain_gives plain.now.columns plain.now.filter.now plain.now.keys.now plain.now.values.now (change_at at.entry (body.Said row.now))) }
 {
-    fill(alloc, whole, plain.columns, at.key, row)?;
-    if !passes(alloc, plain.filter, whole.as_slice(), at.time)? {
+    let view = view_of(plain, at, row);
+    if !passes(alloc, plain.filter, &view)? {
         return Ok(());
     }
-    let key = key_of(
-        alloc,
-        values_of(alloc, plain.keys, whole.as_slice(), at.time)?,
-    );
-    let said = values_of(alloc, plain.values, whole.as_slice(), at.time)?;
+    let key = key_of(alloc, values_of(alloc, plain.keys, &view)?);
+    let said = values_of(alloc, plain.values, &view)?;
     changes.push(result_at(alloc, at, key, Body::Said(Items::of(said)))?)?;
     Ok(())
 }
 
-/// Adds what a table's change gives. What `whole` held before doesn't matter.
+/// Adds what a table's change gives.
 fn push_turned(
     alloc: Global,
     changes: &mut Vec<Change>,
-    whole: &mut Vec<Value>,
     plain: &Plain,
     at: At,
     old: &Option<Row>,
     new: &Option<Row>,
 ) -> Result<(), AllocError>
+    requires { HasNulls plain.now }
     ensures { OnOk result (changes.new.items ≡ changes.old.items ++ plain_gives plain.now.columns plain.now.filter.now plain.now.keys.now plain.now.values.now (change_at at.entry (body.Turned old.now new.now))) }
 {
-    let old = row_of(alloc, whole, plain, at, old)?;
-    let new = row_of(alloc, whole, plain, at, new)?;
+    let old = row_of(alloc, plain, at, old)?;
+    let new = row_of(alloc, plain, at, new)?;
     let Some(body) = turned(old, new) else {
         return Ok(());
     };
@@ -291,21 +314,21 @@ fn turned(old: Option<Row>, new: Option<Row>) -> Option<Body>
 /// What the select list makes of a table's row, where there is one that passes WHERE.
 fn row_of(
     alloc: Global,
-    whole: &mut Vec<Value>,
     plain: &Plain,
     at: At,
     row: &Option<Row>,
 ) -> Result<Option<Row>, AllocError>
+    requires { HasNulls plain.now }
     ensures { IfOk result (λ left. left ≡ option_and_then (row_left plain.now.columns plain.now.filter.now plain.now.values.now at.entry.time at.entry.key.now) row.now) }
 {
     let Some(row) = row else {
         return Ok(None);
     };
-    fill(alloc, whole, plain.columns, at.key, row.items())?;
-    if !passes(alloc, plain.filter, whole.as_slice(), at.time)? {
+    let view = view_of(plain, at, row.items());
+    if !passes(alloc, plain.filter, &view)? {
         return Ok(None);
     }
-    let values = values_of(alloc, plain.values, whole.as_slice(), at.time)?;
+    let values = values_of(alloc, plain.values, &view)?;
     Ok(Some(Items::of(values)))
 }
 
@@ -325,78 +348,51 @@ fn result_at(alloc: Global, at: At, key: Key, body: Body) -> Result<Change, Allo
     })
 }
 
-/// Makes `whole` the row with its key columns in front.
-fn fill(
-    alloc: Global,
-    whole: &mut Vec<Value>,
-    columns: usize,
-    key: &Key,
-    row: &[Value],
-) -> Result<(), AllocError>
-    ensures { OnOk result (whole.new.items ≡ key_cells columns key.now ++ row.now) }
+/// A NULL for each key column.
+fn nulls(alloc: Global, columns: usize) -> Result<Vec<Value>, AllocError>
+    ensures { IfOk result (λ row. row.items ≡ replicate columns Null) }
 {
-    whole.clear();
-    match key.items() {
-        [] => push_nulls(whole, columns)?,
-        cells => push_copies(alloc, whole, cells)?,
-    }
-    push_copies(alloc, whole, row)
-}
-
-/// Adds so many NULLs.
-fn push_nulls(row: &mut Vec<Value>, columns: usize) -> Result<(), AllocError>
-    ensures { OnOk result (row.new.items ≡ row.old.items ++ replicate columns Null) }
-{
+    let mut row = Vec::with_capacity(alloc, columns)?;
     for _ in 0..columns {
         row.push(Value::Null)?;
     }
-    Ok(())
+    Ok(row)
 }
 
-/// Adds copies of values.
-fn push_copies(alloc: Global, row: &mut Vec<Value>, values: &[Value]) -> Result<(), AllocError>
-    ensures { OnOk result (row.new.items ≡ row.old.items ++ values.now) }
+/// A row after the cells of its key, where both lie.
+fn view_of<'a>(plain: &'a Plain, at: At<'a>, row: &'a [Value]) -> RowView<'a>
+    requires { HasNulls plain.now }
+    ensures cells { cells result ≡ key_cells plain.now.columns at.entry.key.now ++ row.now }
+    ensures time { result.time ≡ at.entry.time }
 {
-    for value in values {
-        row.push(value.copy(alloc)?)?;
+    let key = match at.key.items() {
+        [] => plain.nulls.as_slice(),
+        cells => cells,
+    };
+    RowView {
+        key,
+        row,
+        time: at.time,
     }
-    Ok(())
 }
 
-/// Whether a row passes WHERE at a time.
-fn passes(
-    alloc: Global,
-    filter: &Option<Typed>,
-    row: &[Value],
-    time: u64,
-) -> Result<bool, AllocError>
-    ensures { IfOk result (λ passed. passed ≡ passes filter.now row.now time) }
+/// Whether a row passes WHERE.
+fn passes(alloc: Global, filter: &Option<Typed>, view: &RowView) -> Result<bool, AllocError>
+    ensures { IfOk result (λ passed. passed ≡ passes filter.now (cells view.now) view.now.time) }
 {
     match filter {
         None => Ok(true),
-        Some(on) => Ok(is_true_value(&eval(alloc, on, row, time)?)),
+        Some(on) => holds(alloc, on, view),
     }
 }
 
-/// Whether a value is TRUE.
-fn is_true_value(value: &Value) -> bool
-    ensures { result ≡ is_true_value value.now }
-{
-    matches!(value, Value::Bool(true))
-}
-
-/// The values of expressions on a row at a time.
-fn values_of(
-    alloc: Global,
-    expressions: &[Typed],
-    row: &[Value],
-    time: u64,
-) -> Result<Vec<Value>, AllocError>
-    ensures { IfOk result (λ made. made.items ≡ values expressions.now time row.now) }
+/// The values of expressions on a row.
+fn values_of(alloc: Global, expressions: &[Typed], view: &RowView) -> Result<Vec<Value>, AllocError>
+    ensures { IfOk result (λ made. made.items ≡ values expressions.now view.now.time (cells view.now)) }
 {
     let mut values = Vec::with_capacity(alloc, expressions.len())?;
     for expression in expressions {
-        values.push(eval(alloc, expression, row, time)?)?;
+        values.push(eval(alloc, expression, view)?)?;
     }
     Ok(values)
 }

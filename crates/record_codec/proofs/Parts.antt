@@ -68,7 +68,7 @@ only-truth true rest h = refl
 reads-truth : Reads truth_byte anything truth_at
 reads-truth = record { found = found-truth; only = only-truth }
 
--- what stands behind the byte that says what a value is
+-- what stands after the byte that says what a value is
 behind : {A : Type 0} (tag : ℕ) (s : A → List ℕ) (fits : A → Type 0) (read : Reader A) (f : A → Value) → Reads s fits read
     → ((a : A) → fits a → (tag ∷ s a ≡ value (f a)) × IsCell (f a)) → (bytes : List ℕ) (y : Value × List ℕ) → IsBytes (tag ∷ bytes)
     → seen_as f read bytes ≡ Some y → Found value IsCell (tag ∷ bytes) y

@@ -2,8 +2,13 @@ use Rattle.std.proofs.Common.{◌≡◌, ◌<◌, ◌^◌, true, is_some, List, 
 use Rattle.std.specs.Prelude.{codes, unwrap_or}
 use Rattle.ksql_grammar.specs.declared.tree.Property.{Property}
 use Rattle.ksql_clauses.specs.Properties.{partitions_in, topic_in, value_of}
-use Rattle.ksql_analyse.proofs.ItemNeeds.{few-partitions, few-read, kept, readable, short-names, topic-there, typable}
+use Rattle.ksql_analyse.proofs.ItemNeeds.{few-declared, few-partitions, few-read, kept, readable, short-names, topic-there, typable}
 use Rattle.ksql_analyse.proofs.item.item_of.Goals as goal
+
+pub declared_relation-requires : goal.declared_relation-requires
+declared_relation-requires c =
+    subst (λ (ps : List Property). unwrap_or (partitions_in ps) 1 < 2 ^ 32) (sym c.items-in-Declared-2.ensures)
+    (few-declared c.args.catalog.now c.args.statement.now c.in-Declared.columns c.in-Declared.props c.in-Declared.is c.requires.accepted)
 
 pub query_of-requires-clause-partitions : goal.query_of-requires-clause-partitions
 query_of-requires-clause-partitions c =

@@ -15,3 +15,8 @@ pub plain_shape-requires-clause-valued_values : goal.plain_shape-requires-clause
 plain_shape-requires-clause-valued_values c =
     subst (λ (s : Scope). All (λ k. IsValued s k.now.expr) c.args.values.now) (sym c.requires.of_items)
     (values-lent (λ (k : Named). IsValued (item_scope c.args.select.now c.args.reading.now.known.items) k.expr) c.args.select.now c.args.reading.now.known.items c.args.values.now c.requires.values c.requires.typable.columns)
+
+pub grouped_shape-requires-clause-valued_values : goal.grouped_shape-requires-clause-valued_values
+grouped_shape-requires-clause-valued_values c =
+    subst (λ (s : Scope). All (λ k. IsValued s k.now.expr) c.args.values.now) (sym c.requires.of_items)
+    (values-lent (λ (k : Named). IsValued (item_scope c.args.select.now c.args.reading.now.known.items) k.expr) c.args.select.now c.args.reading.now.known.items c.args.values.now c.requires.values c.requires.typable.columns)

@@ -6,7 +6,7 @@ use Rattle.ksql_grouping.proofs.Sameness.{not-Digits, not-Text, not-Truth, not-N
 use Rattle.ksql_grouping.proofs.same.+same.Goals as goal
 use Rattle.ksql_grouping.proofs.same.+same.Goals.{same_expr-then-same_op, same_expr-else-same_op, same_expr-then-same_truth-4, same_expr-else-same_truth-4, same_expr-then-same_truth-5, same_expr-else-same_truth-5, same_expr-then-same_perhaps, same_expr-else-same_perhaps, same_expr-then-same_truth-3, same_expr-else-same_truth-3, same_expr-then-same_boxed-2, same_expr-else-same_boxed-2, same_expr-then-eq, same_expr-else-eq}
 
--- a test that stands behind another, which holds or fails
+-- a test that stands after another, which holds or fails
 then-last : {p q r : Bool} → p ≡ true → r ≡ q → r ≡ (p && q)
 then-last {q = q} h k = k ∙ ap (λ y. y && q) (sym h)
 

@@ -2,7 +2,7 @@ use Rattle.std.proofs.Common.{◌≡◌, ◌++◌, take, drop}
 use Rattle.ksql_place.specs.Order.{greatest, part_stamps, stamped}
 use Rattle.ksql_place.proofs.order.push_stamps.Given as goal
 
--- the stamps so far, and those to come behind their times, are the stamps of the partition
+-- the stamps so far, and those to come after their times, are the stamps of the partition
 abbrev pub invariant-loop-index : goal.invariant-loop-index
 invariant-loop-index l =
     let part = l.fn.part in

@@ -17,10 +17,10 @@ returns-in-Some c =
     let number = c.in-One.relation in
     let changes = changes_of c.in-Some.source.now in
     let found = slice_get_read lists (length lists) number c.in-Some.source.now refl c.in-Some.ensures.lookup.3.0 c.in-Some.ensures.lookup.1 in
-    let columns = ap (λ (n : ℕ). flat_map (plain_gives n query.filter c.items.result.now c.items-2.result.now) changes) c.key_columns.ensures in
-    let select = ap₂ (λ (keys values : List Typed). flat_map (plain_gives (key_columns items number) query.filter keys values) changes) c.items.ensures c.items-2.ensures in
+    let columns = ap (λ (n : ℕ). flat_map (plain_gives n query.filter c.items.result.now c.items-in-Some.result.now) changes) c.key_columns.ensures in
+    let select = ap₂ (λ (keys values : List Typed). flat_map (plain_gives (key_columns items number) query.filter keys values) changes) c.items.ensures c.items-in-Some.ensures in
     let said = query_changes-listed items lists query number c.in-Plain.keys c.in-Plain.values (Some c.in-Some.source.now) c.in-One.is c.in-Plain.is found in
-    subst (λ (list : List Change). IfOk c.results_of.result (λ changes. changes.items ≡ list)) (columns ∙ select ∙ sym said) c.results_of.ensures
+    subst (λ (list : List Change). IfOk c.plain_changes.result (λ changes. changes.items ≡ list)) (columns ∙ select ∙ sym said) c.plain_changes.ensures
 
 pub returns-in-None : goal.returns-in-None
 returns-in-None c =

@@ -1,0 +1,4 @@
+pub mod Like
+pub mod Loops
+pub mod Texts
+pub mod Values

@@ -1,0 +1,15 @@
+-- The value that an operand is, lent or made; and the values of the WHENs of a CASE.
+use Rattle.std.specs.Prelude.{ℕ, List, map}
+use Rattle.ksql_types.specs.declared.value.Value.{Value}
+use Rattle.ksql_eval.specs.declared.operand.Operand.{Operand}
+use Rattle.ksql_eval.specs.declared.operand.Operand.TheVariants.{Lent, Made}
+use Rattle.ksql_expr.specs.declared.typed.TypedWhen.{TypedWhen}
+use Rattle.ksql_expr.specs.Value.{value_of}
+
+abbrev pub worth : Operand → Value
+worth (Lent value) = value.now
+worth (Made value) = value
+
+-- the condition and the result of each WHEN
+abbrev pub whens_of : List Value → ℕ → List TypedWhen → List (Value × Value)
+whens_of row time whens = map (λ w. (value_of row time w.cond, value_of row time w.result)) whens

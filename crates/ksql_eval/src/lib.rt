@@ -1,0 +1,17 @@
+//! The value of an expression on a row.
+#![tactic(auto)]
+
+mod comparison;
+mod evaluation;
+mod forms;
+mod number;
+mod operand;
+mod pattern;
+mod text;
+mod view;
+
+pub use evaluation::{eval, holds};
+pub use view::RowView;
+
+#[cfg(test)]
+mod tests;

@@ -1,0 +1,16 @@
+-- Whether two forms of typed trees are one.
+use base.Stored.{Gv, gnil, gnum, gcons}
+use Rattle.std.specs.Prelude.{◌==◌, Bool, true, false, ◌&&◌}
+use Rattle.ksql_expr.specs.contracts.typed.TypedNode as form
+use Rattle.ksql_expr.specs.declared.typed.TypedNode.{TypedNode}
+
+-- whether two codes are one
+abbrev pub same_code : Gv → Gv → Bool
+same_code gnil gnil = true
+same_code (gnum m) (gnum n) = m == n
+same_code (gcons a b) (gcons c d) = same_code a c && same_code b d
+same_code _ _ = false
+
+-- whether two forms are one: their codes are, and each form has a code of its own
+unfoldable pub same_form : TypedNode → TypedNode → Bool
+same_form a b = same_code (form.the_row.coded.code a) (form.the_row.coded.code b)
