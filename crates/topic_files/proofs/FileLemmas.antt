@@ -119,7 +119,7 @@ fault-within : (room : Room) (file : List ℕ) (lines : List (List ℕ)) (line :
 fault-within room file lines line b e f =
     ap (λ b. cond b (Some TooLarge) (cond (is_blank line || is_topic_line line) None (Some BadLine))) e ∙ ap (λ b. cond b None (Some BadLine)) f
 
--- the fault of the next line, or else those behind it
+-- the fault of the next line, or else those after it
 next_fault : (room : Room) (file : List ℕ) (lines : List (List ℕ)) (line : List ℕ) (more : List (List ℕ)) (found : Option LineWhy)
     → fault room file lines line ≡ found
     → first_fault_behind room file lines (line ∷ more)
@@ -196,7 +196,7 @@ module _ (schema : Schema) (room : Room) (file : List ℕ) (lines : List (List �
   passes_is blank one e counts =
       ap₂ (λ r t. nat_lt room.records r || nat_lt room.bytes (min t (length file))) (sym (records_next blank one e counts)) (sym taken_next)
 
-  -- behind the test, the bytes so far are within the room
+  -- after the test, the bytes so far are within the room
   fits_of : (one : ℕ) → is_over one ≡ false → min (taken + (length line + 1)) (length file) ≤ room.bytes
   fits_of one e = ltb-false room.bytes (min (taken + (length line + 1)) (length file))
       (or_parts (nat_lt room.records (records + one)) (nat_lt room.bytes (min (taken + (length line + 1)) (length file))) e).1

@@ -1,38 +1,20 @@
--- Members whose names ascend: the first that is like a name is the least.
-use Rattle.std.proofs.Common.{◌≡◌, ℕ, List, [], ◌∷◌, map, Bool, true, false, cond, ◌↔◌, IsTrue, Option, Some, None, IfSome, string_bytes, refl, ap, ◌∙◌, arith}
-use Rattle.std.specs.Prelude.{String}
-use Rattle.std.specs.declared.alloc.Global.{Global}
+-- Members that are put one after another: which of those that are like a name is the least.
+use Rattle.std.proofs.Common.{◌≡◌, ℕ, ◌+◌, ◌<◌, List, [], ◌∷◌, length, get_or, take, map, Bool, true, false, cond, ◌↔◌, IsTrue, Option, Some, None, Bor, refl, sym, ap, ◌∙◌, subst, arith}
 use Rattle.std.specs.Char.{to_ascii_lowercase, to_ascii_uppercase}
-use Rattle.std.specs.List.{AllByRecursion}
-use Rattle.std.specs.List.Sorted.{IsStrictlySortedBy}
 use Rattle.std.specs.declared.cmp.Ordering.{Ordering}
-use Rattle.std.specs.declared.cmp.Ordering.TheVariants.{Less}
-use Rattle.std.specs.Ordering.{nat_cmp, is_lt, ordering_reverse}
+use Rattle.std.specs.declared.cmp.Ordering.TheVariants.{Less, Equal, Greater}
+use Rattle.std.specs.Ordering.{is_eq, is_lt, match_ordering, nat_cmp, ordering_reverse}
 use Rattle.std.specs.Cmp.{both_ways}
 use Rattle.std.specs.Cmp.Lexicographic.{slice_cmp, nat_list_cmp_total}
+use Rattle.std.proofs.lemmas.Cmp.{tied_itself}
 use Rattle.std.proofs.lemmas.Bool.Decides.{nat_tests}
+use Rattle.std.proofs.lemmas.Map.Text.{is_eq-slice_cmp}
 use Rattle.std.proofs.lemmas.Slice.Eq.{bytes_eq-Decides}
-use Rattle.serde_json.specs.Data.{Data}
-use Rattle.serde_json.specs.View.{members_view, view}
-use Rattle.serde_json.specs.declared.value.Value.{Value}
+use Rattle.serde_json.specs.Data.{Data, Members, no_members, member, put}
 use Rattle.topic_files.specs.Cells.{is_like, least_like, lesser}
-
--- the order of names, by their bytes
-abbrev pub name_cmp : String Global → String Global → Ordering
-name_cmp a b = slice_cmp nat_cmp (string_bytes a) (string_bytes b)
-
--- the names ascend
-abbrev pub Ascend : List (String Global × Value) → Type 0
-Ascend members = IsStrictlySortedBy name_cmp (map (λ m. m.0) members)
-
-pub Ascend-tail : (m : String Global × Value) (more : List (String Global × Value)) → Ascend (m ∷ more) → Ascend more
-unfolding IsStrictlySortedBy
-Ascend-tail m more ascend = ascend.1
-
-Ascend-above : (m : String Global × Value) (more : List (String Global × Value)) → Ascend (m ∷ more)
-    → AllByRecursion (λ y. name_cmp m.0 y ≡ Less) (map (λ m. m.0) more)
-unfolding IsStrictlySortedBy
-Ascend-above m more ascend = ascend.0
+use Rattle.topic_files.specs.Tree.{members_view, named, view}
+use Rattle.topic_files.specs.declared.tree.Json.{Json}
+use Rattle.topic_files.proofs.TreeLemmas.{members_view-take}
 
 -- ---- names that are alike
 
@@ -62,44 +44,93 @@ is_like-is name other b test =
 
 -- ---- the least name
 
--- what is found has a name above this one
-abbrev IsAbove : List ℕ → List ℕ × Data → Type 0
-IsAbove name found = slice_cmp nat_cmp name found.0 ≡ Less
+abbrev order : List ℕ → List ℕ → Ordering
+order = slice_cmp nat_cmp
 
-lesser-above : (name : List ℕ) (one : List ℕ × Data) (o : Option (List ℕ × Data)) → IsAbove name one → IfSome o (IsAbove name) → IsAbove name (lesser one o)
-lesser-above name one None h hs = h
-lesser-above name one (Some other) h hs = by_test (is_lt (slice_cmp nat_cmp other.0 one.0))
+is_lt-Less : (o : Ordering) → is_lt o ≡ true → o ≡ Less
+is_lt-Less Less e = refl
+is_lt-Less Equal e = cc
+is_lt-Less Greater e = cc
+
+-- an order is not below itself
+is_lt-itself : (name : List ℕ) → is_lt (order name name) ≡ false
+is_lt-itself name = ap is_lt (tied_itself nat_list_cmp_total name)
+
+-- an earlier member of the same name plays no part
+lesser-replaced : (name : List ℕ) (d e : Data) (r : Option (List ℕ × Data)) → lesser (name, d) r ≡ lesser (name, d) (Some (lesser (name, e) r))
+lesser-replaced name d e None = rw is_lt-itself
+lesser-replaced name d e (Some other) = by_test (is_lt (order other.0 name)) refl
   where
-    by_test : (b : Bool) → IsAbove name (cond b other one)
-    by_test true = hs
-    by_test false = h
+    by_test : (b : Bool) → is_lt (order other.0 name) ≡ b → cond b other (name, d) ≡ lesser (name, d) (Some (cond b other (name, e)))
+    by_test true below = rw below
+    by_test false not_below = rw is_lt-itself
 
-least_like-above : (name below : List ℕ) (members : List (String Global × Value)) → AllByRecursion (λ y. slice_cmp nat_cmp below (string_bytes y) ≡ Less) (map (λ m. m.0) members)
-    → IfSome (least_like name (members_view members)) (IsAbove below)
-least_like-above name below [] above = tt
-least_like-above name below (m ∷ more) above = by_test (is_like (string_bytes m.0) name) (least_like-above name below more above.1)
+-- two members of different names may be compared in either order
+lesser-swap : (k l : List ℕ) (d e : Data) (r : Option (List ℕ × Data)) → order k l ≡ Greater → lesser (l, e) (Some (lesser (k, d) r)) ≡ lesser (k, d) (Some (lesser (l, e) r))
+lesser-swap k l d e r above = by_found r
   where
-    by_test : (b : Bool) → IfSome (least_like name (members_view more)) (IsAbove below)
-        → IfSome (cond b (Some (lesser (string_bytes m.0, view m.1) (least_like name (members_view more)))) (least_like name (members_view more))) (IsAbove below)
-    by_test true rest = lesser-above below (string_bytes m.0, view m.1) (least_like name (members_view more)) above.0 rest
-    by_test false rest = rest
+    below : order l k ≡ Less
+    below = nat_list_cmp_total.antisymm l k ∙ ap ordering_reverse above
 
-lesser-first : (one : List ℕ × Data) (o : Option (List ℕ × Data)) → IfSome o (IsAbove one.0) → lesser one o ≡ one
-lesser-first one None above = refl
-lesser-first one (Some other) above =
-    ap (λ r. cond (is_lt r) other one) (nat_list_cmp_total.antisymm other.0 one.0 ∙ ap ordering_reverse above)
+    by_tests : (other : List ℕ × Data) (a b : Bool) → is_lt (order other.0 l) ≡ a → is_lt (order other.0 k) ≡ b
+        → lesser (l, e) (Some (cond b other (k, d))) ≡ lesser (k, d) (Some (cond a other (l, e)))
+    by_tests other true true at_l at_k = rw (at_l, at_k)
+    by_tests other true false at_l at_k =
+        let least : order other.0 k ≡ Less = nat_list_cmp_total.trans other.0 l k (is_lt-Less (order other.0 l) at_l) below in
+        let never : true ≡ false = sym (ap is_lt least) ∙ at_k in
+        cc
+    by_tests other false true at_l at_k = rw (at_l, below)
+    by_tests other false false at_l at_k = rw (above, below)
 
--- the first of ascending members, where it is like the name, is the least
-pub least_like-first : (name : List ℕ) (m : String Global × Value) (more : List (String Global × Value)) → is_like (string_bytes m.0) name ≡ true → Ascend (m ∷ more)
-    → least_like name (members_view (m ∷ more)) ≡ Some (string_bytes m.0, view m.1)
-least_like-first name m more like ascend =
-    let rest = least_like name (members_view more) in
-    ap (λ b. cond b (Some (lesser (string_bytes m.0, view m.1) rest)) rest) like
-    ∙ ap Some (lesser-first (string_bytes m.0, view m.1) rest (least_like-above name (string_bytes m.0) more (Ascend-above m more ascend)))
+    by_found : (r : Option (List ℕ × Data)) → lesser (l, e) (Some (lesser (k, d) r)) ≡ lesser (k, d) (Some (lesser (l, e) r))
+    by_found None = rw (above, below)
+    by_found (Some other) = by_tests other (is_lt (order other.0 l)) (is_lt (order other.0 k)) refl refl
 
--- a member that isn't like the name is passed over
-pub least_like-next : (name : List ℕ) (m : String Global × Value) (more : List (String Global × Value)) → is_like (string_bytes m.0) name ≡ false
-    → least_like name (members_view (m ∷ more)) ≡ least_like name (members_view more)
-least_like-next name m more unlike =
-    let rest = least_like name (members_view more) in
-    ap (λ b. cond b (Some (lesser (string_bytes m.0, view m.1) rest)) rest) unlike
+-- what is found after one more member
+abbrev one_more : List ℕ → List ℕ × Data → Option (List ℕ × Data) → Option (List ℕ × Data)
+one_more name m found = cond (is_like m.0 name) (Some (lesser m found)) found
+
+one_more-replaced : (name key : List ℕ) (d e : Data) (r : Option (List ℕ × Data)) → one_more name (key, d) r ≡ one_more name (key, d) (one_more name (key, e) r)
+one_more-replaced name key d e r = by_test (is_like key name)
+  where
+    by_test : (b : Bool) → cond b (Some (lesser (key, d) r)) r ≡ cond b (Some (lesser (key, d) (cond b (Some (lesser (key, e) r)) r))) (cond b (Some (lesser (key, e) r)) r)
+    by_test true = ap Some (lesser-replaced key d e r)
+    by_test false = refl
+
+one_more-swap : (name k l : List ℕ) (d e : Data) (r : Option (List ℕ × Data)) → order k l ≡ Greater
+    → one_more name (l, e) (one_more name (k, d) r) ≡ one_more name (k, d) (one_more name (l, e) r)
+one_more-swap name k l d e r above = by_tests (is_like k name) (is_like l name)
+  where
+    by_tests : (a b : Bool) → cond b (Some (lesser (l, e) (cond a (Some (lesser (k, d) r)) r))) (cond a (Some (lesser (k, d) r)) r)
+        ≡ cond a (Some (lesser (k, d) (cond b (Some (lesser (l, e) r)) r))) (cond b (Some (lesser (l, e) r)) r)
+    by_tests true true = ap Some (lesser-swap k l d e r above)
+    by_tests true false = refl
+    by_tests false true = refl
+    by_tests false false = refl
+
+-- the least after a member is put
+least_like-put : (name key : List ℕ) (d : Data) (ms : Members) → least_like name (put key d ms) ≡ one_more name (key, d) (least_like name ms)
+least_like-put name key d no_members = refl
+least_like-put name key d (member l e ms) = by_order (order key l) refl (least_like-put name key d ms)
+  where
+    by_order : (o : Ordering) → order key l ≡ o → least_like name (put key d ms) ≡ one_more name (key, d) (least_like name ms)
+        → least_like name (match_ordering o (member key d (member l e ms)) (member l d ms) (member l e (put key d ms))) ≡ one_more name (key, d) (one_more name (l, e) (least_like name ms))
+    by_order Less is later = refl
+    by_order Equal is later =
+        let same : key ≡ l = (bytes_eq-Decides key l).0 (sym (is_eq-slice_cmp key l) ∙ ap is_eq is) in
+        one_more-replaced name l d e (least_like name ms) ∙ ap (λ k. one_more name (k, d) (one_more name (l, e) (least_like name ms))) (sym same)
+    by_order Greater is later = ap (one_more name (l, e)) later ∙ one_more-swap name key l d e (least_like name ms) is
+
+-- the member at this place, where it is like the name: the lesser of it and of what was found before
+pub least_like-here : (name : List ℕ) (ms : List (Bor (List ℕ) × Json)) (i : ℕ) (m : Bor (List ℕ) × Json) → i < length ms → m ≡ get_or ms i m → is_like m.0.now name ≡ true
+    → least_like name (members_view (take (i + 1) ms)) ≡ Some (lesser (named m) (least_like name (members_view (take i ms))))
+least_like-here name ms i m inside is like =
+    let before = least_like name (members_view (take i ms)) in
+    ap (least_like name) (members_view-take ms i m inside is) ∙ least_like-put name m.0.now (view m.1) (members_view (take i ms)) ∙ ap (λ b. cond b (Some (lesser (named m) before)) before) like
+
+-- where it isn't like the name, it is passed over
+pub least_like-elsewhere : (name : List ℕ) (ms : List (Bor (List ℕ) × Json)) (i : ℕ) (m : Bor (List ℕ) × Json) → i < length ms → m ≡ get_or ms i m → is_like m.0.now name ≡ false
+    → least_like name (members_view (take (i + 1) ms)) ≡ least_like name (members_view (take i ms))
+least_like-elsewhere name ms i m inside is unlike =
+    let before = least_like name (members_view (take i ms)) in
+    ap (least_like name) (members_view-take ms i m inside is) ∙ least_like-put name m.0.now (view m.1) (members_view (take i ms)) ∙ ap (λ b. cond b (Some (lesser (named m) before)) before) unlike

@@ -8,7 +8,7 @@ use Rattle.json.proofs.Printed.Strings.{escape_byte_plain}
 use Rattle.ksql_types.specs.declared.value.Value.{Value}
 use Rattle.topic_files.specs.Printed.{comma_joined, fields_of, printed}
 
--- one text behind another, in any grouping
+-- one text after another, in any grouping
 pub ruleset appends = (append_assoc)
 
 -- a text without quotes, backslashes and controls stands as it is
@@ -22,7 +22,7 @@ escape-plain (x ∷ xs) plain =
     let rest = escape-plain xs parts.1 in
     λ i. first i ++ rest i
 
--- one text behind another, and texts that stand as they are
+-- one text after another, and texts that stand as they are
 pub ruleset plain_texts = (append_assoc, escape-plain)
 
 -- what stands between these pieces and a next one
@@ -35,7 +35,7 @@ unfolding comma_after
 comma_after-push [] piece = refl
 comma_after-push (first ∷ pieces) piece = refl
 
--- one more piece goes behind a comma, unless it is the first
+-- one more piece goes after a comma, unless it is the first
 pub comma_joined-push : (pieces : List (List ℕ)) (piece : List ℕ)
     → comma_joined (pieces ++ piece ∷ []) ≡ comma_joined pieces ++ (comma_after pieces ++ piece)
 unfolding comma_after
@@ -45,7 +45,7 @@ comma_joined-push (first ∷ second ∷ pieces) piece =
     ap (λ text. first ++ (44 ∷ text)) (comma_joined-push (second ∷ pieces) piece)
     ∙ sym (append_assoc first (44 ∷ comma_joined (second ∷ pieces)) (comma_after (second ∷ pieces) ++ piece))
 
--- one more piece behind a text that ends in the others
+-- one more piece after a text that ends in the others
 pub joined_more : (pieces : List (List ℕ)) (piece old : List ℕ)
     → ((old ++ comma_joined pieces) ++ comma_after pieces) ++ piece ≡ old ++ comma_joined (pieces ++ piece ∷ [])
 joined_more pieces piece old = rw (comma_joined-push pieces piece) (simp append_assoc)

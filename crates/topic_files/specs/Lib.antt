@@ -4,3 +4,4 @@ pub mod Lines
 pub mod Printed
 pub mod Record
 pub mod TopicLine
+pub mod Tree

@@ -2,11 +2,11 @@
 
 ghost use Rattle.std.specs.Prelude.{◌≡◌, IfOk, IfSome, option_and_then, option_map, false};
 ghost use Rattle.ksql_types.specs.Key.{is_null};
-ghost use Rattle.serde_json.specs.View.{members_view, view};
-ghost use Rattle.topic_files.specs.Cells.{cell, cells, column_field, int_of, least_like, named_field, text_form, text_value, typed, value_of_type};
+ghost use Rattle.topic_files.specs.Cells.{cell, cells, column_field, int_of, least_like, lesser, named_field, text_form, text_value, typed, value_of_type};
+ghost use Rattle.topic_files.specs.Tree.{members_view, named, view};
 
+use crate::tree::{Json, Member};
 use ksql_types::{Chars, Column, LONGEST_VALUE, SqlType, Value};
-use serde_json::{Map, Value as Json};
 use std::alloc::{AllocError, Global};
 
 /// The values of these columns in an object, in their order, None where a field isn't of its column's type.
@@ -38,14 +38,14 @@ fn cell(alloc: Global, column: &Column, object: &Json) -> Result<Option<Value>, 
 }
 
 /// The field of a column of this name, None where it is missing or null.
-fn column_field<'a>(object: &'a Json, name: &str) -> Option<&'a Json>
+fn column_field<'t, 'a>(object: &'t Json<'a>, name: &str) -> Option<&'t Json<'a>>
     ensures { option_map (λ field. view field.now) result ≡ column_field name.now (view object.now) }
 {
     named_field(object, name).filter(|field| !field.is_null())
 }
 
 /// The field of exactly this name, else the least of those whose names differ from it in case alone.
-fn named_field<'a>(object: &'a Json, name: &str) -> Option<&'a Json>
+fn named_field<'t, 'a>(object: &'t Json<'a>, name: &str) -> Option<&'t Json<'a>>
     ensures { option_map (λ field. view field.now) result ≡ named_field name.now (view object.now) }
 {
     match object.get(name) {
@@ -54,17 +54,28 @@ fn named_field<'a>(object: &'a Json, name: &str) -> Option<&'a Json>
     }
 }
 
-/// Of the members whose names differ from this one in case alone, the one of the least name.
-fn least_like<'a>(members: &'a Map<String, Json>, name: &str) -> Option<&'a Json>
+/// Of the members whose names differ from this one in case alone, the value of the one of the least name.
+fn least_like<'t, 'a>(members: &'t [Member<'a>], name: &str) -> Option<&'t Json<'a>>
     ensures { option_map (λ field. view field.now) result
-        ≡ option_map (λ found. found.1) (least_like name.now (members_view members.now.entries)) }
+        ≡ option_map (λ found. found.1) (least_like name.now (members_view members.now)) }
 {
-    for (key, field) in members.iter() {
-        if key.as_str().eq_ignore_ascii_case(name) {
-            return Some(field);
+    let mut least = None;
+    for member in members {
+        if member.0.eq_ignore_ascii_case(name) {
+            least = Some(lesser(member, least));
         }
     }
-    None
+    least.map(|member| &member.1)
+}
+
+/// The member of the lesser name: the one, where there is no other or it has the same name.
+fn lesser<'t, 'a>(one: &'t Member<'a>, other: Option<&'t Member<'a>>) -> &'t Member<'a>
+    ensures { named result.now ≡ lesser (named one.now) (option_map (λ member. named member.now) other.entry) }
+{
+    match other {
+        Some(other) if other.0 < one.0 => other,
+        _ => one,
+    }
 }
 
 /// The value of this type that a field stands for in a row, None where it stands for none.

@@ -4,6 +4,7 @@ ghost use Rattle.topic_files.specs.File.{first_fault, reading, topic_lines};
 use crate::lines::{Lines, is_blank};
 use crate::record::fed_of_line;
 use crate::topic::{FileFault, LineWhy, Room, TopicLines};
+use json::Scratch;
 use ksql_types::{Format, Items, Relation};
 use std::alloc::Global;
 
@@ -25,6 +26,7 @@ pub fn read_topic(
     ensures answered { result ≢ Err FileFault.OutOfMemory → result ≡ reading relation.now room bytes.now }
 {
     let mut feds = Vec::new(alloc);
+    let mut scratch = Scratch::new(alloc);
     let mut number: usize = 0;
     let mut records: usize = 0;
     let mut taken: usize = 0;
@@ -39,7 +41,7 @@ pub fn read_topic(
         if blank {
             continue;
         }
-        match fed_of_line(alloc, &relation.schema, line)? {
+        match fed_of_line(alloc, &relation.schema, line, &mut scratch)? {
             Some(fed) => feds.push(fed)?,
             None => return Err(refused(number, LineWhy::BadLine)),
         }

@@ -5,9 +5,12 @@ mod fields;
 mod file;
 mod line;
 mod lines;
+mod number;
 mod printed;
+mod read;
 mod record;
 mod topic;
+mod tree;
 
 pub use file::read_topic;
 pub use printed::{labels, push_object, push_printed, value_text};

@@ -1,29 +1,16 @@
 //! What a topic line says: its time, and the fields of its key and its value.
 
-ghost use Rattle.std.specs.Prelude.{◌≡◌, IfOk, codes, option_map};
-ghost use Rattle.serde_json.specs.View.{view};
-ghost use Rattle.topic_files.specs.TopicLine.{data_of, is_key, is_value, present, time_of, topic_time};
+ghost use Rattle.std.specs.Prelude.{◌≡◌, codes, option_map};
+ghost use Rattle.topic_files.specs.TopicLine.{is_key, is_value, present, time_of, topic_time};
+ghost use Rattle.topic_files.specs.Tree.{view};
 
-use serde_json::Value as Json;
-use std::alloc::{AllocError, Global};
+use crate::tree::Json;
 
 /// The greatest time of a record, in milliseconds.
 const LAST_TIME: u64 = 1 << 53;
 
-/// What a line says as JSON, None where it isn't UTF-8 or `serde_json` doesn't read it: it is no JSON, is nested deeper
-/// than 127, or has a number too large for a float.
-pub(crate) fn json_of_line(alloc: Global, line: &[u8]) -> Result<Option<Json>, AllocError>
-    ensures { IfOk result (λ json. option_map view json ≡ data_of line.now) }
-{
-    match Json::from_slice(alloc, line) {
-        Ok(json) => Ok(Some(json)),
-        Err(error) if error.is_memory() => Err(AllocError),
-        Err(_) => Ok(None),
-    }
-}
-
 /// The field of this name, None where it is missing or null.
-pub(crate) fn present<'a>(json: &'a Json, name: &str) -> Option<&'a Json>
+pub(crate) fn present<'t, 'a>(json: &'t Json<'a>, name: &str) -> Option<&'t Json<'a>>
     ensures { option_map (λ field. view field.now) result ≡ present name.now (view json.now) }
 {
     json.get(name).filter(|field| !field.is_null())

@@ -2,6 +2,8 @@ ghost use Rattle.std.specs.Prelude.{◌≡◌};
 ghost use Rattle.std.specs.Iterator.{YieldsFirstRef, item_count};
 ghost use Rattle.topic_files.specs.Lines.{is_blank, lines_of};
 
+use memchr::memchr;
+
 /// The lines of a file, one after another, without their line feeds.
 #[derive(Drop)]
 pub(crate) struct Lines<'a> {
@@ -29,7 +31,7 @@ impl<'a> Iterator for Lines<'a> {
         if rest.is_empty() {
             return None;
         }
-        match rest.iter().position(|byte| *byte == b'\n') {
+        match memchr(b'\n', rest) {
             Some(end) => {
                 self.rest = &rest[end + 1..];
                 Some(&rest[..end])

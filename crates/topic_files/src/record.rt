@@ -1,16 +1,18 @@
 //! The record of a topic line, by the schema of its relation.
 
 ghost use Rattle.std.specs.Prelude.{◌≡◌, ◌∷◌, [], IfOk, option_map};
-ghost use Rattle.serde_json.specs.View.{view};
-ghost use Rattle.topic_files.specs.Record.{decoded, fed_of, fed_of_data, field_value, key_of, object_row};
 ghost use Rattle.topic_files.specs.Cells.{typed};
+ghost use Rattle.topic_files.specs.Record.{decoded, fed_of, fed_of_data, field_value, key_of, object_row};
+ghost use Rattle.topic_files.specs.Tree.{view};
 
 use crate::fields::{cells, typed};
-use crate::line::{json_of_line, present, topic_time};
+use crate::line::{present, topic_time};
+use crate::read::json_of_line;
 use crate::topic::Fed;
+use crate::tree::Json;
+use json::Scratch;
 use ksql_place::Decoded;
 use ksql_types::{Column, Items, Key, Row, Schema, SqlType};
-use serde_json::Value as Json;
 use std::alloc::{AllocError, Global};
 
 /// The record of a line, None where it isn't a topic line.
@@ -18,10 +20,11 @@ pub(crate) fn fed_of_line(
     alloc: Global,
     schema: &Schema,
     line: &[u8],
+    scratch: &mut Scratch,
 ) -> Result<Option<Fed>, AllocError>
     ensures { IfOk result (λ fed. fed ≡ fed_of schema.now line.now) }
 {
-    match json_of_line(alloc, line)? {
+    match json_of_line(alloc, line, scratch)? {
         Some(json) => fed_of_json(alloc, schema, &json),
         None => Ok(None),
     }

@@ -1,5 +1,5 @@
 use Rattle.std.proofs.Common.{◌≡◌, ◌++◌, drop, option_map}
-use Rattle.serde_json.specs.View.{view}
+use Rattle.topic_files.specs.Tree.{view}
 use Rattle.topic_files.specs.Cells.{cells}
 use Rattle.topic_files.proofs.fields.cells.Given as goal
 

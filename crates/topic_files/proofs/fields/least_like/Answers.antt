@@ -1,27 +1,26 @@
--- The names ascend, so the first that is like the name is the least.
-use Rattle.std.proofs.Common.{◌≡◌, ◌∷◌, true, false, option_map, string_bytes, sym, ap, subst, ◌∙◌}
-use Rattle.serde_json.specs.View.{members_view}
-use Rattle.topic_files.specs.Cells.{is_like, least_like}
-use Rattle.topic_files.proofs.Members.{Ascend, Ascend-tail, is_like-is, least_like-first, least_like-next}
+-- Of each member in turn: where it is like the name, the lesser of it and of what was found before it.
+use Rattle.std.proofs.Common.{◌≡◌, ℕ, List, true, false, Some, Bor, option_map, sym, ap, ◌∙◌}
+use Rattle.topic_files.specs.Cells.{is_like, lesser}
+use Rattle.topic_files.specs.Tree.{named}
+use Rattle.topic_files.specs.declared.tree.Json.{Json}
+use Rattle.topic_files.proofs.Members.{is_like-is, least_like-elsewhere, least_like-here}
 use Rattle.topic_files.proofs.fields.least_like.Goals as goal
+use Rattle.topic_files.proofs.fields.least_like.Goals.{then-eq_ignore_ascii_case, else-eq_ignore_ascii_case}
 
-pub returns-then-eq_ignore_ascii_case : goal.returns-then-eq_ignore_ascii_case
-returns-then-eq_ignore_ascii_case c =
+pub loop-member-preserved : goal.loop-member-preserved
+loop-member-preserved c =
     let name = c.args.name.now in
-    let next : c.loop-key.key-iterator ≡ (c.in-Some.key.now, c.in-Some.field.now) ∷ c.next.new.self = c.in-Some.ensures.steps in
-    let like : is_like (string_bytes c.in-Some.key.now) name ≡ true =
-    ap (λ k. is_like k name) (sym c.as_str.ensures.value) ∙ is_like-is c.as_str.result.now name true c.if-eq_ignore_ascii_case.ensures.test in
-    sym (ap (option_map (λ found. found.1)) (c.loop-key.invariant.found ∙ ap (λ ms. least_like name (members_view ms)) next
-    ∙ least_like-first name (c.in-Some.key.now, c.in-Some.field.now) c.next.new.self like (subst Ascend next c.loop-key.invariant.ascend)))
-
-pub loop-key-preserved : goal.loop-key-preserved
-loop-key-preserved c =
-    let name = c.args.name.now in
-    let next : c.loop-key.key-iterator ≡ (c.in-Some.key.now, c.in-Some.field.now) ∷ c.next.new.self = c.in-Some.ensures.steps in
-    let unlike : is_like (string_bytes c.in-Some.key.now) name ≡ false =
-    ap (λ k. is_like k name) (sym c.as_str.ensures.value) ∙ is_like-is c.as_str.result.now name false c.if-eq_ignore_ascii_case.ensures.test in
-    record {
-      found = c.loop-key.invariant.found ∙ ap (λ ms. least_like name (members_view ms)) next
-          ∙ least_like-next name (c.in-Some.key.now, c.in-Some.field.now) c.next.new.self unlike;
-      ascend = Ascend-tail (c.in-Some.key.now, c.in-Some.field.now) c.next.new.self (subst Ascend next c.loop-key.invariant.ascend);
-    }
+    let members = c.args.members.now in
+    let i = c.loop-member.member-index in
+    let m = c.member-item.result in
+    let seen = option_map (λ (one : Bor (Bor (List ℕ) × Json)). named one.now) in
+    elim c.if-eq_ignore_ascii_case.branch [
+      | then-eq_ignore_ascii_case w ↦
+          let like = is_like-is m.0.now name true w.if-eq_ignore_ascii_case.ensures.test in
+          ap seen w.least-is ∙ ap Some (w.lesser.ensures ∙ ap (lesser (named m)) c.loop-member.invariant)
+          ∙ sym (least_like-here name members i m c.loop-member-test.true c.member-item.is like)
+      | else-eq_ignore_ascii_case w ↦
+          let unlike = is_like-is m.0.now name false w.if-eq_ignore_ascii_case.ensures.test in
+          ap seen w.least-is ∙ c.loop-member.invariant
+          ∙ sym (least_like-elsewhere name members i m c.loop-member-test.true c.member-item.is unlike)
+    ]

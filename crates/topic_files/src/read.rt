@@ -1,0 +1,124 @@
+//! From a line to the JSON that it is, in one pass over its tokens.
+
+ghost use Rattle.std.specs.Prelude.{◌≡◌, ◌<◌, IfOk, OnSome, length, option_map};
+ghost use Rattle.json.specs.Json.{array, items, members, object, parse_map, value};
+ghost use Rattle.serde_json.specs.Read.{converted, of_json, read};
+ghost use Rattle.topic_files.specs.TopicLine.{data_of};
+ghost use Rattle.topic_files.specs.Tree.{view};
+
+use crate::number::number_of;
+use crate::tree::Json;
+use json::{Reader, Scratch, Token};
+use std::alloc::{AllocError, Global};
+
+/// How deep lists and objects may stand in one another.
+const MAX_DEPTH: usize = 127;
+
+/// What a line says as JSON, None where it isn't UTF-8 or is no JSON: also where it is nested too deep or has a number
+/// too large for a float.
+pub(crate) fn json_of_line<'a>(
+    alloc: Global,
+    line: &'a [u8],
+    scratch: &'a mut Scratch,
+) -> Result<Option<Json<'a>>, AllocError>
+    ensures { IfOk result (λ json. option_map view json ≡ data_of line.now) }
+{
+    match str::from_utf8(line) {
+        Ok(text) => json_of_text(alloc, text, scratch),
+        Err(_) => Ok(None),
+    }
+}
+
+/// What a text says as JSON.
+fn json_of_text<'a>(
+    alloc: Global,
+    text: &'a str,
+    scratch: &'a mut Scratch,
+) -> Result<Option<Json<'a>>, AllocError>
+    ensures { IfOk result (λ json. option_map view json ≡ read text.now) }
+{
+    let mut reader = Reader::new(text, scratch)?;
+    let json = read_value(alloc, &mut reader, MAX_DEPTH)?;
+    if reader.next().is_some() {
+        return Ok(None);
+    }
+    Ok(json)
+}
+
+/// The value that comes next, None where none does.
+#[cycle(read)]
+#[inline(always)]
+fn read_value<'a>(
+    alloc: Global,
+    reader: &mut Reader<'a>,
+    depth: usize,
+) -> Result<Option<Json<'a>>, AllocError>
+    ensures value { IfOk result (λ json. option_map (λ j. (view j, reader.new)) json
+        ≡ converted of_json (value depth reader.old)) }
+    ensures shorter { IfOk result (λ json. OnSome json (length reader.new < length reader.old)) }
+{
+    let Some(token) = reader.next() else {
+        return Ok(None);
+    };
+    match token {
+        Token::Null => Ok(Some(Json::Null)),
+        Token::Bool(truth) => Ok(Some(Json::Bool(truth))),
+        Token::String(text) => Ok(Some(Json::Text(text))),
+        Token::Number(text) => match number_of(text) {
+            Some(number) => Ok(Some(Json::Number(number))),
+            None => Ok(None),
+        },
+        Token::BeginArray if depth > 0 => read_array(alloc, reader, depth - 1),
+        Token::BeginObject if depth > 0 => read_object(alloc, reader, depth - 1),
+        _ => Ok(None),
+    }
+}
+
+/// The array whose items come next, None where they don't end as one.
+#[cycle(read)]
+#[inline(never)]
+fn read_array<'a>(
+    alloc: Global,
+    reader: &mut Reader<'a>,
+    depth: usize,
+) -> Result<Option<Json<'a>>, AllocError>
+    ensures value { IfOk result (λ json. option_map (λ j. (view j, reader.new)) json
+        ≡ converted of_json (parse_map array (items (value depth) (length reader.old) reader.old))) }
+    ensures shorter { IfOk result (λ json. OnSome json (length reader.new < length reader.old)) }
+{
+    let mut found = Vec::new(alloc);
+    'items: while !reader.take_end_array() {
+        let Some(item) = read_value(alloc, reader, depth)? else {
+            return Ok(None);
+        };
+        found.push(item)?;
+    }
+    Ok(Some(Json::Array(found)))
+}
+
+/// The object whose members come next, None where they don't end as one.
+#[cycle(read)]
+#[inline(never)]
+fn read_object<'a>(
+    alloc: Global,
+    reader: &mut Reader<'a>,
+    depth: usize,
+) -> Result<Option<Json<'a>>, AllocError>
+    ensures value { IfOk result (λ json. option_map (λ j. (view j, reader.new)) json
+        ≡ converted of_json (parse_map object (members (value depth) (length reader.old) reader.old))) }
+    ensures shorter { IfOk result (λ json. OnSome json (length reader.new < length reader.old)) }
+{
+    let mut found = Vec::new(alloc);
+    'members: loop {
+        match reader.next_key() {
+            Ok(Some(name)) => {
+                let Some(field) = read_value(alloc, reader, depth)? else {
+                    return Ok(None);
+                };
+                found.push((name, field))?;
+            }
+            Ok(None) => return Ok(Some(Json::Object(found))),
+            Err(_) => return Ok(None),
+        }
+    }
+}
