@@ -1,0 +1,3 @@
+pub mod LastOfEach
+pub mod ReplayLemmas
+pub mod SlotLemmas

@@ -1,0 +1,122 @@
+//! The store and its calls.
+ghost use Rattle.std.specs.Prelude.{◌≡◌, ◌≢◌, ◌++◌, ◌∷◌, [], None, Some, AllPairs, IfOk, OnOk, OnErr, length, option_copied, option_map};
+ghost use Rattle.std.specs.FinMap as finite;
+ghost use Rattle.state_store.specs.Store.{Values, with_value, replay, numbered, changes_of, IsBase};
+
+use crate::slots::{Slots, changes_at, copied, put, remove_deleted, replayed};
+use ksql_types::{Bytes, Changelog, StoreEntry};
+use std::alloc::{AllocError, Global};
+use std::marker::Model;
+
+/// A finite map from bytes to bytes, and the keys that were set or deleted since the last commit.
+#[derive(Drop)]
+pub struct Store {
+    slots: Slots,
+    // The index of the slot of each write since the last commit, in the order of the writes.
+    writes: Vec<usize>,
+}
+
+impl Model for Store {
+    ghost use Rattle.state_store.specs.Store.{Content, content_code};
+    ghost use Rattle.state_store.specs.Slots.{content_of, AreIndexes};
+
+    ghost Value = { Content };
+
+    ghost coded = { content_code };
+
+    ghost view = { λ s. content_of s.slots.entries s.writes.items };
+
+    ghost invariant = { λ s. AreIndexes s.slots.entries s.writes.items };
+}
+
+impl Store {
+    /// A store without keys. Takes no memory.
+    pub fn new(alloc: Global) -> Store
+        ensures { result ≡ record { map = finite.empty; written = [] } }
+    {
+        Store {
+            slots: Slots::new(alloc),
+            writes: Vec::new(alloc),
+        }
+    }
+
+    /// The length in bytes of a key's value, or None where it has none.
+    pub fn len_of(&self, key: &[u8]) -> Option<u64>
+        ensures { result ≡ option_map length (finite.get self.now.map key.now) }
+    {
+        self.get(key).map(|value| value.len() as u64)
+    }
+
+    /// The value of a key, or None where it has none.
+    pub fn get(&self, key: &[u8]) -> Option<&[u8]>
+        ensures { option_copied result ≡ finite.get self.now.map key.now }
+    {
+        let value = self.slots.get(key)?.as_ref()?;
+        Some(value.items())
+    }
+
+    /// Gives a key a value, in place of one that it has. After an error the store is as before.
+    pub fn set(&mut self, alloc: Global, key: &[u8], value: &[u8]) -> Result<(), AllocError>
+        ensures map { OnOk result (self.new.map ≡ finite.insert self.old.map key.now value.now) }
+        ensures written { OnOk result (self.new.written ≡ self.old.written ++ key.now ∷ []) }
+        ensures base { (base : Values) → IsBase base self.old → IsBase base self.new }
+        ensures kept { OnErr result (self.new ≡ self.old) }
+    {
+        let value = copied(alloc, value)?;
+        self.write(alloc, key, Some(Bytes::of(value)))
+    }
+
+    /// Takes a key out. It counts as changed where it wasn't there, too. After an error the store is as before.
+    pub fn delete(&mut self, alloc: Global, key: &[u8]) -> Result<(), AllocError>
+        ensures map { OnOk result (self.new.map ≡ finite.remove self.old.map key.now) }
+        ensures written { OnOk result (self.new.written ≡ self.old.written ++ key.now ∷ []) }
+        ensures base { (base : Values) → IsBase base self.old → IsBase base self.new }
+        ensures kept { OnErr result (self.new ≡ self.old) }
+    {
+        self.write(alloc, key, None)
+    }
+
+    /// Commits, and answers the changes since the last commit: one of each key that was set or deleted, in the order of
+    /// the last writes, with its value now or None. Each has the store number 0. After an error the store is as before.
+    pub fn changes(&mut self, alloc: Global) -> Result<Changelog, AllocError>
+        ensures given { IfOk result (λ log. log ≡ changes_of self.old) }
+        ensures one_each { IfOk result (λ log. AllPairs (λ change later. change.key ≢ later.key) log) }
+        ensures replayed { IfOk result (λ log. (base : Values) → IsBase base self.old → replay base log ≡ self.new.map) }
+        ensures map { self.new.map ≡ self.old.map }
+        ensures committed { OnOk result (self.new.written ≡ []) }
+        ensures kept { OnErr result (self.new ≡ self.old) }
+    {
+        let changes = changes_at(&self.slots, alloc, &self.writes)?;
+        self.writes.clear();
+        remove_deleted(&mut self.slots, &changes);
+        Ok(Changelog::of(changes))
+    }
+
+    /// Puts what the entries with a number, one after another, make of an empty map in place of the store's. Nothing counts
+    /// as changed. After an error the store is as before.
+    pub fn load(&mut self, alloc: Global, number: u32, log: &[StoreEntry]) -> Result<(), AllocError>
+        ensures map { OnOk result (self.new.map ≡ replay finite.empty (numbered number log.now)) }
+        ensures committed { OnOk result (self.new.written ≡ []) }
+        ensures kept { OnErr result (self.new ≡ self.old) }
+    {
+        let slots = replayed(alloc, number, log)?;
+        *self = Store {
+            slots,
+            writes: Vec::new(alloc),
+        };
+        Ok(())
+    }
+
+    /// Gives a key a value, or takes it out where that is None.
+    fn write(&mut self, alloc: Global, key: &[u8], value: Option<Bytes>) -> Result<(), AllocError>
+        ensures map { OnOk result (self.new.map ≡ with_value self.old.map key.now value) }
+        ensures written { OnOk result (self.new.written ≡ self.old.written ++ key.now ∷ []) }
+        ensures base { (base : Values) → IsBase base self.old → IsBase base self.new }
+        ensures kept { OnErr result (self.new ≡ self.old) }
+    {
+        self.writes.reserve(1)?;
+        let index = put(&mut self.slots, alloc, key, value)?;
+        self.writes.push(index)?;
+        Ok(())
+    }
+}
