@@ -1,19 +1,18 @@
 -- What a sound program whose forms are run keeps that its topic files and its report ask for.
 use Rattle.std.proofs.Common.{◌≡◌, ◌<◌, ℕ, zero, suc, ◌+◌, List, [], ◌∷◌, ◌++◌, get_or, length, arith, refl, Bool, true, false}
-use Rattle.std.specs.Prelude.{All, IsTrue, ◌≤◌, ◌&&◌, is_none, Some, if◌then◌else◌}
+use Rattle.std.specs.Prelude.{All, IsTrue, ◌≤◌, ◌&&◌, not, is_none, Some, if◌then◌else◌}
 use Rattle.std.proofs.lemmas.Bool.Decides.{nat_tests}
 use Rattle.std.proofs.lemmas.List.Elements.{All-cons, All-head, All-nil, All-tail}
 use Rattle.ksql_types.specs.Names.{is_topic_name}
 use Rattle.ksql_types.specs.declared.relation.Format.{Format}
 use Rattle.ksql_types.specs.declared.relation.Format.TheVariants.{Json, Delimited}
-use Rattle.ksql_types.specs.declared.relation.Kind.{Kind}
-use Rattle.ksql_types.specs.declared.relation.Kind.TheVariants.{Stream, Table, Windowed}
 use Rattle.ksql_types.specs.declared.relation.Relation.{Relation}
 use Rattle.ksql_program.specs.declared.program.Item.{Item}
 use Rattle.ksql_program.specs.declared.program.Item.TheVariants.{Declared, Started}
 use Rattle.ksql_program.specs.Program.{relation_of, relations}
 use Rattle.ksql_program.specs.Sound.{AreSoundItems, IsSound, IsSoundRelation}
-use Rattle.query_meaning.specs.Built.{first_unbuilt_from, is_built, is_built_relation, is_json, is_stream, AreBuilt}
+use Rattle.query_meaning.specs.Built.{first_unbuilt_from, is_built, is_built_relation, is_built_shape, is_json, is_windowed, reads_one, AreBuilt}
+use Rattle.query_meaning.specs.Queries.{kind_at, leftmost}
 use Rattle.run_text.specs.Report.{IsPrintable}
 use Rattle.ksql_cli.specs.Run.{declared_of}
 use Rattle.ksql_cli.specs.Steps.{IsFeedable}
@@ -22,11 +21,7 @@ use Rattle.ksql_cli.specs.Steps.{IsFeedable}
 legal_short : (topic : List ℕ) → IsTrue (is_topic_name topic) → length topic ≤ 249
 legal_short topic legal = grind (arith, nat_tests)
 
--- of two tests that both hold, each
-both_first : (a b : Bool) → IsTrue (a && b) → IsTrue a
-both_first true b is = refl
-both_first false b is = is
-
+-- of two tests that both hold, the second
 both_second : (a b : Bool) → IsTrue (a && b) → IsTrue b
 both_second true b is = is
 both_second false b is = absurd (cc (is))
@@ -35,67 +30,62 @@ json_of : (format : Format) → IsTrue (is_json format) → format ≡ Json
 json_of Json is = refl
 json_of Delimited is = absurd (cc (is))
 
-stream_of : (kind : Kind) → IsTrue (is_stream kind) → kind ≡ Stream
-stream_of Stream is = refl
-stream_of Table is = absurd (cc (is))
-stream_of Windowed is = absurd (cc (is))
+-- of items of a program that are all built, the first and the others
+abbrev Builts : List Item → List Item → Type 0
+Builts items [] = Unit {0}
+Builts items (i ∷ is) = IsTrue (is_built items i) × Builts items is
 
--- of items that are all built, the first and the others
-abbrev Builts : List Item → Type 0
-Builts [] = Unit {0}
-Builts (i ∷ is) = IsTrue (is_built i) × Builts is
-
-builts : (number : ℕ) (is : List Item) → IsTrue (is_none (first_unbuilt_from number is)) → Builts is
-builts number [] none = tt
-builts number (i ∷ is) none = by (is_built i) none (builts (number + 1) is)
+builts : (items : List Item) (number : ℕ) (is : List Item) → IsTrue (is_none (first_unbuilt_from items number is)) → Builts items is
+builts items number [] none = tt
+builts items number (i ∷ is) none = by (is_built items i) none (builts items (number + 1) is)
   where
-    by : (b : Bool) → IsTrue (is_none (if b then first_unbuilt_from (number + 1) is else Some number)) →
-        (IsTrue (is_none (first_unbuilt_from (number + 1) is)) → Builts is) → IsTrue b × Builts is
+    by : (b : Bool) → IsTrue (is_none (if b then first_unbuilt_from items (number + 1) is else Some number)) →
+        (IsTrue (is_none (first_unbuilt_from items (number + 1) is)) → Builts items is) → IsTrue b × Builts items is
     by true rest others = (refl, others rest)
     by false rest others = absurd (cc (rest))
 
 -- the result of a built item is a built relation
-built_relation : (i : Item) → IsTrue (is_built i) → IsTrue (is_built_relation (relation_of i))
-built_relation (Declared r) is = is
-built_relation (Started q) is = both_second _ (is_built_relation q.out) is
+built_relation : (items : List Item) (i : Item) → IsTrue (is_built items i) → IsTrue (is_built_relation (relation_of i))
+built_relation items (Declared r) is = is
+built_relation items (Started q) is =
+    both_second (reads_one q.from && is_built_shape (kind_at items (leftmost q.from)) q.shape) (is_built_relation q.out) is
 
 feedable_one : (number : ℕ) (r : Relation) → IsSoundRelation number r → IsTrue (is_built_relation r) → IsFeedable r
 feedable_one number r sound built = record {
-  json = json_of r.format (both_second (is_stream r.kind) (is_json r.format) built);
+  json = json_of r.format (both_second (not (is_windowed r.kind)) (is_json r.format) built);
   short = legal_short r.topic sound.topic_named;
   some = sound.some_partition;
   few = sound.partitions_few;
 }
 
-each_feedable : (before is : List Item) → AreSoundItems before is → Builts is → All IsFeedable (declared_of is)
-each_feedable before [] sound built = All-nil IsFeedable
-each_feedable before (Declared r ∷ is) sound built =
+each_feedable : (items before is : List Item) → AreSoundItems before is → Builts items is → All IsFeedable (declared_of is)
+each_feedable items before [] sound built = All-nil IsFeedable
+each_feedable items before (Declared r ∷ is) sound built =
     All-cons IsFeedable r (declared_of is) (feedable_one (length before) r sound.0.0 built.0)
-    (each_feedable (before ++ Declared r ∷ []) is sound.1 built.1)
-each_feedable before (Started q ∷ is) sound built = each_feedable (before ++ Started q ∷ []) is sound.1 built.1
+    (each_feedable items (before ++ Declared r ∷ []) is sound.1 built.1)
+each_feedable items before (Started q ∷ is) sound built = each_feedable items (before ++ Started q ∷ []) is sound.1 built.1
 
 pub feedable : (items : List Item) → IsSound items → AreBuilt items → All IsFeedable (declared_of items)
-feedable items sound built = each_feedable [] items sound.sound (builts 1 items built)
+feedable items sound built = each_feedable items [] items sound.sound (builts items 1 items built)
 
 printable_one : (number : ℕ) (r : Relation) → IsSoundRelation number r → IsTrue (is_built_relation r) → IsPrintable r
 printable_one number r sound built = record {
   some = sound.some_partition;
   few = sound.partitions_few;
-  stream = stream_of r.kind (both_first (is_stream r.kind) (is_json r.format) built);
-  json = json_of r.format (both_second (is_stream r.kind) (is_json r.format) built);
+  json = json_of r.format (both_second (not (is_windowed r.kind)) (is_json r.format) built);
 }
 
-each_printable : (before is : List Item) → AreSoundItems before is → Builts is → All IsPrintable (relations is)
-each_printable before [] sound built = All-nil IsPrintable
-each_printable before (Declared r ∷ is) sound built =
+each_printable : (items before is : List Item) → AreSoundItems before is → Builts items is → All IsPrintable (relations is)
+each_printable items before [] sound built = All-nil IsPrintable
+each_printable items before (Declared r ∷ is) sound built =
     All-cons IsPrintable r (relations is) (printable_one (length before) r sound.0.0 built.0)
-    (each_printable (before ++ Declared r ∷ []) is sound.1 built.1)
-each_printable before (Started q ∷ is) sound built =
-    All-cons IsPrintable q.out (relations is) (printable_one (length before) q.out sound.0.0 (built_relation (Started q) built.0))
-    (each_printable (before ++ Started q ∷ []) is sound.1 built.1)
+    (each_printable items (before ++ Declared r ∷ []) is sound.1 built.1)
+each_printable items before (Started q ∷ is) sound built =
+    All-cons IsPrintable q.out (relations is) (printable_one (length before) q.out sound.0.0 (built_relation items (Started q) built.0))
+    (each_printable items (before ++ Started q ∷ []) is sound.1 built.1)
 
 pub printable : (items : List Item) → IsSound items → AreBuilt items → All IsPrintable (relations items)
-printable items sound built = each_printable [] items sound.sound (builts 1 items built)
+printable items sound built = each_printable items [] items sound.sound (builts items 1 items built)
 
 -- each of some items, alone
 pub feedable-at : (items : List Item) (i : ℕ) (d : Item) → i < length items → All IsFeedable (declared_of items) →

@@ -14,17 +14,16 @@ use Rattle.ksql_expr.specs.Value.{value_of, is_taken, first_taken, first_value}
 pub item_and_rest : {X : Type 0} (xs : List X) (i : ℕ) (x : X) → i < length xs → x ≡ get_or xs i x → drop i xs ≡ x ∷ drop (i + 1) xs
 item_and_rest xs i x below is = drop_more xs i x below ∙ ap (λ y. y ∷ drop (i + 1) xs) (sym is)
 
-module _ {X : Type 0} (f : X → Value) (xs rest : List X) (x : X) (v : Value) (at : xs ≡ x ∷ rest) (is : v ≡ f x) where
-  pub value_found : (whole : Value) → is_null v ≡ false → first_value (map f xs) ≡ whole → v ≡ whole
-  value_found whole there same = is ∙ sym (ap (λ l. first_value (map f l)) at ∙ cond-false (is_null (f x)) (first_value (map f rest)) (f x) (ap is_null (sym is) ∙ there)) ∙ same
+module _ {X : Type 0} (f : X → Value) (xs rest : List X) (x : X) (at : xs ≡ x ∷ rest) where
+  pub value_found : (v : Value) → v ≡ f x → (whole : Value) → is_null v ≡ false → first_value (map f xs) ≡ whole → v ≡ whole
+  value_found v is whole there same = is ∙ sym (ap (λ l. first_value (map f l)) at ∙ cond-false (is_null (f x)) (first_value (map f rest)) (f x) (ap is_null (sym is) ∙ there)) ∙ same
 
-  pub any_found : (test : Value → Bool) (whole : Bool) → test v ≡ true → list_any test (map f xs) ≡ whole → true ≡ whole
-  any_found test whole passes same = sym (ap (λ l. list_any test (map f l)) at ∙ ap (λ b. b || list_any test (map f rest)) (ap test (sym is) ∙ passes)) ∙ same
+  pub any_found : (test : Value → Bool) (whole : Bool) → test (f x) ≡ true → list_any test (map f xs) ≡ whole → true ≡ whole
+  any_found test whole passes same = sym (ap (λ l. list_any test (map f l)) at ∙ ap (λ b. b || list_any test (map f rest)) passes) ∙ same
 
 -- WHENs
-module _ (row : List Value) (time : ℕ) (operand : Option Value) (ws rest : List TypedWhen) (w : TypedWhen) (at : ws ≡ w ∷ rest) (cond : Value) (is : cond ≡ value_of row time w.cond) where
-  pub when_found : (whole : Option Value) (made : Value) → is_taken operand cond ≡ true → made ≡ value_of row time w.result
-      → first_taken operand (whens_of row time ws) ≡ whole → Some made ≡ whole
-  when_found whole made taken result same =
-      ap Some result ∙ sym (ap (λ l. first_taken operand (whens_of row time l)) at
-      ∙ cond-true (is_taken operand (value_of row time w.cond)) (Some (value_of row time w.result)) (first_taken operand (whens_of row time rest)) (ap (is_taken operand) (sym is) ∙ taken)) ∙ same
+module _ (row : List Value) (time : ℕ) (operand : Option Value) (ws rest : List TypedWhen) (w : TypedWhen) (at : ws ≡ w ∷ rest) where
+  pub when_found : (whole : Option Value) → is_taken operand (value_of row time w.cond) ≡ true → first_taken operand (whens_of row time ws) ≡ whole → Some (value_of row time w.result) ≡ whole
+  when_found whole taken same =
+      sym (ap (λ l. first_taken operand (whens_of row time l)) at
+      ∙ cond-true (is_taken operand (value_of row time w.cond)) (Some (value_of row time w.result)) (first_taken operand (whens_of row time rest)) taken) ∙ same

@@ -1,5 +1,6 @@
 -- The value that an operand is, lent or made; and the values of the WHENs of a CASE.
-use Rattle.std.specs.Prelude.{ℕ, List, map}
+use Rattle.std.specs.Prelude.{◌≡◌, ℕ, List, map, Result, IfOk}
+use Rattle.std.specs.declared.alloc.AllocError.{AllocError}
 use Rattle.ksql_types.specs.declared.value.Value.{Value}
 use Rattle.ksql_eval.specs.declared.operand.Operand.{Operand}
 use Rattle.ksql_eval.specs.declared.operand.Operand.TheVariants.{Lent, Made}
@@ -9,6 +10,10 @@ use Rattle.ksql_expr.specs.Value.{value_of}
 abbrev pub worth : Operand → Value
 worth (Lent value) = value.now
 worth (Made value) = value
+
+-- what was evaluated is worth a value, unless memory ran out
+abbrev pub IsWorth : Result Operand AllocError → Value → Type 0
+IsWorth made value = IfOk made (λ operand. worth operand ≡ value)
 
 -- the condition and the result of each WHEN
 abbrev pub whens_of : List Value → ℕ → List TypedWhen → List (Value × Value)

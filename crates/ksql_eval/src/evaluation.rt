@@ -1,12 +1,12 @@
-//! The value of an expression on a row. The functions whose frames stand on the stack once for each level of an
-//! expression aren't inlined, and what is made of the values of parts is made outside them, so that their frames are small.
+//! The value of an expression on a row. A function whose frame stands on the stack once for each level of an expression
+//! isn't inlined, and leaves what is made of the values of the parts to `forms`, so that its frame is small.
 
 ghost use Rattle.std.specs.Prelude.{◌≡◌, ◌&&◌, not, IfOk, map, option_map};
 ghost use Rattle.std.specs.List.{list_any, flat_map};
 ghost use Rattle.std.specs.Ordering.{is_eq, is_ge, is_le};
 ghost use Rattle.ksql_types.specs.Key.{is_null};
 ghost use Rattle.ksql_expr.specs.Value.{value_of, cell, applied, signed, cast, is_value_like, with_not, widened, compare_so, is_true_value, chosen, first_value, fun_value, text, bytes_of, of_one, of_two, of_three, of_few};
-ghost use Rattle.ksql_eval.specs.Operand.{worth, whens_of};
+ghost use Rattle.ksql_eval.specs.Operand.{IsWorth, worth, whens_of};
 ghost use Rattle.ksql_eval.specs.View.{cells, value_on};
 
 use crate::forms::{self, is_true, with_not};
@@ -37,7 +37,7 @@ pub fn holds(alloc: Global, on: &Typed, view: &RowView) -> Result<bool, AllocErr
 #[cycle(eval)]
 #[inline(never)]
 fn operand_of<'a>(alloc: Global, typed: &'a Typed, view: &RowView<'a>) -> Evaluated<Operand<'a>>
-    ensures { IfOk result (λ operand. worth operand ≡ value_on view.now typed.now) }
+    ensures { IsWorth result (value_on view.now typed.now) }
 {
     match &typed.node {
         TypedNode::Literal(value) => Ok(Operand::Lent(value)),
@@ -86,7 +86,7 @@ fn sign_of<'a>(
     arg: &'a Typed,
     view: &RowView<'a>,
 ) -> Evaluated<Operand<'a>>
-    ensures { IfOk result (λ made. worth made ≡ signed ty minus (value_on view.now arg.now)) }
+    ensures { IsWorth result (signed ty minus (value_on view.now arg.now)) }
 {
     forms::sign(ty, minus, operand_of(alloc, arg, view))
 }
@@ -102,7 +102,7 @@ fn binary_of<'a>(
     right: &'a Typed,
     view: &RowView<'a>,
 ) -> Evaluated<Operand<'a>>
-    ensures { IfOk result (λ made. worth made ≡ applied ty op (value_on view.now left.now) (value_on view.now right.now)) }
+    ensures { IsWorth result (applied ty op (value_on view.now left.now) (value_on view.now right.now)) }
 {
     forms::binary(
         alloc,
@@ -117,7 +117,7 @@ fn binary_of<'a>(
 #[cycle(eval)]
 #[inline(never)]
 fn not_of<'a>(alloc: Global, arg: &'a Typed, view: &RowView<'a>) -> Evaluated<Operand<'a>>
-    ensures { IfOk result (λ made. worth made ≡ Value.Bool (not (is_true_value (value_on view.now arg.now)))) }
+    ensures { IsWorth result (Value.Bool (not (is_true_value (value_on view.now arg.now)))) }
 {
     forms::negation(operand_of(alloc, arg, view))
 }
@@ -131,7 +131,7 @@ fn is_null_of<'a>(
     arg: &'a Typed,
     view: &RowView<'a>,
 ) -> Evaluated<Operand<'a>>
-    ensures { IfOk result (λ made. worth made ≡ with_not negated (is_null (value_on view.now arg.now))) }
+    ensures { IsWorth result (with_not negated (is_null (value_on view.now arg.now))) }
 {
     forms::null_test(negated, operand_of(alloc, arg, view))
 }
@@ -147,7 +147,7 @@ fn between_of<'a>(
     high: &'a Typed,
     view: &RowView<'a>,
 ) -> Evaluated<Operand<'a>>
-    ensures { IfOk result (λ made. worth made ≡ with_not negated (compare_so is_ge (value_on view.now arg.now) (value_on view.now low.now) && compare_so is_le (value_on view.now arg.now) (value_on view.now high.now))) }
+    ensures { IsWorth result (with_not negated (compare_so is_ge (value_on view.now arg.now) (value_on view.now low.now) && compare_so is_le (value_on view.now arg.now) (value_on view.now high.now))) }
 {
     forms::between(
         negated,
@@ -167,7 +167,7 @@ fn one_of<'a>(
     arg: &'a Typed,
     view: &RowView<'a>,
 ) -> Evaluated<Operand<'a>>
-    ensures { IfOk result (λ made. worth made ≡ with_not negated (list_any (compare_so is_eq (value_on view.now arg.now)) (map (value_on view.now) choices.now))) }
+    ensures { IsWorth result (with_not negated (list_any (compare_so is_eq (value_on view.now arg.now)) (map (value_on view.now) choices.now))) }
 {
     let value = operand_of(alloc, arg, view)?;
     for choice in choices {
@@ -189,7 +189,7 @@ fn like_of<'a>(
     pattern: &'a Chars,
     view: &RowView<'a>,
 ) -> Evaluated<Operand<'a>>
-    ensures { IfOk result (λ made. worth made ≡ with_not negated (is_value_like pattern.now (value_on view.now arg.now))) }
+    ensures { IsWorth result (with_not negated (is_value_like pattern.now (value_on view.now arg.now))) }
 {
     forms::like(negated, operand_of(alloc, arg, view), pattern)
 }
@@ -203,7 +203,7 @@ fn cast_of<'a>(
     to: SqlType,
     view: &RowView<'a>,
 ) -> Evaluated<Operand<'a>>
-    ensures { IfOk result (λ made. worth made ≡ cast to (value_on view.now arg.now)) }
+    ensures { IsWorth result (cast to (value_on view.now arg.now)) }
 {
     forms::cast(alloc, to, operand_of(alloc, arg, view))
 }
@@ -219,7 +219,7 @@ fn case_of<'a>(
     otherwise: &'a Option<Box<Typed>>,
     view: &RowView<'a>,
 ) -> Evaluated<Operand<'a>>
-    ensures { IfOk result (λ made. worth made ≡ widened ty (chosen (option_map (value_on view.now) arg.now) (whens_of (cells view.now) view.now.time whens.now) (option_map (value_on view.now) otherwise.now))) }
+    ensures { IsWorth result (widened ty (chosen (option_map (value_on view.now) arg.now) (whens_of (cells view.now) view.now.time whens.now) (option_map (value_on view.now) otherwise.now))) }
 {
     let operand = perhaps(alloc, arg, view)?;
     for when in whens {
@@ -257,7 +257,7 @@ fn call_of<'a>(
     args: &'a [Typed],
     view: &RowView<'a>,
 ) -> Evaluated<Operand<'a>>
-    ensures { IfOk result (λ made. worth made ≡ fun_value ty fun (map (value_on view.now) args.now)) }
+    ensures { IsWorth result (fun_value ty fun (map (value_on view.now) args.now)) }
 {
     match fun {
         Fun::Concat => concatenated(alloc, args, view),
@@ -271,7 +271,7 @@ fn call_of<'a>(
 #[cycle(eval)]
 #[inline(never)]
 fn concatenated<'a>(alloc: Global, args: &'a [Typed], view: &RowView<'a>) -> Evaluated<Operand<'a>>
-    ensures { IfOk result (λ made. worth made ≡ text (flat_map bytes_of (map (value_on view.now) args.now))) }
+    ensures { IsWorth result (text (flat_map bytes_of (map (value_on view.now) args.now))) }
 {
     let mut whole = String::new(alloc);
     for arg in args {
@@ -292,7 +292,7 @@ fn coalesced<'a>(
     args: &'a [Typed],
     view: &RowView<'a>,
 ) -> Evaluated<Operand<'a>>
-    ensures { IfOk result (λ found. worth found ≡ widened ty (first_value (map (value_on view.now) args.now))) }
+    ensures { IsWorth result (widened ty (first_value (map (value_on view.now) args.now))) }
 {
     for arg in args {
         let arg = operand_of(alloc, arg, view)?;
@@ -313,7 +313,7 @@ fn of_few<'a>(
     args: &'a [Typed],
     view: &RowView<'a>,
 ) -> Evaluated<Operand<'a>>
-    ensures { IfOk result (λ made. worth made ≡ of_few ty fun (map (value_on view.now) args.now)) }
+    ensures { IsWorth result (of_few ty fun (map (value_on view.now) args.now)) }
 {
     match args {
         [arg] => of_one(alloc, ty, fun, arg, view),
@@ -333,7 +333,7 @@ fn of_one<'a>(
     arg: &'a Typed,
     view: &RowView<'a>,
 ) -> Evaluated<Operand<'a>>
-    ensures { IfOk result (λ made. worth made ≡ of_one ty fun (value_on view.now arg.now)) }
+    ensures { IsWorth result (of_one ty fun (value_on view.now arg.now)) }
 {
     forms::of_one(alloc, ty, fun, operand_of(alloc, arg, view))
 }
@@ -348,7 +348,7 @@ fn of_two<'a>(
     second: &'a Typed,
     view: &RowView<'a>,
 ) -> Evaluated<Operand<'a>>
-    ensures { IfOk result (λ made. worth made ≡ of_two fun (value_on view.now first.now) (value_on view.now second.now)) }
+    ensures { IsWorth result (of_two fun (value_on view.now first.now) (value_on view.now second.now)) }
 {
     forms::of_two(
         alloc,
@@ -369,7 +369,7 @@ fn of_three<'a>(
     third: &'a Typed,
     view: &RowView<'a>,
 ) -> Evaluated<Operand<'a>>
-    ensures { IfOk result (λ made. worth made ≡ of_three fun (value_on view.now first.now) (value_on view.now second.now) (value_on view.now third.now)) }
+    ensures { IsWorth result (of_three fun (value_on view.now first.now) (value_on view.now second.now) (value_on view.now third.now)) }
 {
     forms::of_three(
         alloc,

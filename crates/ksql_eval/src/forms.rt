@@ -1,11 +1,11 @@
-//! What a form makes of the values of its parts.
+//! What a form makes of the values of its parts: outside the functions that evaluate them, whose frames stay small so.
 
 ghost use Rattle.std.specs.Prelude.{◌≡◌, ◌&&◌, not, Option, Some, IfOk, option_map, unwrap_or};
 ghost use Rattle.std.specs.Ordering.{is_ge, is_le, is_eq};
 ghost use Rattle.ksql_types.specs.Key.{is_null};
 ghost use Rattle.ksql_types.specs.declared.value.Value.{Value as Worth};
 ghost use Rattle.ksql_expr.specs.Value.{applied, signed, cast, is_value_like, with_not, widened, compare_so, is_true_value, is_taken, of_one, of_two, of_three};
-ghost use Rattle.ksql_eval.specs.Operand.{worth};
+ghost use Rattle.ksql_eval.specs.Operand.{IsWorth, worth};
 
 use crate::comparison::{is_at_least, is_at_most, is_equal, is_greater, is_less, is_other};
 use crate::number::{difference, magnitude, negated, product, quotient, remainder, sum};
@@ -40,7 +40,7 @@ pub fn sign<'a>(
     minus: bool,
     arg: Evaluated<Operand<'a>>,
 ) -> Evaluated<Operand<'a>>
-    ensures { (x : Worth) → IfOk arg.entry (λ a. worth a ≡ x) → IfOk result (λ made. worth made ≡ signed ty minus x) }
+    ensures { (x : Worth) → IsWorth arg.entry x → IsWorth result (signed ty minus x) }
 {
     let arg = arg?;
     if minus {
@@ -59,7 +59,7 @@ pub fn binary<'a>(
     left: Evaluated<Operand<'a>>,
     right: Evaluated<Operand<'a>>,
 ) -> Evaluated<Operand<'a>>
-    ensures { (x y : Worth) → IfOk left.entry (λ a. worth a ≡ x) → IfOk right.entry (λ a. worth a ≡ y) → IfOk result (λ made. worth made ≡ applied ty op x y) }
+    ensures { (x y : Worth) → IsWorth left.entry x → IsWorth right.entry y → IsWorth result (applied ty op x y) }
 {
     let left = left?;
     let right = right?;
@@ -99,7 +99,7 @@ fn apply(
 /// NOT.
 #[inline(never)]
 pub fn negation<'a>(arg: Evaluated<Operand<'a>>) -> Evaluated<Operand<'a>>
-    ensures { (x : Worth) → IfOk arg.entry (λ a. worth a ≡ x) → IfOk result (λ made. worth made ≡ Value.Bool (not (is_true_value x))) }
+    ensures { (x : Worth) → IsWorth arg.entry x → IsWorth result (Value.Bool (not (is_true_value x))) }
 {
     let arg = arg?;
     Ok(Operand::Made(Value::Bool(!is_true(arg.get()))))
@@ -108,7 +108,7 @@ pub fn negation<'a>(arg: Evaluated<Operand<'a>>) -> Evaluated<Operand<'a>>
 /// IS NULL, and IS NOT NULL.
 #[inline(never)]
 pub fn null_test<'a>(negated: bool, arg: Evaluated<Operand<'a>>) -> Evaluated<Operand<'a>>
-    ensures { (x : Worth) → IfOk arg.entry (λ a. worth a ≡ x) → IfOk result (λ made. worth made ≡ with_not negated (is_null x)) }
+    ensures { (x : Worth) → IsWorth arg.entry x → IsWorth result (with_not negated (is_null x)) }
 {
     let arg = arg?;
     Ok(with_not(negated, arg.get().is_null()))
@@ -122,7 +122,7 @@ pub fn between<'a>(
     low: Evaluated<Operand<'a>>,
     high: Evaluated<Operand<'a>>,
 ) -> Evaluated<Operand<'a>>
-    ensures { (x y z : Worth) → IfOk arg.entry (λ a. worth a ≡ x) → IfOk low.entry (λ a. worth a ≡ y) → IfOk high.entry (λ a. worth a ≡ z) → IfOk result (λ made. worth made ≡ with_not negated (compare_so is_ge x y && compare_so is_le x z)) }
+    ensures { (x y z : Worth) → IsWorth arg.entry x → IsWorth low.entry y → IsWorth high.entry z → IsWorth result (with_not negated (compare_so is_ge x y && compare_so is_le x z)) }
 {
     let arg = arg?;
     let low = low?;
@@ -138,7 +138,7 @@ pub fn like<'a>(
     arg: Evaluated<Operand<'a>>,
     pattern: &Chars,
 ) -> Evaluated<Operand<'a>>
-    ensures { (x : Worth) → IfOk arg.entry (λ a. worth a ≡ x) → IfOk result (λ made. worth made ≡ with_not negated (is_value_like pattern.now x)) }
+    ensures { (x : Worth) → IsWorth arg.entry x → IsWorth result (with_not negated (is_value_like pattern.now x)) }
 {
     let arg = arg?;
     Ok(with_not(negated, is_value_like(pattern, arg.get())))
@@ -147,7 +147,7 @@ pub fn like<'a>(
 /// CAST of a value to a type.
 #[inline(never)]
 pub fn cast<'a>(alloc: Global, to: SqlType, arg: Evaluated<Operand<'a>>) -> Evaluated<Operand<'a>>
-    ensures { (x : Worth) → IfOk arg.entry (λ a. worth a ≡ x) → IfOk result (λ made. worth made ≡ cast to x) }
+    ensures { (x : Worth) → IsWorth arg.entry x → IsWorth result (cast to x) }
 {
     let arg = arg?;
     let value = arg.get();
@@ -167,7 +167,7 @@ pub fn of_one<'a>(
     fun: Fun,
     arg: Evaluated<Operand<'a>>,
 ) -> Evaluated<Operand<'a>>
-    ensures { (x : Worth) → IfOk arg.entry (λ a. worth a ≡ x) → IfOk result (λ made. worth made ≡ of_one ty fun x) }
+    ensures { (x : Worth) → IsWorth arg.entry x → IsWorth result (of_one ty fun x) }
 {
     let arg = arg?;
     let value = arg.get();
@@ -190,7 +190,7 @@ pub fn of_two<'a>(
     first: Evaluated<Operand<'a>>,
     second: Evaluated<Operand<'a>>,
 ) -> Evaluated<Operand<'a>>
-    ensures { (x y : Worth) → IfOk first.entry (λ a. worth a ≡ x) → IfOk second.entry (λ a. worth a ≡ y) → IfOk result (λ made. worth made ≡ of_two fun x y) }
+    ensures { (x y : Worth) → IsWorth first.entry x → IsWorth second.entry y → IsWorth result (of_two fun x y) }
 {
     let first = first?;
     let second = second?;
@@ -210,7 +210,7 @@ pub fn of_three<'a>(
     second: Evaluated<Operand<'a>>,
     third: Evaluated<Operand<'a>>,
 ) -> Evaluated<Operand<'a>>
-    ensures { (x y z : Worth) → IfOk first.entry (λ a. worth a ≡ x) → IfOk second.entry (λ a. worth a ≡ y) → IfOk third.entry (λ a. worth a ≡ z) → IfOk result (λ made. worth made ≡ of_three fun x y z) }
+    ensures { (x y z : Worth) → IsWorth first.entry x → IsWorth second.entry y → IsWorth third.entry z → IsWorth result (of_three fun x y z) }
 {
     let first = first?;
     let second = second?;
@@ -227,7 +227,7 @@ pub fn of_three<'a>(
 /// The value of an expression that isn't left out.
 #[inline(never)]
 pub fn there<'a>(value: Evaluated<Operand<'a>>) -> Evaluated<Option<Operand<'a>>>
-    ensures { (x : Worth) → IfOk value.entry (λ a. worth a ≡ x) → IfOk result (λ found. option_map worth found ≡ Some x) }
+    ensures { (x : Worth) → IsWorth value.entry x → IfOk result (λ found. option_map worth found ≡ Some x) }
 {
     let value = value?;
     Ok(Some(value))
@@ -236,7 +236,7 @@ pub fn there<'a>(value: Evaluated<Operand<'a>>) -> Evaluated<Option<Operand<'a>>
 /// A value in the type of the whole.
 #[inline(never)]
 pub fn widened<'a>(ty: Option<SqlType>, value: Evaluated<Operand<'a>>) -> Evaluated<Operand<'a>>
-    ensures { (x : Worth) → IfOk value.entry (λ a. worth a ≡ x) → IfOk result (λ made. worth made ≡ widened ty x) }
+    ensures { (x : Worth) → IsWorth value.entry x → IsWorth result (widened ty x) }
 {
     let value = value?;
     Ok(value.widened(ty))
@@ -248,7 +248,7 @@ pub fn or_null<'a>(
     ty: Option<SqlType>,
     value: Evaluated<Option<Operand<'a>>>,
 ) -> Evaluated<Operand<'a>>
-    ensures { (x : Option Worth) → IfOk value.entry (λ a. option_map worth a ≡ x) → IfOk result (λ made. worth made ≡ widened ty (unwrap_or x Value.Null)) }
+    ensures { (x : Option Worth) → IfOk value.entry (λ a. option_map worth a ≡ x) → IsWorth result (widened ty (unwrap_or x Value.Null)) }
 {
     let value = value?;
     match value {
@@ -260,7 +260,7 @@ pub fn or_null<'a>(
 /// Whether a value equals a choice of IN.
 #[inline(never)]
 pub fn is_choice(value: &Operand, choice: Evaluated<Operand>) -> Evaluated<bool>
-    ensures { (x : Worth) → IfOk choice.entry (λ a. worth a ≡ x) → IfOk result (λ found. found ≡ compare_so is_eq (worth value.now) x) }
+    ensures { (x : Worth) → IsWorth choice.entry x → IfOk result (λ found. found ≡ compare_so is_eq (worth value.now) x) }
 {
     let choice = choice?;
     Ok(is_equal(value.get(), choice.get()))
@@ -269,7 +269,7 @@ pub fn is_choice(value: &Operand, choice: Evaluated<Operand>) -> Evaluated<bool>
 /// Whether a WHEN is taken: its condition is TRUE, or equals the operand.
 #[inline(never)]
 pub fn is_taken(operand: &Option<Operand>, cond: Evaluated<Operand>) -> Evaluated<bool>
-    ensures { (x : Worth) → IfOk cond.entry (λ a. worth a ≡ x) → IfOk result (λ taken. taken ≡ is_taken (option_map worth operand.now) x) }
+    ensures { (x : Worth) → IsWorth cond.entry x → IfOk result (λ taken. taken ≡ is_taken (option_map worth operand.now) x) }
 {
     let cond = cond?;
     match operand {

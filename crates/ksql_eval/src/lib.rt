@@ -10,7 +10,9 @@ mod pattern;
 mod text;
 mod view;
 
+pub use comparison::{is_greater, is_less};
 pub use evaluation::{eval, holds};
+pub use number::{number_in, whole};
 pub use view::RowView;
 
 #[cfg(test)]

@@ -30,7 +30,7 @@ fn low_word(exact: i128) -> i64
 }
 
 /// A number in a type, brought into its range in two's complement; NULL in another type.
-fn number(ty: Option<SqlType>, exact: i128) -> Value
+pub fn number_in(ty: Option<SqlType>, exact: i128) -> Value
     ensures { result ≡ number ty exact }
 {
     match ty {
@@ -45,7 +45,7 @@ pub fn sum(ty: Option<SqlType>, left: &Value, right: &Value) -> Value
     ensures { result ≡ from_two ty sum left.now right.now }
 {
     match (whole(left), whole(right)) {
-        (Some(left), Some(right)) => number(ty, i128::from(left) + i128::from(right)),
+        (Some(left), Some(right)) => number_in(ty, i128::from(left) + i128::from(right)),
         _ => Value::Null,
     }
 }
@@ -55,7 +55,7 @@ pub fn difference(ty: Option<SqlType>, left: &Value, right: &Value) -> Value
     ensures { result ≡ from_two ty difference left.now right.now }
 {
     match (whole(left), whole(right)) {
-        (Some(left), Some(right)) => number(ty, i128::from(left) - i128::from(right)),
+        (Some(left), Some(right)) => number_in(ty, i128::from(left) - i128::from(right)),
         _ => Value::Null,
     }
 }
@@ -65,7 +65,7 @@ pub fn product(ty: Option<SqlType>, left: &Value, right: &Value) -> Value
     ensures { result ≡ from_two ty product left.now right.now }
 {
     match (whole(left), whole(right)) {
-        (Some(left), Some(right)) => number(ty, i128::from(left) * i128::from(right)),
+        (Some(left), Some(right)) => number_in(ty, i128::from(left) * i128::from(right)),
         _ => Value::Null,
     }
 }
@@ -76,7 +76,7 @@ pub fn quotient(ty: Option<SqlType>, left: &Value, right: &Value) -> Value
 {
     match (whole(left), whole(right)) {
         (Some(_), Some(0)) => Value::Null,
-        (Some(left), Some(right)) => number(ty, i128::from(left) / i128::from(right)),
+        (Some(left), Some(right)) => number_in(ty, i128::from(left) / i128::from(right)),
         _ => Value::Null,
     }
 }
@@ -87,7 +87,7 @@ pub fn remainder(ty: Option<SqlType>, left: &Value, right: &Value) -> Value
 {
     match (whole(left), whole(right)) {
         (Some(_), Some(0)) => Value::Null,
-        (Some(left), Some(right)) => number(ty, i128::from(left) % i128::from(right)),
+        (Some(left), Some(right)) => number_in(ty, i128::from(left) % i128::from(right)),
         _ => Value::Null,
     }
 }
@@ -97,7 +97,7 @@ pub fn negated(ty: Option<SqlType>, value: &Value) -> Value
     ensures { result ≡ from_one ty neg_ℤ value.now }
 {
     match whole(value) {
-        Some(whole) => number(ty, -i128::from(whole)),
+        Some(whole) => number_in(ty, -i128::from(whole)),
         None => Value::Null,
     }
 }
@@ -107,7 +107,7 @@ pub fn magnitude(ty: Option<SqlType>, value: &Value) -> Value
     ensures { result ≡ from_one ty magnitude value.now }
 {
     match whole(value) {
-        Some(whole) => number(ty, i128::from(whole).abs()),
+        Some(whole) => number_in(ty, i128::from(whole).abs()),
         None => Value::Null,
     }
 }

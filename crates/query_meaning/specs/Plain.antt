@@ -1,25 +1,48 @@
--- What a change gives to a query over one relation without a grouping, and where the changes of a relation lie.
-use Rattle.std.specs.Prelude.{ℕ, ◌≡◌, List, [], ◌∷◌, ◌++◌, flat_map, filter, replicate, ◌==◌, Bool, true, if◌then◌else◌, Option, Some, None}
-use Rattle.ksql_types.specs.declared.relation.Kind.TheVariants.{Stream}
+-- What a query over one relation makes of its changes, one by one without a grouping, and where the changes of a relation lie.
+use Rattle.std.specs.Prelude.{ℕ, ◌≡◌, List, [], ◌∷◌, ◌++◌, map, flat_map, filter, replicate, ◌==◌, Bool, true, if◌then◌else◌, Option, Some, None, option_map}
+use Rattle.ksql_types.specs.declared.relation.Kind.{Kind}
+use Rattle.ksql_types.specs.declared.relation.Kind.TheVariants.{Stream, Table, Windowed}
 use Rattle.ksql_types.specs.declared.value.Value.{Value}
 use Rattle.ksql_types.specs.declared.value.Value.TheVariants.{Null}
 use Rattle.ksql_place.specs.Said.{saying}
 use Rattle.ksql_place.specs.declared.change.Body.{Body}
+use Rattle.ksql_place.specs.declared.change.Body.TheVariants.{Said, Turned}
 use Rattle.ksql_place.specs.declared.change.Change.{Change}
 use Rattle.ksql_place.specs.declared.change.SourceRecord.{SourceRecord}
 use Rattle.ksql_expr.specs.declared.typed.Typed.{Typed}
 use Rattle.ksql_expr.specs.Value.{value_of, is_true_value}
-use Rattle.ksql_nodes.specs.Entries.{Row}
+use Rattle.ksql_program.specs.declared.program.Item.{Item}
+use Rattle.ksql_program.specs.declared.query.Agg.{Agg}
+use Rattle.ksql_program.specs.declared.query.Shape.{Shape}
+use Rattle.ksql_nodes.specs.declared.node.Node.{Node}
+use Rattle.ksql_nodes.specs.declared.node.Node.TheVariants as node
+use Rattle.ksql_nodes.specs.Entries.{Row, from_side, through}
+use Rattle.ksql_nodes.specs.Nodes.{gives}
 use Rattle.ksql_nodes.specs.Rows.{filtered, selected, values}
-use Rattle.query_meaning.specs.Queries.{key_cells, with_key_cells}
+use Rattle.query_meaning.specs.Meaning.{steps_of_declared}
+use Rattle.query_meaning.specs.Queries.{after_aggregate, filter_of, key_cells, key_columns, kind_at, partitions_at, shape_steps, with_key_cells}
 use Rattle.query_meaning.specs.declared.meaning.At.{At}
 use Rattle.query_meaning.specs.declared.meaning.Plain.{Plain}
 use Rattle.query_meaning.specs.declared.meaning.Listed.{Listed}
 use Rattle.query_meaning.specs.declared.meaning.Listed.TheVariants.{Lent, Made}
 
+-- what the records of a topic say to a relation of a kind
+abbrev pub said_to : Kind → ℕ → List SourceRecord → List Change
+said_to kind number order = flat_map (saying kind) (filter (λ r. r.stamp.topic == number) order)
+
+-- the changes of a declared relation of a kind
+abbrev pub changes_by : Kind → ℕ → List SourceRecord → List Change
+changes_by kind number order = through (steps_of_declared kind number) (from_side 0 (said_to kind number order))
+
+-- what a row, or that there is none, says to a relation of a kind
+abbrev pub raw_body : Kind → Option Row → Option Body
+raw_body Stream row = option_map (λ r. Said r) row
+raw_body Table row = Some (Turned None row)
+raw_body Windowed row = None
+
 -- what the records of a topic say to a stream
 abbrev pub rows_said : ℕ → List SourceRecord → List Change
-rows_said number order = flat_map (saying Stream) (filter (λ r. r.stamp.topic == number) order)
+rows_said number order = said_to Stream number order
 
 -- the changes of a relation, wherever they lie
 abbrev pub changes_of : Listed → List Change
@@ -55,6 +78,17 @@ row_left columns filter items time key row =
 abbrev pub passed : Option Typed → Change → List Change
 passed None c = c ∷ []
 passed (Some on) c = filtered on c
+
+-- what a query over one relation makes of the changes of that relation, by its WHERE and its shape
+abbrev pub changes_over : List Item → ℕ → Option Typed → Shape → List Change → List Change
+changes_over items number on shape changes =
+    let lanes = partitions_at items number in
+    through (map (gives lanes) (filter_of on) ++ shape_steps lanes (kind_at items number) shape)
+    (from_side 0 (map (with_key_cells (key_columns items number)) changes))
+
+-- the nodes of a query over a stream that is grouped without a window
+abbrev pub grouped_nodes : Option Typed → List Typed → List Agg → Option Typed → List Typed → List Node
+grouped_nodes on keys aggs having values = filter_of on ++ node.Group keys ∷ node.Aggregate Stream aggs None ∷ after_aggregate having values
 
 -- what a change gives to a query over a relation of so many key columns, with this WHERE and this select list
 abbrev pub plain_gives : ℕ → Option Typed → List Typed → List Typed → Change → List Change

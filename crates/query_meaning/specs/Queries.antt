@@ -77,9 +77,13 @@ leftmost (Join kind left right on) = left
 abbrev pub kind_at : List Item → ℕ → Kind
 kind_at items number = unwrap_or (option_map (λ r. r.kind) (relation_at items number)) kind.Stream
 
+-- the partitions of a relation
+abbrev pub partitions_at : List Item → ℕ → ℕ
+partitions_at items number = unwrap_or (option_map (λ r. r.partitions) (relation_at items number)) 1
+
 -- the lanes of a query: the partitions of its leftmost relation
 abbrev pub lanes_of : List Item → Query → ℕ
-lanes_of items q = unwrap_or (option_map (λ r. r.partitions) (relation_at items (leftmost q.from))) 1
+lanes_of items q = partitions_at items (leftmost q.from)
 
 -- a side of a join: its relation, and how many columns that has
 abbrev pub side_at : List Item → ℕ → Side

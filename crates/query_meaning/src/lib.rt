@@ -3,6 +3,7 @@
 
 mod built;
 mod meaning;
+mod steps;
 
 pub use built::first_unbuilt;
 pub use ksql_nodes::{Node, Nodes, Side};

@@ -1,14 +1,14 @@
-ghost use Rattle.std.specs.Prelude.{◌≡◌, ◌<◌, ◌≤◌, [], ◌∷◌, ◌++◌, ◌&&◌, map, option_and_then, replicate, IfOk, OnOk, IsTrue};
+ghost use Rattle.std.specs.Prelude.{◌≡◌, ◌<◌, ◌≤◌, [], ◌∷◌, ◌++◌, ◌&&◌, map, option_and_then, IfOk, OnOk, IsTrue};
 ghost use Rattle.std.specs.List.{flat_map};
-ghost use Rattle.ksql_types.specs.declared.value.Value.TheVariants.{Null};
 ghost use Rattle.ksql_place.specs.declared.change.Body.TheVariants as body;
 ghost use Rattle.ksql_eval.specs.View.{cells};
 ghost use Rattle.ksql_nodes.specs.Rows.{key_of, turned, values};
-ghost use Rattle.query_meaning.specs.Built.{is_built, is_plain, reads_one, AreBuilt};
-ghost use Rattle.query_meaning.specs.Meaning.{item_changes, meaning, partition_of};
-ghost use Rattle.query_meaning.specs.Plain.{HasNulls, change_at, changes_of, passes, plain_gives, row_left, rows_said};
-ghost use Rattle.query_meaning.specs.Queries.{key_cells, key_columns, query_changes};
+ghost use Rattle.query_meaning.specs.Built.{is_built, is_built_query, is_built_relation, is_built_shape, AreBuilt};
+ghost use Rattle.query_meaning.specs.Meaning.{declared_changes, item_changes, meaning, partition_of};
+ghost use Rattle.query_meaning.specs.Plain.{HasNulls, change_at, changes_of, changes_over, passes, plain_gives, row_left, rows_said};
+ghost use Rattle.query_meaning.specs.Queries.{key_cells, key_columns, kind_at, partitions_at, query_changes, with_key_cells};
 
+use crate::steps::{grouped_nodes, nulls, said_to, table_changes, through, whole_changes};
 use ksql_eval::{RowView, eval, holds};
 use ksql_expr::Typed;
 use ksql_place::{Body, Change, Changes, Path, Place, SourceRecord, Stamp, said_by};
@@ -87,14 +87,11 @@ fn item_changes<'a>(
     lists: &[Listed<'a>],
     item: &Item,
 ) -> Result<Listed<'a>, AllocError>
-    requires { IsTrue (is_built item.now) }
+    requires { IsTrue (is_built program.now.items item.now) }
     ensures { IfOk result (λ listed. changes_of listed ≡ item_changes program.now.items order.now (map changes_of lists.now) item.now) }
 {
     match item {
-        Item::Declared(relation) => Ok(Listed::Lent {
-            number: relation.number,
-            order,
-        }),
+        Item::Declared(relation) => declared_changes(alloc, relation, order),
         Item::Started(query) => {
             let changes = query_changes(alloc, program, lists, query)?;
             Ok(Listed::Made(Items::of(changes)))
@@ -102,32 +99,82 @@ fn item_changes<'a>(
     }
 }
 
-/// The changes of the result of a query over one relation without a grouping. No other query is built.
+/// The changes of a declared stream or table.
+fn declared_changes<'a>(
+    alloc: Global,
+    relation: &Relation,
+    order: &'a [SourceRecord],
+) -> Result<Listed<'a>, AllocError>
+    requires { IsTrue (is_built_relation relation.now) }
+    ensures { IfOk result (λ listed. changes_of listed ≡ declared_changes relation.now order.now) }
+{
+    let number = relation.number;
+    match relation.kind {
+        Kind::Stream => Ok(Listed::Lent { number, order }),
+        Kind::Table => {
+            let changes = table_changes(alloc, number, order)?;
+            Ok(Listed::Made(Items::of(changes)))
+        }
+        Kind::Windowed => unreachable!(),
+    }
+}
+
+/// The changes of the result of a query over one relation. No other query is built.
 fn query_changes(
     alloc: Global,
     program: &Program,
     lists: &[Listed],
     query: &Query,
 ) -> Result<Vec<Change>, AllocError>
-    requires { IsTrue (reads_one query.now.from && is_plain query.now.shape) }
+    requires { IsTrue (is_built_query program.now.items query.now) }
     ensures { IfOk result (λ changes. changes.items ≡ query_changes program.now.items (map changes_of lists.now) query.now) }
 {
     let From::One { relation } = &query.from else {
         unreachable!()
     };
-    let Shape::Plain { keys, values } = &query.shape else {
-        unreachable!()
-    };
     match lists.get(*relation as usize) {
-        Some(source) => plain_changes(
-            alloc,
-            key_columns(program, *relation),
-            &query.filter,
-            keys.items(),
-            values.items(),
-            source,
-        ),
+        Some(source) => {
+            changes_over(
+                alloc,
+                program,
+                *relation,
+                &query.filter,
+                &query.shape,
+                source,
+            )
+        }
         None => Ok(Vec::new(alloc)),
+    }
+}
+
+/// What a query over a relation makes of the changes of that relation.
+fn changes_over(
+    alloc: Global,
+    program: &Program,
+    relation: u32,
+    filter: &Option<Typed>,
+    shape: &Shape,
+    source: &Listed,
+) -> Result<Vec<Change>, AllocError>
+    requires { IsTrue (is_built_shape (kind_at program.now.items relation) shape.now) }
+    ensures { IfOk result (λ changes. changes.items ≡ changes_over program.now.items relation filter.now shape.now (changes_of source.now)) }
+{
+    let columns = key_columns(program, relation);
+    match shape {
+        Shape::Plain { keys, values } => {
+            plain_changes(alloc, columns, filter, keys.items(), values.items(), source)
+        }
+        Shape::Group {
+            keys,
+            aggs,
+            having,
+            values,
+            ..
+        } => {
+            let nodes = grouped_nodes(alloc, filter, keys, aggs, having, values)?;
+            let whole = changes_read(alloc, columns, source)?;
+            through(alloc, lanes_of(program, relation), nodes.as_slice(), whole)
+        }
     }
 }
 
@@ -150,6 +197,29 @@ fn plain_changes(
         values,
     };
     results_of(alloc, &plain, source)
+}
+
+/// The lanes of a query over a relation: its partitions.
+fn lanes_of(program: &Program, relation: u32) -> u32
+    ensures { result ≡ partitions_at program.now.items relation }
+{
+    match program.items.items().get(relation as usize) {
+        Some(item) => relation_of(item).partitions,
+        None => 1,
+    }
+}
+
+/// The changes of a relation with so many key columns, with whole rows.
+fn changes_read(alloc: Global, columns: usize, source: &Listed) -> Result<Vec<Change>, AllocError>
+    ensures { IfOk result (λ changes. changes.items ≡ map (with_key_cells columns) (changes_of source.now)) }
+{
+    match source {
+        Listed::Lent { number, order } => {
+            let said = said_to(alloc, Kind::Stream, *number, order)?;
+            whole_changes(alloc, columns, said.as_slice())
+        }
+        Listed::Made(changes) => whole_changes(alloc, columns, changes.items()),
+    }
 }
 
 /// How many key columns a relation has.
@@ -346,17 +416,6 @@ fn result_at(alloc: Global, at: At, key: Key, body: Body) -> Result<Change, Allo
         span: at.span,
         body,
     })
-}
-
-/// A NULL for each key column.
-fn nulls(alloc: Global, columns: usize) -> Result<Vec<Value>, AllocError>
-    ensures { IfOk result (λ row. row.items ≡ replicate columns Null) }
-{
-    let mut row = Vec::with_capacity(alloc, columns)?;
-    for _ in 0..columns {
-        row.push(Value::Null)?;
-    }
-    Ok(row)
 }
 
 /// A row after the cells of its key, where both lie.

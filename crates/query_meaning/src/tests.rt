@@ -209,11 +209,13 @@ fn a_row_without_a_key_stays_in_its_records_partition(rt: HostRuntime) -> Result
 }
 
 #[test]
-fn a_table_has_no_meaning_yet(rt: HostRuntime) -> Result<(), Fail> {
+fn a_windowed_table_has_no_meaning_yet(rt: HostRuntime) -> Result<(), Fail> {
     let alloc = rt.alloc();
-    let stream = Item::Declared(relation(alloc, 0, Kind::Stream)?);
-    let table = Item::Declared(relation(alloc, 1, Kind::Table)?);
-    let items = Items::of(vec![in alloc; stream, table]?);
-    assert!(rt; first_unbuilt(&Program { items }) == Some(2));
+    let mut items = Vec::new(alloc);
+    for (number, kind) in [(0, Kind::Stream), (1, Kind::Table), (2, Kind::Windowed)] {
+        items.push(Item::Declared(relation(alloc, number, kind)?))?;
+    }
+    let items = Items::of(items);
+    assert!(rt; first_unbuilt(&Program { items }) == Some(3));
     Ok(())
 }

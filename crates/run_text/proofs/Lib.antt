@@ -1,1 +1,3 @@
+pub mod LatestLemmas
 pub mod ReportLemmas
+pub mod RowLemmas

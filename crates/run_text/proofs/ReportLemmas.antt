@@ -4,7 +4,7 @@ use Rattle.std.specs.Prelude.{count_by, filter, nat_le, ◌&&◌, Option, None, 
 use Rattle.std.proofs.lemmas.List.Sums.{length-filter}
 use Rattle.std.proofs.lemmas.Option.{slice_get-map}
 use Rattle.ksql_types.specs.declared.relation.Kind.{Kind}
-use Rattle.ksql_types.specs.declared.relation.Kind.TheVariants.{Stream}
+use Rattle.ksql_types.specs.declared.relation.Kind.TheVariants.{Stream, Table, Windowed}
 use Rattle.ksql_types.specs.declared.relation.Relation.{Relation}
 use Rattle.ksql_place.specs.Said.{is_skipped}
 use Rattle.ksql_place.specs.declared.change.Change.{Change}
@@ -17,7 +17,7 @@ use Rattle.query_meaning.specs.Plain.{changes_of}
 use Rattle.query_meaning.specs.declared.meaning.Listed.{Listed}
 use Rattle.run_text.specs.Lines.{is_skipped_up_to}
 use Rattle.run_text.specs.Printed.{Shown}
-use Rattle.run_text.specs.Report.{closed_at, count_text, meant, row_lines, section_of, sections, skipped_of, Section}
+use Rattle.run_text.specs.Report.{closed_at, count_text, meant, rows_of, section_of, sections, skipped_of, table_rows, Section}
 
 -- one text after another, in any grouping
 pub ruleset appends = (append_assoc)
@@ -72,16 +72,13 @@ unfolding section_of
 section-made r closed feed skipped order xs ys is_closed is_skipped is_shown =
     λ i. record { relation = r; closed = is_closed i; skipped = is_skipped i; shown = is_shown i }
 
--- ---- streams
+-- ---- the rows of a table
 
-pub count_text-stream : (kind : Kind) (rows : List Shown) → kind ≡ Stream → count_text kind rows ≡ []
+pub count_text-rows : (kind : Kind) (shown rows : List Shown) → rows ≡ table_rows kind shown → count_text kind rows ≡ count_text kind (rows_of shown)
 unfolding count_text
-count_text-stream kind rows is = ap (λ (k : Kind). count_text k rows) is
-
-pub row_lines-stream : (s : Section) → s.relation.kind ≡ Stream → row_lines s ≡ []
-unfolding row_lines
-row_lines-stream s is =
-    ap (λ (k : Kind). row_lines (record s { relation = record s.relation { kind = k } })) is
+count_text-rows Stream shown rows is = refl
+count_text-rows Table shown rows is = ap (count_text Table) is
+count_text-rows Windowed shown rows is = ap (count_text Windowed) is
 
 -- ---- the lists of relations
 

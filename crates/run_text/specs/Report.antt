@@ -1,15 +1,18 @@
 -- The report on the relations of a program.
-use Rattle.std.specs.Prelude.{◌≡◌, ℕ, ◌≤◌, List, [], ◌∷◌, ◌++◌, length, map, filter, flat_map, count_by, codes, decimal, Bool, true, false, ◌==◌, ◌&&◌, if◌then◌else◌, Option, None, Some, slice_get, slice_index_or, option_map, unwrap_or, is_some}
+use Rattle.std.specs.Prelude.{◌≡◌, ℕ, ◌≤◌, List, [], ◌∷◌, ◌++◌, length, map, filter, flat_map, count_by, codes, decimal, Bool, true, false, ◌&&◌, if◌then◌else◌, Option, None, Some, slice_get, slice_index_or, is_some}
 use Rattle.std.specs.List.{list_any}
-use Rattle.std.specs.Option.{option_map_or}
+use Rattle.std.specs.Option.{option_cmp, option_map_or}
+use Rattle.std.specs.Cmp.Lexicographic.{slice_cmp}
 use Rattle.std.specs.declared.cmp.Ordering.{Ordering}
 use Rattle.std.specs.Ordering.{nat_cmp, ordering_then}
-use Rattle.ksql_types.specs.Order.{key_cmp}
+use Rattle.ksql_types.specs.Order.{value_cmp}
 use Rattle.ksql_types.specs.declared.relation.Format.TheVariants.{Json}
 use Rattle.ksql_types.specs.declared.relation.Kind.{Kind}
 use Rattle.ksql_types.specs.declared.relation.Kind.TheVariants as kinds
 use Rattle.ksql_types.specs.declared.relation.Relation.{Relation}
 use Rattle.ksql_types.specs.declared.relation.Span.{Span}
+use Rattle.ksql_types.specs.declared.value.Value.{Value}
+use Rattle.ksql_types.specs.declared.value.Value.TheVariants.{Null, Int, Big, Txt, Bool as Truth}
 use Rattle.ksql_place.specs.Ascending.{ascending}
 use Rattle.ksql_place.specs.Said.{is_skipped}
 use Rattle.ksql_place.specs.declared.change.Change.{Change}
@@ -22,11 +25,10 @@ use Rattle.query_meaning.specs.Meaning.{partition_of, up_to}
 use Rattle.query_meaning.specs.Queries.{changes_at}
 use Rattle.run_text.specs.Printed.{change_line, order_line, row_line, shown_in, Shown}
 
--- a relation whose report is written as yet: a stream of JSON values, of 1 to 64 partitions
+-- a relation whose report is written as yet: of JSON values, of 1 to 64 partitions
 pub record IsPrintable (relation : Relation) : Type 0 where
   pub some : 1 ≤ relation.partitions
   pub few : relation.partitions ≤ 64
-  pub stream : relation.kind ≡ kinds.Stream
   pub json : relation.format ≡ Json
 
 -- ---- what is shown of a relation
@@ -76,17 +78,34 @@ abbrev pub latest_of : List Shown → List Shown
 latest_of [] = []
 latest_of (a ∷ later) = if list_any (is_same_row a) later then latest_of later else a ∷ latest_of later
 
--- the start of a window; 0 without one
-abbrev pub start_of : Shown → ℕ
-start_of shown = unwrap_or (option_map (λ span. span.start) shown.span) 0
+-- where a value's type stands among the types
+abbrev pub rank : Value → ℕ
+rank Null = 0
+rank (Int n) = 1
+rank (Big n) = 2
+rank (Txt bytes) = 3
+rank (Truth b) = 4
 
--- rows are compared by key, and then by the start of their window
+-- values are compared by their types, and those of one type as in keys
+abbrev pub cell_cmp : Value → Value → Ordering
+cell_cmp a b = ordering_then (nat_cmp (rank a) (rank b)) (value_cmp a b)
+
+-- windows are compared by start, and then by end
+abbrev pub span_cmp : Span → Span → Ordering
+span_cmp a b = ordering_then (nat_cmp a.start b.start) (nat_cmp a.end b.end)
+
+-- rows are compared by key, and then by window, of which none is before any
 abbrev pub row_cmp : Shown → Shown → Ordering
-row_cmp a b = ordering_then (key_cmp a.key b.key) (nat_cmp (start_of a) (start_of b))
+row_cmp a b = ordering_then (slice_cmp cell_cmp a.key b.key) (option_cmp span_cmp a.span b.span)
 
 -- the rows that a table has after its changes, by key and window
 unfoldable pub rows_of : List Shown → List Shown
 rows_of shown = ascending row_cmp (filter (λ s. is_some s.row) (latest_of shown))
+
+-- the rows of a relation that is a table; a stream has none
+abbrev pub table_rows : Kind → List Shown → List Shown
+table_rows kinds.Stream shown = []
+table_rows _ shown = rows_of shown
 
 -- ---- the text
 
@@ -115,11 +134,7 @@ head_line s =
 
 -- the lines of the rows, of a table alone
 unfoldable pub row_lines : Section → List ℕ
-row_lines s = by_kind s.relation.kind
-  where
-    by_kind : Kind → List ℕ
-    by_kind kinds.Stream = []
-    by_kind _ = flat_map (row_line s.relation.schema.values) (rows_of s.shown)
+row_lines s = flat_map (row_line s.relation.schema.values) (table_rows s.relation.kind s.shown)
 
 -- a relation's head line, the lines of its changes and those of its rows
 unfoldable pub section_text : Section → List ℕ

@@ -3,6 +3,7 @@
 
 mod printed;
 mod program_report;
+mod rows;
 mod section;
 
 pub use program_report::report;

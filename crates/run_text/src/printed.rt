@@ -4,7 +4,7 @@ ghost use Rattle.std.specs.Prelude.{◌≡◌, ◌++◌, List, OnOk, map, option
 ghost use Rattle.ksql_types.specs.declared.relation.Column.{Column as OneColumn};
 ghost use Rattle.topic_files.specs.Printed.{labels_of};
 ghost use Rattle.run_text.specs.Lines.{shown_of};
-ghost use Rattle.run_text.specs.Printed.{cells_text, change_line, fields_text, key_text, order_line, row_text, span_text};
+ghost use Rattle.run_text.specs.Printed.{cells_text, change_line, fields_text, key_text, order_line, row_line, row_text, span_text};
 
 use ksql_place::SourceRecord;
 use ksql_types::{Span, Value};
@@ -114,6 +114,21 @@ pub fn push_change(
 {
     let part = line.part;
     write!(out, "{{\"p\":{part},")?;
+    push_fields(out, alloc, labels, line)
+}
+
+/// Appends the line of a row of a relation whose value columns have these labels.
+#[tactic(auto, using(crate::proofs::ReportLemmas::appends), unfolding(crate::specs::Printed::row_line))]
+pub fn push_row_line(
+    out: &mut String,
+    alloc: Global,
+    labels: &[String],
+    line: Line,
+) -> Result<(), AllocError>
+    ensures { (columns : List OneColumn) → map string_bytes labels.now ≡ labels_of columns
+        → OnOk result (string_bytes out.new ≡ string_bytes out.old ++ row_line columns (shown_of line.entry)) }
+{
+    out.push_str("row {")?;
     push_fields(out, alloc, labels, line)
 }
 

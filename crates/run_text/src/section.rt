@@ -1,13 +1,16 @@
 //! The lines of a relation's section, and its text.
 
-ghost use Rattle.std.specs.Prelude.{◌≡◌, ◌∷◌, ◌++◌, [], IfOk, List, OnOk, length, map, option_map, string_bytes};
+ghost use Rattle.std.specs.Prelude.{◌≡◌, ◌∷◌, ◌++◌, [], IfOk, List, OnOk, flat_map, length, map, option_map, string_bytes};
+ghost use Rattle.ksql_types.specs.declared.relation.Column.{Column as OneColumn};
 ghost use Rattle.ksql_place.specs.Said.{row_in};
 ghost use Rattle.query_meaning.specs.Plain.{changes_of, rows_said};
 ghost use Rattle.run_text.specs.Lines.{shown_of};
-ghost use Rattle.run_text.specs.Printed.{Shown};
-ghost use Rattle.run_text.specs.Report.{head_line, kind_text, meant, origin_text, section_text, IsPrintable};
+ghost use Rattle.run_text.specs.Printed.{change_line, row_line, Shown};
+ghost use Rattle.run_text.specs.Report.{count_text, head_line, kind_text, meant, origin_text, section_text, table_rows, IsPrintable};
+ghost use Rattle.topic_files.specs.Printed.{labels_of};
 
-use crate::printed::{Line, push_change};
+use crate::printed::{Line, push_change, push_row_line};
+use crate::rows::table_rows;
 use ksql_place::{Body, Change, SourceRecord, said_by};
 use ksql_types::{Kind, Relation, Value, lane};
 use query_meaning::{Listed, partition_of};
@@ -109,9 +112,9 @@ fn row_in(body: &Body) -> Option<&[Value]>
     }
 }
 
-/// Appends what is shown of a stream of JSON values: its head line and these lines. It is shown up to the feed `closed`,
-/// and so many of its records were skipped.
-#[tactic(auto, using(crate::proofs::ReportLemmas::appends), unfolding(crate::specs::Report::section_text))]
+/// Appends what is shown of a relation: its head line, these lines of its changes and, of a table, those of its rows. It
+/// is shown up to the feed `closed`, and so many of its records were skipped.
+#[tactic(auto, using(crate::proofs::ReportLemmas::appends), unfolding(crate::specs::Report::section_text, crate::specs::Report::row_lines))]
 pub fn push_section(
     out: &mut String,
     alloc: Global,
@@ -120,36 +123,81 @@ pub fn push_section(
     skipped: usize,
     lines: &[Line],
 ) -> Result<(), AllocError>
-    requires { IsPrintable relation.now }
     ensures { OnOk result (string_bytes out.new ≡ string_bytes out.old
         ++ section_text (record { relation = relation.now; closed = closed; skipped = skipped; shown = map shown_of lines.now })) }
 {
-    push_head(out, relation, closed, skipped, lines.len())?;
+    let rows = table_rows(alloc, relation.kind, lines)?;
+    push_head(out, relation, closed, skipped, lines, rows.as_slice())?;
     let labels = labels(alloc, relation.schema.values.items())?;
+    push_changes(out, alloc, &labels, lines)?;
+    push_rows(out, alloc, &labels, rows.as_slice())
+}
+
+/// Appends the lines of the changes of a relation whose value columns have these labels.
+fn push_changes(
+    out: &mut String,
+    alloc: Global,
+    labels: &[String],
+    lines: &[Line],
+) -> Result<(), AllocError>
+    ensures { (columns : List OneColumn) → map string_bytes labels.now ≡ labels_of columns
+        → OnOk result (string_bytes out.new ≡ string_bytes out.old ++ flat_map (change_line columns) (map shown_of lines.now)) }
+{
     for line in lines {
-        push_change(out, alloc, &labels, *line)?;
+        push_change(out, alloc, labels, *line)?;
     }
     Ok(())
 }
 
-/// Appends the head line of a stream that has so many changes.
+/// Appends the lines of the rows of a relation whose value columns have these labels.
+fn push_rows(
+    out: &mut String,
+    alloc: Global,
+    labels: &[String],
+    rows: &[Line],
+) -> Result<(), AllocError>
+    ensures { (columns : List OneColumn) → map string_bytes labels.now ≡ labels_of columns
+        → OnOk result (string_bytes out.new ≡ string_bytes out.old ++ flat_map (row_line columns) (map shown_of rows.now)) }
+{
+    for row in rows {
+        push_row_line(out, alloc, labels, *row)?;
+    }
+    Ok(())
+}
+
+/// Appends the head line of a relation that has these changes and rows.
 #[tactic(auto, using(crate::proofs::ReportLemmas::appends), unfolding(crate::specs::Report::head_line))]
 fn push_head(
     out: &mut String,
     relation: &Relation,
     closed: u64,
     skipped: usize,
-    changes: usize,
+    lines: &[Line],
+    rows: &[Line],
 ) -> Result<(), AllocError>
-    requires { IsPrintable relation.now }
-    ensures { (shown : List Shown) → length shown ≡ changes → OnOk result (string_bytes out.new ≡ string_bytes out.old
-        ++ head_line (record { relation = relation.now; closed = closed; skipped = skipped; shown = shown })) }
+    requires { map shown_of rows.now ≡ table_rows relation.now.kind (map shown_of lines.now) }
+    ensures { OnOk result (string_bytes out.new ≡ string_bytes out.old
+        ++ head_line (record { relation = relation.now; closed = closed; skipped = skipped; shown = map shown_of lines.now })) }
 {
     let kind = kind_text(relation.kind);
     let name = relation.name.items();
     write!(out, "{kind} {name}")?;
     push_origin(out, relation.declared, closed, skipped)?;
-    writeln!(out, " changes={changes}")
+    write!(out, " changes={}", lines.len())?;
+    push_count(out, relation.kind, rows.len())?;
+    out.push_str("\n")
+}
+
+/// Appends how many rows there are, of a table alone.
+#[tactic(auto, unfolding(crate::specs::Report::count_text))]
+fn push_count(out: &mut String, kind: Kind, rows: usize) -> Result<(), AllocError>
+    ensures { (shown : List Shown) → length shown ≡ rows
+        → OnOk result (string_bytes out.new ≡ string_bytes out.old ++ count_text kind shown) }
+{
+    match kind {
+        Kind::Stream => Ok(()),
+        Kind::Table | Kind::Windowed => write!(out, " rows={rows}"),
+    }
 }
 
 /// What a relation is, in a word.

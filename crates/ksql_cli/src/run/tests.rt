@@ -418,10 +418,7 @@ fn records_are_taken_in_their_order(rt: HostRuntime) -> Result<(), Fail> {
 fn forms_that_are_not_run_are_refused(rt: HostRuntime) -> Result<(), Fail> {
     let alloc = rt.alloc();
     for statement in [
-        "CREATE TABLE T (ID VARCHAR PRIMARY KEY, V VARCHAR) WITH (KAFKA_TOPIC='t');",
-        "CREATE TABLE G AS SELECT ID, COUNT(*) AS C FROM S GROUP BY ID;",
         "CREATE TABLE W AS SELECT ID, COUNT(*) AS C FROM S WINDOW TUMBLING (SIZE 1 SECOND) GROUP BY ID;",
-        "CREATE TABLE L AS SELECT ID, LATEST_BY_OFFSET(NULL) IS NULL AS B FROM S GROUP BY ID;",
         "CREATE STREAM D (A VARCHAR) WITH (KAFKA_TOPIC='d', VALUE_FORMAT='DELIMITED');",
         "CREATE STREAM D WITH (VALUE_FORMAT='DELIMITED') AS SELECT * FROM S;",
     ] {

@@ -209,3 +209,107 @@ fn prints_null_for_a_tombstone(rt: HostRuntime) -> Result<(), Fail> {
     );
     Ok(())
 }
+
+/// A result of this kind in four partitions, with the key column ID and the value columns A and B.
+fn table(alloc: Global, kind: Kind) -> Result<Relation, AllocError>
+    ensures { IfOk result IsPrintable }
+{
+    let keys = Items::of(vec![in alloc; column(alloc, "ID", SqlType::Text)?]?);
+    let values = Items::of(vec![in alloc;
+        column(alloc, "A", SqlType::Int)?,
+        column(alloc, "B", SqlType::Int)?,
+    ]?);
+    Ok(Relation {
+        number: 0,
+        name: chars(alloc, "X")?,
+        kind,
+        schema: Schema { keys, values },
+        topic: chars(alloc, "X")?,
+        partitions: 4,
+        format: Format::Json,
+        declared: false,
+    })
+}
+
+/// The report on a relation of this kind that has these changes.
+fn reported_table(alloc: Global, kind: Kind, changes: Vec<Change>) -> Result<String, AllocError> {
+    let items = Items::of(vec![in alloc; Item::Declared(table(alloc, kind)?)]?);
+    let listed = Listed::Made(Items::of(changes));
+    report(alloc, &Program { items }, &[1], &[], &[listed], "")
+}
+
+/// What leaves the row of A and B, or none.
+fn turned(alloc: Global, row: Option<(i32, i32)>) -> Result<Body, AllocError> {
+    let new = match row {
+        Some((a, b)) => Some(Items::of(vec![in alloc; Value::Int(a), Value::Int(b)]?)),
+        None => None,
+    };
+    Ok(Body::Turned { old: None, new })
+}
+
+#[test]
+fn shows_the_rows_of_a_table_by_key(rt: HostRuntime) -> Result<(), Fail> {
+    let alloc = rt.alloc();
+    let mut changes = Vec::new(alloc);
+    for (time, key, row) in [
+        (0, "z", Some((2, 2))),
+        (3, "x", Some((2_147_483_647, 2_147_483_647))),
+        (5, "x", None),
+        (5, "z", Some((-1, 2))),
+        (6, "z", None),
+        (13, "y", Some((1, 1))),
+        (16, "z", Some((2_147_483_647, 2))),
+    ] {
+        let key = vec![in alloc; Value::Txt(chars(alloc, key)?)]?;
+        changes.push(change(alloc, time, Key::of(key), None, turned(alloc, row)?))?;
+    }
+    assert_eq!(rt;
+        reported_table(alloc, Kind::Table, changes)?.as_str(),
+        concat!(
+            "order 0\ntable X query c=1 changes=7 rows=2\n",
+            "{\"p\":2,\"t\":0,\"k\":\"z\",\"v\":{\"A\":2,\"B\":2}}\n",
+            "{\"p\":0,\"t\":3,\"k\":\"x\",\"v\":{\"A\":2147483647,\"B\":2147483647}}\n",
+            "{\"p\":0,\"t\":5,\"k\":\"x\",\"v\":null}\n",
+            "{\"p\":2,\"t\":5,\"k\":\"z\",\"v\":{\"A\":-1,\"B\":2}}\n",
+            "{\"p\":2,\"t\":6,\"k\":\"z\",\"v\":null}\n",
+            "{\"p\":1,\"t\":13,\"k\":\"y\",\"v\":{\"A\":1,\"B\":1}}\n",
+            "{\"p\":2,\"t\":16,\"k\":\"z\",\"v\":{\"A\":2147483647,\"B\":2}}\n",
+            "row {\"t\":13,\"k\":\"y\",\"v\":{\"A\":1,\"B\":1}}\n",
+            "row {\"t\":16,\"k\":\"z\",\"v\":{\"A\":2147483647,\"B\":2}}\n",
+            "end\n",
+        )
+    );
+    Ok(())
+}
+
+#[test]
+fn shows_the_rows_of_windows_by_key_and_start(rt: HostRuntime) -> Result<(), Fail> {
+    let alloc = rt.alloc();
+    let mut changes = Vec::new(alloc);
+    for (time, number, truth, start, end) in [
+        (1500, 7, true, 1000, 2000),
+        (900, 7, true, 0, 1000),
+        (1700, -7, true, 1000, 2000),
+        (950, 7, false, 0, 1000),
+    ] {
+        let key = Key::of(vec![in alloc; Value::Int(number), Value::Bool(truth)]?);
+        let row = turned(alloc, Some((1, 2)))?;
+        changes.push(change(alloc, time, key, Some(Span { start, end }), row))?;
+    }
+    assert_eq!(rt;
+        reported_table(alloc, Kind::Windowed, changes)?.as_str(),
+        concat!(
+            "order 0\nwindowed X query c=1 changes=4 rows=4\n",
+            "{\"p\":1,\"t\":1500,\"k\":[7,true],\"w\":[1000,2000],\"v\":{\"A\":1,\"B\":2}}\n",
+            "{\"p\":1,\"t\":900,\"k\":[7,true],\"w\":[0,1000],\"v\":{\"A\":1,\"B\":2}}\n",
+            "{\"p\":2,\"t\":1700,\"k\":[-7,true],\"w\":[1000,2000],\"v\":{\"A\":1,\"B\":2}}\n",
+            "{\"p\":0,\"t\":950,\"k\":[7,false],\"w\":[0,1000],\"v\":{\"A\":1,\"B\":2}}\n",
+            "row {\"t\":1700,\"k\":[-7,true],\"w\":[1000,2000],\"v\":{\"A\":1,\"B\":2}}\n",
+            "row {\"t\":950,\"k\":[7,false],\"w\":[0,1000],\"v\":{\"A\":1,\"B\":2}}\n",
+            "row {\"t\":900,\"k\":[7,true],\"w\":[0,1000],\"v\":{\"A\":1,\"B\":2}}\n",
+            "row {\"t\":1500,\"k\":[7,true],\"w\":[1000,2000],\"v\":{\"A\":1,\"B\":2}}\n",
+            "end\n",
+        )
+    );
+    Ok(())
+}

@@ -1,0 +1,4 @@
+pub mod Bounds
+pub mod Places
+pub mod Prefixes
+pub mod Tables

@@ -1,0 +1,161 @@
+//! Each row under another key: that of its group, or the one by which it is joined.
+ghost use Rattle.std.specs.Prelude.{◌≡◌, IfOk, option_and_then, option_map};
+ghost use Rattle.ksql_place.specs.declared.change.Body.TheVariants as body;
+ghost use Rattle.ksql_nodes.specs.Groups.{grouped, in_group, member, moved};
+ghost use Rattle.ksql_nodes.specs.Joins.{join_key, rekeyed};
+ghost use Rattle.node_steps.specs.Steps.{member_of};
+
+use crate::keys::{is_same_key, key_of};
+use crate::rows::{copied, value_of, values_of, with_body};
+use ksql_expr::Typed;
+use ksql_place::{Body, Change, Place};
+use ksql_types::{CopyOf, Items, Key, Row};
+use std::alloc::{AllocError, Global};
+
+/// A row, lent, beside the group that it is in.
+#[derive(Drop)]
+struct RowInGroup<'a> {
+    group: Key,
+    row: &'a Row,
+}
+
+/// A stream's change under the key by which it is joined; nothing of a table's change, or where there is no key.
+pub fn rekeyed(alloc: Global, on: &Typed, change: &Change) -> Result<Vec<Change>, AllocError>
+    ensures { IfOk result (λ made. made.items ≡ rekeyed (join_key on.now change.now) change.now) }
+{
+    let key = join_key(alloc, on, change)?;
+    with_key(alloc, key, change)
+}
+
+/// A change under the keys of the groups of its rows.
+pub fn grouped(alloc: Global, keys: &[Typed], change: &Change) -> Result<Vec<Change>, AllocError>
+    ensures { IfOk result (λ made. made.items ≡ grouped keys.now change.now) }
+{
+    match &change.body {
+        Body::Said(row) => {
+            let key = key_of(alloc, values_of(alloc, keys, change.time, row)?);
+            with_key(alloc, key, change)
+        }
+        Body::Turned { old, new } => {
+            let left = member(alloc, keys, change.time, old.as_ref())?;
+            let entered = member(alloc, keys, change.time, new.as_ref())?;
+            moved(alloc, change, left, entered)
+        }
+    }
+}
+
+/// The key by which a stream's change is joined; a table's change has none.
+fn join_key(alloc: Global, on: &Typed, change: &Change) -> Result<Key, AllocError>
+    ensures { IfOk result (λ key. key ≡ join_key on.now change.now) }
+{
+    match &change.body {
+        Body::Said(row) => {
+            let value = value_of(alloc, on, change.time, row)?;
+            Ok(key_of(alloc, vec![in alloc; value]?))
+        }
+        Body::Turned { .. } => Ok(Key::of(Vec::new(alloc))),
+    }
+}
+
+/// A change under a key; nothing without one.
+fn with_key(alloc: Global, key: Key, change: &Change) -> Result<Vec<Change>, AllocError>
+    ensures { IfOk result (λ made. made.items ≡ rekeyed key change.now) }
+{
+    if key.items().is_empty() {
+        return Ok(Vec::new(alloc));
+    }
+    let body = change.body.copy(alloc)?;
+    with_body(alloc, change, key, Some(body))
+}
+
+/// A row beside its group, where there is a row that is in one: none of its group's values is NULL.
+fn member<'a>(
+    alloc: Global,
+    keys: &[Typed],
+    time: u64,
+    row: Option<&'a Row>,
+) -> Result<Option<RowInGroup<'a>>, AllocError>
+    ensures { IfOk result (λ found. option_map member_of found ≡ option_and_then (member keys.now time) (option_map (λ r. r.now) row.entry)) }
+{
+    let Some(row) = row else {
+        return Ok(None);
+    };
+    let values = values_of(alloc, keys, time, row)?;
+    if !Key::is_key(values.as_slice()) {
+        return Ok(None);
+    }
+    Ok(Some(RowInGroup {
+        group: Key::of(values),
+        row,
+    }))
+}
+
+/// The changes of the groups that a table's row leaves and enters.
+fn moved(
+    alloc: Global,
+    change: &Change,
+    left: Option<RowInGroup>,
+    entered: Option<RowInGroup>,
+) -> Result<Vec<Change>, AllocError>
+    ensures { IfOk result (λ made. made.items ≡ moved change.now (option_map member_of left.entry) (option_map member_of entered.entry)) }
+{
+    match (left, entered) {
+        (None, None) => Ok(Vec::new(alloc)),
+        (Some(left), None) => {
+            let leaving = in_group(alloc, change, left.group, 0, Some(left.row), None)?;
+            Ok(vec![in alloc; leaving]?)
+        }
+        (None, Some(entered)) => {
+            let entering = in_group(alloc, change, entered.group, 0, None, Some(entered.row))?;
+            Ok(vec![in alloc; entering]?)
+        }
+        (Some(left), Some(entered)) => moved_between(alloc, change, left, entered),
+    }
+}
+
+/// A row that moves leaves its group and then enters another; one that stays is turned in its group.
+fn moved_between(
+    alloc: Global,
+    change: &Change,
+    left: RowInGroup,
+    entered: RowInGroup,
+) -> Result<Vec<Change>, AllocError>
+    ensures { IfOk result (λ made. made.items ≡ moved change.now (Some (member_of left.entry)) (Some (member_of entered.entry))) }
+{
+    let (old, new) = (Some(left.row), Some(entered.row));
+    if is_same_key(&left.group, &entered.group) {
+        let staying = in_group(alloc, change, entered.group, 0, old, new)?;
+        return Ok(vec![in alloc; staying]?);
+    }
+    let leaving = in_group(alloc, change, left.group, 0, old, None)?;
+    let entering = in_group(alloc, change, entered.group, 1, None, new)?;
+    Ok(vec![in alloc; leaving, entering]?)
+}
+
+/// A change of a group from one row to another, with one more number in its path.
+fn in_group(
+    alloc: Global,
+    change: &Change,
+    group: Key,
+    step: u32,
+    old: Option<&Row>,
+    new: Option<&Row>,
+) -> Result<Change, AllocError>
+    ensures { IfOk result (λ made. made ≡ in_group group step change.now (body.Turned (option_map (λ r. r.now) old.entry) (option_map (λ r. r.now) new.entry))) }
+{
+    let mut path = change.place.path.copy(alloc)?.into_items();
+    path.push(step)?;
+    Ok(Change {
+        place: Place {
+            stamp: change.place.stamp,
+            path: Items::of(path),
+        },
+        time: change.time,
+        key: group,
+        span: change.span,
+        body: Body::Turned {
+            old: copied(alloc, old)?,
+            new: copied(alloc, new)?,
+        },
+    })
+}

@@ -1,0 +1,76 @@
+ghost use Rattle.std.specs.Prelude.{◌≡◌, [], IfOk, IsTrue, map};
+ghost use Rattle.ksql_place.specs.Said.{row_in};
+ghost use Rattle.ksql_nodes.specs.Entries.{of_key, results, row_after};
+ghost use Rattle.ksql_nodes.specs.Nodes.{gives};
+ghost use Rattle.ksql_nodes.specs.Rows.{turned, with_body};
+ghost use Rattle.node_steps.specs.Steps.{entry_of, is_run};
+
+use crate::entries::{EntryRef, of_key, row_after, row_in};
+use crate::group_changes::group_change;
+use crate::groups::{grouped, rekeyed};
+use crate::rows::{copied, filtered, selected, turned, with_body};
+use ksql_nodes::Node;
+use ksql_place::Change;
+use ksql_types::CopyOf;
+use std::alloc::{AllocError, Global};
+
+/// What a node gives for entries, each with all those before it. `lanes` is the number of lanes, each of which has its
+/// own stream time: it matters to windows alone. Takes of the order of n² steps for n entries.
+pub fn results(
+    alloc: Global,
+    lanes: u32,
+    node: &Node,
+    entries: &[EntryRef],
+) -> Result<Vec<Change>, AllocError>
+    requires { IsTrue (is_run node.now) }
+    ensures { IfOk result (λ changes. changes.items ≡ results (gives lanes node.now) [] (map entry_of entries.now)) }
+{
+    let mut changes = Vec::new(alloc);
+    for (index, entry) in entries.iter().enumerate() {
+        let mut given = gives(alloc, lanes, node, &entries[..index], entry)?;
+        changes.append(&mut given)?;
+    }
+    Ok(changes)
+}
+
+/// What a node gives for an entry after others.
+#[tactic(auto, unfolding(ksql_nodes::specs::Nodes::gives))]
+fn gives<'a>(
+    alloc: Global,
+    lanes: u32,
+    node: &Node,
+    before: &[EntryRef<'a>],
+    entry: &EntryRef<'a>,
+) -> Result<Vec<Change>, AllocError>
+    requires { IsTrue (is_run node.now) }
+    ensures { IfOk result (λ changes. changes.items ≡ gives lanes node.now (map entry_of before.now) (entry_of entry.now)) }
+{
+    match node {
+        Node::Rekey { key } => rekeyed(alloc, key, entry.change),
+        Node::Table { .. } => table_changes(alloc, before, entry.change),
+        Node::JoinStreamTable { .. } | Node::JoinTables { .. } => unreachable!(),
+        Node::Filter { on } | Node::Having { on } => filtered(alloc, on, entry.change),
+        Node::Group { keys } => grouped(alloc, keys.items(), entry.change),
+        Node::Aggregate { over, aggs, .. } => {
+            let change = group_change(alloc, *over, aggs.items(), before, entry)?;
+            Ok(vec![in alloc; change]?)
+        }
+        Node::Select { keys, values } => {
+            selected(alloc, keys.items(), values.items(), entry.change)
+        }
+    }
+}
+
+/// The change of a table from the row that the key had before.
+fn table_changes(
+    alloc: Global,
+    before: &[EntryRef],
+    change: &Change,
+) -> Result<Vec<Change>, AllocError>
+    ensures { IfOk result (λ made. made.items ≡ with_body change.now (turned (row_after (of_key change.now.key (map entry_of before.now))) (row_in change.now.body))) }
+{
+    let mine = of_key(alloc, &change.key, before)?;
+    let old = copied(alloc, row_after(mine.as_slice()))?;
+    let new = copied(alloc, row_in(&change.body))?;
+    with_body(alloc, change, change.key.copy(alloc)?, turned(old, new))
+}
