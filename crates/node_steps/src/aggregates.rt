@@ -89,7 +89,7 @@ fn greatest(values: Vec<Value>) -> Value
 }
 
 /// The value where it is less than the best so far, which may be NULL.
-fn lesser(best: Value, value: Value) -> Value
+pub fn lesser(best: Value, value: Value) -> Value
     ensures { result ≡ better is_lt best value }
 {
     if best.is_null() || is_less(&value, &best) {
@@ -100,7 +100,7 @@ fn lesser(best: Value, value: Value) -> Value
 }
 
 /// The value where it is greater than the best so far, which may be NULL.
-fn greater(best: Value, value: Value) -> Value
+pub fn greater(best: Value, value: Value) -> Value
     ensures { result ≡ better is_gt best value }
 {
     if best.is_null() || is_greater(&value, &best) {

@@ -75,7 +75,7 @@ fn worth(alloc: Global, over: Kind, entries: &[EntryRef], agg: &Agg) -> Result<V
 }
 
 /// The type of an aggregate; none where it has only the type of NULL.
-fn type_of_agg(agg: &Agg) -> Option<SqlType>
+pub fn type_of_agg(agg: &Agg) -> Option<SqlType>
     ensures { result ≡ type_of_agg agg.now }
 {
     let arg = agg.arg.as_ref().map(|arg| arg.ty);
@@ -129,7 +129,12 @@ fn push_argument(
 }
 
 /// The value of an aggregate's argument on a row at a time; NULL where it has none.
-fn argument(alloc: Global, arg: &Option<Typed>, time: u64, row: &Row) -> Result<Value, AllocError>
+pub fn argument(
+    alloc: Global,
+    arg: &Option<Typed>,
+    time: u64,
+    row: &Row,
+) -> Result<Value, AllocError>
     ensures { IfOk result (λ value. value ≡ argument arg.now (record { row = row.now; time = time })) }
 {
     match arg {

@@ -9,7 +9,12 @@ mod keys;
 mod rows;
 mod steps;
 
-pub use entries::EntryRef;
+pub use aggregates::{aggregate, greater, lesser};
+pub use entries::{EntryRef, latest_time, row_in, row_out};
+pub use group_changes::{argument, type_of_agg};
+pub use groups::{grouped, rekeyed};
+pub use keys::{is_same_key, key_of};
+pub use rows::{copied, filtered, selected, turned, values_of, with_body};
 pub use steps::results;
 
 #[cfg(test)]

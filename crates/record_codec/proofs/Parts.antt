@@ -17,8 +17,8 @@ use Rattle.ksql_place.specs.declared.stamp.Stamp.{Stamp}
 use Rattle.ksql_place.specs.declared.change.Body.{Body}
 use Rattle.ksql_place.specs.declared.change.Body.TheVariants.{Said, Turned}
 use Rattle.ksql_place.specs.declared.change.Change.{Change}
-use Rattle.record_codec.specs.Spelling.{four, eight, text, truth, value, values, optional, stamp, path, span, is_turned, head, body, spelling, IsShort, IsShortRow, IsShortBody, IsTypedValue, IsTypedStamp as IsStamp, IsTypedSpan, IsTypedBody, IsSpellable, IsSpellableRow}
-use Rattle.record_codec.specs.Reading.{Reader, both, seen_as, where_true, four_at, eight_at, counted, list_at, optional_at, taken, text_at, truth_at, value_at, row_at, key_at, path_at, stamp_of, stamp_at, span_of, span_at, window_at, head_at, rows_at, body_at, Parts, change_of, change_at}
+use Rattle.record_codec.specs.Spelling.{four, eight, text, truth, value, values, optional, stamp, path, span, is_turned, head, body, spelling, IsShort, IsShortRow, IsShortBody, IsTypedValue, IsTypedStamp as IsStamp, IsTypedSpan, IsTypedBody, IsSpellable, IsSpellableRow, AreSpellable}
+use Rattle.record_codec.specs.Reading.{Reader, both, seen_as, where_true, four_at, eight_at, counted, list_at, optional_at, taken, text_at, truth_at, value_at, row_at, values_at, key_at, path_at, stamp_of, stamp_at, span_of, span_at, window_at, head_at, rows_at, body_at, Parts, change_of, change_at}
 use Rattle.record_codec.proofs.Readers.{IsBytes, IsBytes-rest, bind_some, Found, Reads, reads-suits, in_row, and_then, reads-both, reads-next, reads-as, passing, reads-where, itself, reads-taken, reads-four, reads-eight, at_most, reads-counted, reads-list, if_some, reads-optional}
 
 abbrev n32 : ℕ → Type 0
@@ -141,6 +141,12 @@ pub reads-row : Reads values IsSpellableRow row_at
 reads-row =
     reads-suits values IsRow IsSpellableRow row_at (λ row h. record { limits = (h.0, short row h.1); types = typed row h.1 })
     (λ row h. (h.limits.0, cells row h.limits.1 h.types)) reads-cells
+
+pub reads-values : Reads values AreSpellable values_at
+unfolding values_at
+reads-values =
+    reads-suits values (at_most 4294967295 (All IsCell)) AreSpellable values_at (λ vs h. record { few = omega (arith, h.0); short = short vs h.1; types = typed vs h.1 })
+    (λ vs h. (omega (arith, h.few), cells vs h.short h.types)) (reads-list 4294967295 value IsCell value_at (lit< tt) reads-value)
 
 abbrev IsKeyed : List Value → Type 0
 IsKeyed key = IsKey key × All IsCell key

@@ -107,6 +107,10 @@ value_at (suc (suc (suc (suc (suc b)))) ∷ rest) = None
 unfoldable pub row_at : Reader (List Value)
 row_at = list_at 64 value_at
 
+-- values of any number that four bytes can hold
+unfoldable pub values_at : Reader (List Value)
+values_at = list_at 4294967295 value_at
+
 unfoldable pub key_at : Reader (List Value)
 key_at = where_true is_key (list_at 8 value_at)
 

@@ -146,3 +146,9 @@ pub record IsSpellable (c : Change) : Type 0 where
 pub record IsSpellableRow (row : List Value) : Type 0 where
   pub limits : IsShortRow row
   pub types : All IsTypedValue row
+
+-- values of any number that four bytes can hold
+pub record AreSpellable (vs : List Value) : Type 0 where
+  pub few : length vs < 2 ^ 32
+  pub short : All IsShort vs
+  pub types : All IsTypedValue vs

@@ -2,7 +2,7 @@ ghost use Rattle.std.specs.Prelude.{◌≡◌, ◌≤◌, ◌<◌, true, false, 
 ghost use Rattle.std.specs.Str.{is_utf8};
 ghost use Rattle.ksql_types.specs.declared.value.Value.{Value as OneValue};
 ghost use Rattle.ksql_place.specs.declared.change.Change.{Change as OneChange};
-ghost use Rattle.record_codec.specs.Spelling.{spelling, values, IsSpellable, IsSpellableRow};
+ghost use Rattle.record_codec.specs.Spelling.{spelling, values, AreSpellable, IsSpellable, IsSpellableRow};
 ghost use Rattle.record_codec.specs.Reading as read;
 ghost use Rattle.record_codec.specs.Reading.{Gives, with_rest, with_items};
 
@@ -332,6 +332,17 @@ fn whole_row(alloc: Global, bytes: &[u8]) -> Result<Row, ReadError>
     Ok(row)
 }
 
+#[tactic(auto, unfolding(crate::specs::Reading::values_at))]
+fn whole_values(alloc: Global, bytes: &[u8]) -> Result<Items<Value>, ReadError>
+    ensures { Gives (λ vs. vs) result (read.whole read.values_at bytes.now) }
+{
+    let (values, rest) = values_of(alloc, u32::MAX, bytes)?;
+    if !rest.is_empty() {
+        return Err(ReadError::Unspelled);
+    }
+    Ok(Items::of(values))
+}
+
 /// The change that the bytes spell, or `None` where they spell no change.
 pub fn decode(alloc: Global, bytes: &[u8]) -> Result<Option<Change>, AllocError>
     ensures found { IfOk result (λ o. IfSome o (λ c. IsSpellable c × (bytes.now ≡ spelling c))) }
@@ -351,6 +362,18 @@ pub fn decode_row(alloc: Global, bytes: &[u8]) -> Result<Option<Row>, AllocError
 {
     match whole_row(alloc, bytes) {
         Ok(row) => Ok(Some(row)),
+        Err(ReadError::Unspelled) => Ok(None),
+        Err(ReadError::OutOfMemory) => Err(AllocError),
+    }
+}
+
+/// The values that the bytes spell, or `None` where they spell none.
+pub fn decode_values(alloc: Global, bytes: &[u8]) -> Result<Option<Items<Value>>, AllocError>
+    ensures found { IfOk result (λ o. IfSome o (λ vs. AreSpellable vs × (bytes.now ≡ values vs))) }
+    ensures only { (vs : List OneValue) → AreSpellable vs → bytes.now ≡ values vs → IfOk result (λ o. o ≡ Some vs) }
+{
+    match whole_values(alloc, bytes) {
+        Ok(values) => Ok(Some(values)),
         Err(ReadError::Unspelled) => Ok(None),
         Err(ReadError::OutOfMemory) => Err(AllocError),
     }

@@ -1,7 +1,7 @@
 ghost use Rattle.std.specs.Prelude.{◌≡◌, ◌<◌, ◌≤◌, ◌^◌, ◌++◌, length, OnOk, IfOk, IfSome};
 ghost use Rattle.std.specs.List.{All, flat_map};
 ghost use Rattle.record_codec.specs.Spelling as spelled;
-ghost use Rattle.record_codec.specs.Spelling.{spelling, IsWithinLimits, IsSpellable, IsShort, IsShortRow, IsSpellableRow, IsTypedValue};
+ghost use Rattle.record_codec.specs.Spelling.{spelling, IsWithinLimits, IsSpellable, IsShort, IsShortRow, IsSpellableRow, IsTypedValue, AreSpellable};
 
 use byteorder::{BigEndian, ByteOrder};
 use ksql_place::{Body, Change, Stamp};
@@ -172,5 +172,17 @@ pub fn encode_row(alloc: Global, row: &Row) -> Result<Bytes, AllocError>
 {
     let mut out = Vec::new(alloc);
     put_values(&mut out, row.items())?;
+    Ok(Items::of(out))
+}
+
+/// The one spelling of some values: how many there are, and each. A row's is the same.
+pub fn encode_values(alloc: Global, values: &[Value]) -> Result<Bytes, AllocError>
+    requires few { length values.now < 2 ^ 32 }
+    requires short { All IsShort values.now }
+    ensures bytes { IfOk result (λ bytes. bytes ≡ spelled.values values.now) }
+    ensures spellable { OnOk result (AreSpellable values.now) }
+{
+    let mut out = Vec::new(alloc);
+    put_values(&mut out, values)?;
     Ok(Items::of(out))
 }

@@ -86,10 +86,26 @@ impl Store {
         ensures committed { OnOk result (self.new.written ≡ []) }
         ensures kept { OnErr result (self.new ≡ self.old) }
     {
+        let changes = self.changes_since_commit(alloc)?;
+        self.commit(changes.items());
+        Ok(changes)
+    }
+
+    /// The changes since the last commit, as `changes` answers them, without a commit.
+    pub fn changes_since_commit(&self, alloc: Global) -> Result<Changelog, AllocError>
+        ensures { IfOk result (λ log. log ≡ changes_of self.now) }
+    {
         let changes = changes_at(&self.slots, alloc, &self.writes)?;
-        self.writes.clear();
-        remove_deleted(&mut self.slots, &changes);
         Ok(Changelog::of(changes))
+    }
+
+    /// Commits: no key counts as changed. `changes` are those since the last commit. Takes no memory.
+    pub fn commit(&mut self, changes: &[StoreEntry])
+        requires { changes.now ≡ changes_of self.old }
+        ensures { self.new ≡ record { map = self.old.map; written = [] } }
+    {
+        self.writes.clear();
+        remove_deleted(&mut self.slots, changes);
     }
 
     /// Puts what the entries with a number, one after another, make of an empty map in place of the store's. Nothing counts

@@ -1,0 +1,5 @@
+pub mod Aggregates
+pub mod Fresh
+pub mod GroupsLemmas
+pub mod Short
+pub mod TotalsLemmas

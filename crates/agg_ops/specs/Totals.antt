@@ -1,0 +1,96 @@
+-- How one more change of a group changes what is kept of the group: its greatest time, and then the values of its aggregates, of which
+-- each says all that the next value of it needs. Of a group without entries nothing is kept.
+use Rattle.std.specs.Prelude.{ℕ, max, Bool, true, false, if◌then◌else◌, List, [], ◌∷◌, ◌++◌, Option, Some, None, unwrap_or, ℤ, pos, ◌+ℤ◌, ◌-ℤ◌}
+use Rattle.std.specs.Ordering.{is_lt, is_gt}
+use Rattle.ksql_types.specs.Key.{is_null}
+use Rattle.ksql_types.specs.declared.relation.Kind.{Kind}
+use Rattle.ksql_types.specs.declared.relation.Kind.TheVariants.{Stream, Table}
+use Rattle.ksql_types.specs.declared.value.SqlType.{SqlType}
+use Rattle.ksql_types.specs.declared.value.Value.{Value}
+use Rattle.ksql_types.specs.declared.value.Value.TheVariants.{Big}
+use Rattle.ksql_place.specs.Said.{row_in, row_out}
+use Rattle.ksql_place.specs.declared.change.Body.TheVariants.{Turned}
+use Rattle.ksql_place.specs.declared.change.Change.{Change}
+use Rattle.ksql_expr.specs.declared.typed.AggFun.{AggFun}
+use Rattle.ksql_expr.specs.declared.typed.AggFun.TheVariants.{Min, Max, Latest, Earliest}
+use Rattle.ksql_expr.specs.Value.{whole, number}
+use Rattle.ksql_program.specs.declared.query.Agg.{Agg}
+use Rattle.ksql_nodes.specs.declared.node.Node.{Node}
+use Rattle.ksql_nodes.specs.declared.node.Node.TheVariants.{Aggregate}
+use Rattle.ksql_nodes.specs.Entries.{Row}
+use Rattle.ksql_nodes.specs.Aggregates.{amount, better, aggregate, dated, argument, arguments, type_of_agg}
+
+-- a number in a type, after so much more
+abbrev pub raised : Option SqlType → Value → ℤ → Value
+raised ty mine by = number ty (unwrap_or (whole mine) (pos 0) +ℤ by)
+
+-- a value, or another in place of NULL
+abbrev pub present_or : Value → Value → Value
+present_or v other = if is_null v then other else v
+
+-- an aggregate of a stream, after one more value of its argument
+abbrev pub more : AggFun → Option SqlType → Value → Value → Value
+more Min ty mine v = better is_lt mine v
+more Max ty mine v = better is_gt mine v
+more Latest ty mine v = present_or v mine
+more Earliest ty mine v = present_or mine v
+more f ty mine v = raised ty mine (amount f (v ∷ []))
+
+-- the same, after a row at a time, where there is one
+abbrev pub with_row : Agg → ℕ → Option Row → Value → Value
+with_row a time None mine = mine
+with_row a time (Some row) mine = more a.fun (type_of_agg a) mine (argument a.arg (record { row = row; time = time }))
+
+-- what COUNT and SUM count of a row at a time; 0 where there is none
+abbrev pub amount_of : Agg → ℕ → Option Row → ℤ
+amount_of a time row = amount a.fun (arguments a.arg (dated time row))
+
+-- an aggregate after a change: of a stream with the row that it brings; of a table with what that row counts, less what the row
+-- that it takes away did
+abbrev pub next_worth : Kind → Agg → Change → Value → Value
+next_worth Stream a c mine = with_row a c.time (row_in c.body) mine
+next_worth _ a c mine = raised (type_of_agg a) mine (amount_of a c.time (row_in c.body) -ℤ amount_of a c.time (row_out c.body))
+
+-- an aggregate of no rows
+abbrev pub initial : Kind → Agg → Value
+initial Stream a = aggregate a.fun (type_of_agg a) []
+initial _ a = number (type_of_agg a) (pos 0)
+
+-- some aggregates, each after that change; one that has no value yet begins with that of no rows
+abbrev pub next_worths : Kind → List Agg → Change → List Value → List Value
+next_worths over [] c mine = []
+next_worths over (a ∷ aggs) c [] = next_worth over a c (initial over a) ∷ next_worths over aggs c []
+next_worths over (a ∷ aggs) c (v ∷ vs) = next_worth over a c v ∷ next_worths over aggs c vs
+
+-- the time that is kept; 0 where none is
+abbrev pub kept_time : List Value → ℕ
+kept_time (Big (pos time) ∷ vs) = time
+kept_time vs = 0
+
+-- the aggregates that are kept
+abbrev pub kept_worths : List Value → List Value
+kept_worths [] = []
+kept_worths (time ∷ vs) = vs
+
+-- what is kept of a group after one more change
+abbrev pub next_totals : Kind → List Agg → Change → List Value → List Value
+next_totals over aggs c mine = Big (pos (max (kept_time mine) c.time)) ∷ next_worths over aggs c (kept_worths mine)
+
+-- the result of a group of which this is kept
+abbrev pub result_of : List Value → List Value → Option Row
+result_of group [] = None
+result_of group (time ∷ vs) = Some (group ++ vs)
+
+-- the change of a group from what was kept of it to what is
+abbrev pub changed : Change → List Value → List Value → Change
+changed c before after = record c { time = kept_time after; span = None; body = Turned (result_of c.key before) (result_of c.key after) }
+
+-- whether a node is an aggregate of a stream without a window
+abbrev pub is_stream_aggregate : Node → Bool
+is_stream_aggregate (Aggregate Stream aggs None) = true
+is_stream_aggregate node = false
+
+-- whether a node is an aggregate of a table without a window
+abbrev pub is_table_aggregate : Node → Bool
+is_table_aggregate (Aggregate Table aggs None) = true
+is_table_aggregate node = false

@@ -1,0 +1,156 @@
+//! The groups of a stream or of a table, without windows.
+ghost use Rattle.std.specs.Prelude.{◌≡◌, ℕ, suc, ◌<◌, ◌≤◌, ◌^◌, false, List, [], ◌∷◌, ◌++◌, Option, None, All, IfOk, IfSome, OnOk, OnErr, length, option_map, unwrap_or};
+ghost use Rattle.std.specs.FinMap as finite;
+ghost use Rattle.ksql_types.specs.declared.value.Value.{Value as OneValue};
+ghost use Rattle.ksql_place.specs.declared.change.Change.{Change as OneChange};
+ghost use Rattle.ksql_nodes.specs.declared.node.Node.TheVariants as nodes;
+ghost use Rattle.ksql_nodes.specs.Aggregates.{group_change};
+ghost use Rattle.ksql_nodes.specs.Entries.{Entry, of_key};
+ghost use Rattle.state_store.specs.Store.{Values, IsBase};
+ghost use Rattle.record_codec.specs.Spelling.{values, AreSpellable, IsShort};
+ghost use Rattle.operator.specs.Holding.{nothing};
+ghost use Rattle.operator.specs.Kept.{totals};
+ghost use Rattle.operator.specs.StandsFor.{StandsFor};
+ghost use Rattle.operator.specs.Storable.{HasShortArguments};
+ghost use Rattle.agg_ops.specs.Groups.{HoldsGroups};
+ghost use Rattle.agg_ops.specs.Totals.{next_totals};
+
+use crate::totals::{group_change, next_totals};
+use ksql_place::Change;
+use ksql_program::{Agg, Aggs};
+use ksql_types::{Changelog, CopyOf, Kind, StoreEntry, Value};
+use operator::{Operator, StoredOperator, spelled_key, with_number};
+use record_codec::{decode_values, encode_values};
+use state_store::Store;
+use std::alloc::{AllocError, Global};
+
+/// What is kept of each group, under the bytes of its key.
+#[derive(Drop)]
+pub(crate) struct Groups {
+    over: Kind,
+    aggs: Aggs,
+    kept: Store,
+    failed: bool,
+}
+
+impl Groups {
+    /// The groups of aggregates over a kind, before any entry.
+    pub(crate) fn new(alloc: Global, over: Kind, aggs: &Aggs) -> Result<Groups, AllocError>
+        ensures node { IfOk result (λ made. ⟦<Groups as Operator>⟧.node made ≡ nodes.Aggregate over aggs.now None) }
+        ensures stands { IfOk result (λ made. StandsFor (⟦<Groups as Operator>⟧.node made) (⟦<Groups as Operator>⟧.held made) []) }
+        ensures sound { IfOk result (λ made. ⟦<Groups as Operator>⟧.failed made ≡ false) }
+    {
+        Ok(Groups {
+            over,
+            aggs: aggs.copy(alloc)?,
+            kept: Store::new(alloc),
+            failed: false,
+        })
+    }
+}
+
+impl Operator for Groups {
+    ghost node = { λ s. nodes.Aggregate s.over s.aggs None };
+
+    ghost held = { λ s. record nothing { aggregate = s.kept } };
+
+    ghost failed = { λ s. s.failed };
+
+    fn step(
+        &mut self,
+        alloc: Global,
+        _side: u32,
+        change: &Change,
+        out: &mut Vec<Change>,
+    ) -> Result<(), AllocError> {
+        if self.failed {
+            return Err(AllocError);
+        }
+        let stepped = give(
+            &mut self.kept,
+            alloc,
+            self.over,
+            self.aggs.items(),
+            change,
+            out,
+        );
+        self.failed = stepped.is_err();
+        stepped
+    }
+}
+
+impl StoredOperator for Groups {
+    fn changes(&mut self, alloc: Global) -> Result<Changelog, AllocError> {
+        Ok(with_number(self.kept.changes(alloc)?, 2))
+    }
+
+    fn load(&mut self, alloc: Global, log: &[StoreEntry]) -> Result<(), AllocError> {
+        self.kept.load(alloc, 2, log)
+    }
+}
+
+/// Gives the change of the group of a change from its result before to that after.
+fn give(
+    groups: &mut Store,
+    alloc: Global,
+    over: Kind,
+    aggs: &[Agg],
+    change: &Change,
+    out: &mut Vec<Change>,
+) -> Result<(), AllocError>
+    requires time { change.now.time ≤ 2 ^ 53 }
+    requires key { All IsShort change.now.key }
+    requires few { suc (length aggs.now) < 2 ^ 32 }
+    requires short { HasShortArguments aggs.now change.now }
+    ensures next { OnOk result ((side : ℕ) (es : List Entry) → HoldsGroups over aggs.now groups.old.map es →
+        let e : Entry = record { side = side; change = change.now } in
+        (out.new.items ≡ out.old.items ++ group_change over aggs.now None (of_key change.now.key es) e ∷ []) × HoldsGroups over aggs.now groups.new.map (es ++ e ∷ [])) }
+    ensures base { (base : Values) → IsBase base groups.old → IsBase base groups.new }
+    ensures out { OnErr result (out.new.items ≡ out.old.items) }
+{
+    let (before, after) = turn(groups, alloc, over, aggs, change)?;
+    let given = group_change(alloc, change, before.as_slice(), after.as_slice())?;
+    out.push(given)?;
+    Ok(())
+}
+
+/// Adds a change to its group, and answers what was kept of the group before and what is after.
+fn turn(
+    groups: &mut Store,
+    alloc: Global,
+    over: Kind,
+    aggs: &[Agg],
+    change: &Change,
+) -> Result<(Vec<Value>, Vec<Value>), AllocError>
+    requires time { change.now.time ≤ 2 ^ 53 }
+    requires key { All IsShort change.now.key }
+    requires few { suc (length aggs.now) < 2 ^ 32 }
+    requires short { HasShortArguments aggs.now change.now }
+    ensures next { IfOk result (λ turned. (side : ℕ) (es : List Entry) → HoldsGroups over aggs.now groups.old.map es →
+        (turned.0.items ≡ unwrap_or (totals over aggs.now (of_key change.now.key es)) [])
+        × (turned.1.items ≡ next_totals over aggs.now change.now turned.0.items)
+        × HoldsGroups over aggs.now groups.new.map (es ++ record { side = side; change = change.now } ∷ [])) }
+    ensures base { (base : Values) → IsBase base groups.old → IsBase base groups.new }
+{
+    let key = spelled_key(alloc, &change.key)?;
+    let before = kept(groups, alloc, key.items())?;
+    let after = next_totals(alloc, over, aggs, before.as_slice(), change)?;
+    let bytes = encode_values(alloc, after.as_slice())?;
+    groups.set(alloc, key.items(), bytes.items())?;
+    Ok((before, after))
+}
+
+/// What is kept under some bytes; nothing also where what is kept there spells no values.
+fn kept(groups: &Store, alloc: Global, key: &[u8]) -> Result<Vec<Value>, AllocError>
+    ensures value { (kept : Option (List OneValue)) → IfSome kept AreSpellable → finite.get groups.now.map key.now ≡ option_map values kept →
+        IfOk result (λ found. found.items ≡ unwrap_or kept []) }
+    ensures short { IfOk result (λ found. All IsShort found.items) }
+{
+    let Some(bytes) = groups.get(key) else {
+        return Ok(Vec::new(alloc));
+    };
+    match decode_values(alloc, bytes)? {
+        Some(kept) => Ok(kept.into_items()),
+        None => Ok(Vec::new(alloc)),
+    }
+}

@@ -1,0 +1,221 @@
+//! What is kept of a group: its greatest time, and then the values of its aggregates.
+ghost use Rattle.std.specs.Prelude.{◌≡◌, ◌<◌, ◌≤◌, ◌^◌, ◌≤ℤ◌, ◌∷◌, [], IfOk, neg_ℤ, option_map, pos, slice_get, unwrap_or};
+ghost use Rattle.ksql_types.specs.declared.relation.Kind.TheVariants as kinds;
+ghost use Rattle.ksql_nodes.specs.Aggregates.{amount};
+ghost use Rattle.agg_ops.specs.Totals.{amount_of, changed, initial, kept_time, kept_worths, more, next_totals, next_worth, present_or, raised, result_of, with_row};
+
+use ksql_eval::{number_in, whole};
+use ksql_expr::AggFun;
+use ksql_place::{Body, Change};
+use ksql_program::Agg;
+use ksql_types::{CopyOf, Items, Key, Kind, Row, SqlType, Value};
+use node_steps::{argument, greater, lesser, row_in, row_out, type_of_agg};
+use std::alloc::{AllocError, Global};
+
+/// What is kept of a group after one more change.
+pub(crate) fn next_totals(
+    alloc: Global,
+    over: Kind,
+    aggs: &[Agg],
+    mine: &[Value],
+    change: &Change,
+) -> Result<Vec<Value>, AllocError>
+    requires time { change.now.time ≤ 2 ^ 53 }
+    ensures { IfOk result (λ made. made.items ≡ next_totals over aggs.now change.now mine.now) }
+{
+    let time = kept_time(mine).max(change.time);
+    let worths = kept_worths(mine);
+    let mut totals = vec![in alloc; Value::Big(time.cast_signed())]?;
+    for (index, agg) in aggs.iter().enumerate() {
+        let worth = worth_at(alloc, over, worths, index, agg)?;
+        totals.push(next_worth(alloc, over, agg, worth, change)?)?;
+    }
+    Ok(totals)
+}
+
+/// The change of a group from what was kept of it to what is.
+pub(crate) fn group_change(
+    alloc: Global,
+    change: &Change,
+    before: &[Value],
+    after: &[Value],
+) -> Result<Change, AllocError>
+    ensures { IfOk result (λ made. made ≡ changed change.now before.now after.now) }
+{
+    Ok(Change {
+        place: change.place.copy(alloc)?,
+        time: kept_time(after),
+        key: change.key.copy(alloc)?,
+        span: None,
+        body: Body::Turned {
+            old: result_of(alloc, &change.key, before)?,
+            new: result_of(alloc, &change.key, after)?,
+        },
+    })
+}
+
+/// The time that is kept; 0 where none is.
+fn kept_time(mine: &[Value]) -> u64
+    ensures time { result ≡ kept_time mine.now }
+    ensures bound { result < 2 ^ 63 }
+{
+    match mine {
+        [Value::Big(time), ..] => (*time).max(0).cast_unsigned(),
+        _ => 0,
+    }
+}
+
+/// The aggregates that are kept.
+fn kept_worths(mine: &[Value]) -> &[Value]
+    ensures { result.now ≡ kept_worths mine.now }
+{
+    match mine {
+        [] => mine,
+        [_, worths @ ..] => worths,
+    }
+}
+
+/// The aggregate that is kept at an index; that of no rows where none is.
+fn worth_at(
+    alloc: Global,
+    over: Kind,
+    worths: &[Value],
+    index: usize,
+    agg: &Agg,
+) -> Result<Value, AllocError>
+    ensures { IfOk result (λ worth. worth ≡ unwrap_or (slice_get worths.now index) (initial over agg.now)) }
+{
+    match worths.get(index) {
+        Some(worth) => worth.copy(alloc),
+        None => Ok(initial(over, agg)),
+    }
+}
+
+/// An aggregate of no rows.
+fn initial(over: Kind, agg: &Agg) -> Value
+    ensures { result ≡ initial over agg.now }
+{
+    match (over, agg.fun) {
+        (Kind::Stream, AggFun::Min | AggFun::Max | AggFun::Latest | AggFun::Earliest) => {
+            Value::Null
+        }
+        _ => number_in(type_of_agg(agg), 0),
+    }
+}
+
+/// An aggregate after a change.
+fn next_worth(
+    alloc: Global,
+    over: Kind,
+    agg: &Agg,
+    mine: Value,
+    change: &Change,
+) -> Result<Value, AllocError>
+    ensures { IfOk result (λ made. made ≡ next_worth over agg.now change.now mine) }
+{
+    match over {
+        Kind::Stream => with_row(alloc, agg, change.time, row_in(&change.body), mine),
+        Kind::Table | Kind::Windowed => with_balance(alloc, agg, &mine, change),
+    }
+}
+
+/// An aggregate of a table after a change: with what the row that it brings counts, less what the row that it takes
+/// away did.
+fn with_balance(
+    alloc: Global,
+    agg: &Agg,
+    mine: &Value,
+    change: &Change,
+) -> Result<Value, AllocError>
+    ensures { IfOk result (λ made. made ≡ next_worth kinds.Table agg.now change.now mine.now) }
+{
+    let entered = amount_of(alloc, agg, change.time, row_in(&change.body))?;
+    let gone = amount_of(alloc, agg, change.time, row_out(&change.body))?;
+    let by = i128::from(entered) - i128::from(gone);
+    Ok(raised(type_of_agg(agg), mine, by))
+}
+
+/// An aggregate of a stream after a row at a time, where there is one.
+fn with_row(
+    alloc: Global,
+    agg: &Agg,
+    time: u64,
+    row: Option<&Row>,
+    mine: Value,
+) -> Result<Value, AllocError>
+    ensures { IfOk result (λ made. made ≡ with_row agg.now time (option_map (λ r. r.now) row.entry) mine) }
+{
+    let Some(row) = row else {
+        return Ok(mine);
+    };
+    let value = argument(alloc, &agg.arg, time, row)?;
+    Ok(more(agg.fun, type_of_agg(agg), mine, value))
+}
+
+/// An aggregate of a stream after one more value of its argument.
+fn more(fun: AggFun, ty: Option<SqlType>, mine: Value, value: Value) -> Value
+    ensures { result ≡ more fun ty mine value }
+{
+    match fun {
+        AggFun::CountAll | AggFun::Count | AggFun::Sum => {
+            raised(ty, &mine, i128::from(amount(fun, &value)))
+        }
+        AggFun::Min => lesser(mine, value),
+        AggFun::Max => greater(mine, value),
+        AggFun::Latest => present_or(value, mine),
+        AggFun::Earliest => present_or(mine, value),
+    }
+}
+
+/// What COUNT and SUM count of a row at a time; 0 where there is none, and for the other functions.
+fn amount_of(alloc: Global, agg: &Agg, time: u64, row: Option<&Row>) -> Result<i64, AllocError>
+    ensures { IfOk result (λ made. made ≡ amount_of agg.now time (option_map (λ r. r.now) row.entry)) }
+{
+    let Some(row) = row else {
+        return Ok(0);
+    };
+    let value = argument(alloc, &agg.arg, time, row)?;
+    Ok(amount(agg.fun, &value))
+}
+
+/// What COUNT and SUM count of a value; 0 for the other functions.
+fn amount(fun: AggFun, value: &Value) -> i64
+    ensures { result ≡ amount fun (value.now ∷ []) }
+{
+    match fun {
+        AggFun::CountAll => 1,
+        AggFun::Count => i64::from(!value.is_null()),
+        AggFun::Sum => whole(value).unwrap_or(0),
+        _ => 0,
+    }
+}
+
+/// A value, or another in place of NULL.
+fn present_or(value: Value, other: Value) -> Value
+    ensures { result ≡ present_or value other }
+{
+    if value.is_null() { other } else { value }
+}
+
+/// A number in a type, after so much more. It wraps.
+fn raised(ty: Option<SqlType>, mine: &Value, by: i128) -> Value
+    requires low { neg_ℤ (pos (2 ^ 64)) ≤ℤ by }
+    requires high { by ≤ℤ pos (2 ^ 64) }
+    ensures { result ≡ raised ty mine.now by }
+{
+    number_in(ty, i128::from(whole(mine).unwrap_or(0)) + by)
+}
+
+/// The result of a group of which this is kept: its key, and then its aggregates.
+fn result_of(alloc: Global, group: &Key, mine: &[Value]) -> Result<Option<Row>, AllocError>
+    ensures { IfOk result (λ row. row ≡ result_of group.now mine.now) }
+{
+    let [_, worths @ ..] = mine else {
+        return Ok(None);
+    };
+    let mut row = group.copy(alloc)?.into_items();
+    for worth in worths {
+        row.push(worth.copy(alloc)?)?;
+    }
+    Ok(Some(Items::of(row)))
+}

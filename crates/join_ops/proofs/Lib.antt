@@ -1,0 +1,4 @@
+pub mod Fresh
+pub mod Sides
+pub mod Stream
+pub mod TwoTables

@@ -1,0 +1,177 @@
+ghost use Rattle.std.specs.Prelude.{◌≡◌, ℕ, false, List, [], ◌∷◌, ◌++◌, All, IfOk, OnOk, OnErr, IsTrue};
+ghost use Rattle.ksql_nodes.specs.declared.node.Node.TheVariants as nodes;
+ghost use Rattle.ksql_nodes.specs.Entries.{Entry, of_side};
+ghost use Rattle.ksql_nodes.specs.Joins.{join_row, join_stream};
+ghost use Rattle.state_store.specs.Store.{Values, IsBase};
+ghost use Rattle.record_codec.specs.Spelling.{IsShort};
+ghost use Rattle.operator.specs.Holding.{nothing};
+ghost use Rattle.operator.specs.StandsFor.{StandsFor};
+ghost use Rattle.operator.specs.Storable.{HasShortRow};
+ghost use Rattle.row_ops.specs.InputTable.{HoldsRows};
+ghost use Rattle.join_ops.specs.Kinds.{is_stream_join};
+
+use crate::rows::row_of;
+use ksql_expr::Typed;
+use ksql_nodes::Node;
+use ksql_place::Change;
+use ksql_types::{Changelog, CopyOf, StoreEntry};
+use node_steps::rekeyed;
+use operator::{Operator, StoredOperator, with_number};
+use row_ops::{standing, turn};
+use state_store::Store;
+use std::alloc::{AllocError, Global};
+use table_steps::{Join, stream_joined};
+
+/// The operator of a join of a stream with a table, whose rows it holds.
+#[derive(Drop)]
+pub struct StreamTableOp {
+    on: Typed,
+    join: Join,
+    rows: Store,
+    failed: bool,
+}
+
+impl StreamTableOp {
+    /// The operator of a join of a stream with a table, before any entry.
+    pub fn new(alloc: Global, node: &Node) -> Result<StreamTableOp, AllocError>
+        requires { IsTrue (is_stream_join node.now) }
+        ensures node { IfOk result (λ made. ⟦<StreamTableOp as Operator>⟧.node made ≡ node.now) }
+        ensures stands { IfOk result (λ made. StandsFor (⟦<StreamTableOp as Operator>⟧.node made) (⟦<StreamTableOp as Operator>⟧.held made) []) }
+        ensures sound { IfOk result (λ made. ⟦<StreamTableOp as Operator>⟧.failed made ≡ false) }
+    {
+        match node {
+            Node::JoinStreamTable {
+                kind,
+                on,
+                left,
+                right,
+            } => Ok(StreamTableOp {
+                on: on.copy(alloc)?,
+                join: Join {
+                    kind: *kind,
+                    left: *left,
+                    right: *right,
+                },
+                rows: Store::new(alloc),
+                failed: false,
+            }),
+            _ => unreachable!(),
+        }
+    }
+}
+
+impl Operator for StreamTableOp {
+    ghost node = { λ s. nodes.JoinStreamTable s.join.kind s.on s.join.left s.join.right };
+
+    ghost held = { λ s. record nothing { right = s.rows } };
+
+    ghost failed = { λ s. s.failed };
+
+    fn step(
+        &mut self,
+        alloc: Global,
+        side: u32,
+        change: &Change,
+        out: &mut Vec<Change>,
+    ) -> Result<(), AllocError> {
+        if self.failed {
+            return Err(AllocError);
+        }
+        let stepped = take(
+            &mut self.rows,
+            alloc,
+            &self.on,
+            &self.join,
+            side,
+            change,
+            out,
+        );
+        self.failed = stepped.is_err();
+        stepped
+    }
+}
+
+impl StoredOperator for StreamTableOp {
+    fn changes(&mut self, alloc: Global) -> Result<Changelog, AllocError> {
+        Ok(with_number(self.rows.changes(alloc)?, 1))
+    }
+
+    fn load(&mut self, alloc: Global, log: &[StoreEntry]) -> Result<(), AllocError> {
+        self.rows.load(alloc, 1, log)
+    }
+}
+
+/// Gives what comes of a stream's change, and puts a table's change into the table.
+fn take(
+    rows: &mut Store,
+    alloc: Global,
+    on: &Typed,
+    join: &Join,
+    side: u32,
+    change: &Change,
+    out: &mut Vec<Change>,
+) -> Result<(), AllocError>
+    requires key { All IsShort change.now.key }
+    requires row { side ≡ 1 → HasShortRow change.now }
+    ensures next { OnOk result ((es : List Entry) → HoldsRows rows.old.map (of_side 1 es) →
+        let e : Entry = record { side = side; change = change.now } in
+        (out.new.items ≡ out.old.items ++ join_stream join.now.kind on.now join.now.left join.now.right es e)
+        × HoldsRows rows.new.map (of_side 1 (es ++ e ∷ []))) }
+    ensures base { (base : Values) → IsBase base rows.old → IsBase base rows.new }
+    ensures out { OnErr result (out.new.items ≡ out.old.items) }
+{
+    match side {
+        0 => give(rows, alloc, on, join, change, out),
+        1 => put(rows, alloc, change),
+        _ => Ok(()),
+    }
+}
+
+/// Puts a table's change into the table.
+fn put(rows: &mut Store, alloc: Global, change: &Change) -> Result<(), AllocError>
+    requires key { All IsShort change.now.key }
+    requires row { HasShortRow change.now }
+    ensures next { OnOk result ((side : ℕ) (es : List Entry) → HoldsRows rows.old.map es →
+        HoldsRows rows.new.map (es ++ record { side = side; change = change.now } ∷ [])) }
+    ensures base { (base : Values) → IsBase base rows.old → IsBase base rows.new }
+{
+    drop(turn(rows, alloc, change)?);
+    Ok(())
+}
+
+/// Gives a stream's change beside the row that the table has for its join key; nothing where it has no join key.
+fn give(
+    rows: &Store,
+    alloc: Global,
+    on: &Typed,
+    join: &Join,
+    change: &Change,
+    out: &mut Vec<Change>,
+) -> Result<(), AllocError>
+    ensures given { OnOk result ((es : List Entry) → HoldsRows rows.now.map (of_side 1 es) →
+        out.new.items ≡ out.old.items ++ join_stream join.now.kind on.now join.now.left join.now.right es (record { side = 0; change = change.now })) }
+    ensures unchanged { OnErr result (out.new.items ≡ out.old.items) }
+{
+    let keyed = rekeyed(alloc, on, change)?;
+    let Some(keyed) = keyed.first() else {
+        return Ok(());
+    };
+    let mut given = beside_row(rows, alloc, join, keyed)?;
+    out.append(&mut given)?;
+    Ok(())
+}
+
+/// A stream's change, which has its join key, beside the row that the table has for that key.
+fn beside_row(
+    rows: &Store,
+    alloc: Global,
+    join: &Join,
+    change: &Change,
+) -> Result<Vec<Change>, AllocError>
+    ensures { IfOk result (λ made. (es : List Entry) → HoldsRows rows.now.map (of_side 1 es) →
+        made.items ≡ join_row join.now.kind join.now.left join.now.right es change.now) }
+{
+    let latest = standing(rows, alloc, &change.key)?;
+    let given = stream_joined(alloc, join, change, row_of(&latest))?;
+    Ok(given)
+}

@@ -1,0 +1,4 @@
+pub mod Fresh
+pub mod Numbered
+pub mod Rows
+pub mod SameKeys

@@ -1,0 +1,65 @@
+ghost use Rattle.std.specs.Prelude.{◌≡◌, Bool, true, List, [], ◌∷◌, ◌++◌, IfOk, OnOk, OnErr, IsErr};
+ghost use Rattle.ksql_types.specs.declared.relation.StoreEntry.{StoreEntry as OneStoreEntry};
+ghost use Rattle.ksql_place.specs.declared.change.Change.{Change as OneChange};
+ghost use Rattle.ksql_nodes.specs.declared.node.Node.{Node};
+ghost use Rattle.ksql_nodes.specs.Entries.{Entry};
+ghost use Rattle.ksql_nodes.specs.Nodes.{gives};
+ghost use Rattle.operator.specs.Holding.{Held, Maps, maps_of, committed, no_maps, replayed, IsLoadable, IsBaseOf};
+ghost use Rattle.operator.specs.StandsFor.{StandsFor};
+ghost use Rattle.operator.specs.Storable.{IsStorable};
+
+use ksql_place::Change;
+use ksql_types::{Changelog, StoreEntry};
+use std::alloc::{AllocError, Global};
+
+/// What a node gives, entry by entry. `node` is the node, `held` what the operator holds in its stores, and `failed`
+/// whether memory ran out in a step.
+pub trait Operator {
+    ghost node: { Self → Node };
+
+    ghost held: { Self → Held };
+
+    ghost failed: { Self → Bool };
+
+    /// Adds to `out` what the node gives for a change that comes in on a side, after all those before it: whichever
+    /// entries the operator stood for, it then stands for these and the new one. Once memory ran out in a step, every
+    /// later one answers so, and `out` has what it had, perhaps followed by some of the changes.
+    fn step(
+        &mut self,
+        alloc: Global,
+        side: u32,
+        change: &Change,
+        out: &mut Vec<Change>,
+    ) -> Result<(), AllocError>
+        requires { IsStorable (node self.old) side change.now }
+        ensures same_node { node self.new ≡ node self.old }
+        ensures next { OnOk result ((es : List Entry) → StandsFor (node self.old) (held self.old) es →
+            let e : Entry = record { side = side; change = change.now } in
+            (out.new.items ≡ out.old.items ++ gives 1 (node self.old) es e) × StandsFor (node self.old) (held self.new) (es ++ e ∷ [])) }
+        ensures base { (base : Maps) → IsBaseOf base (held self.old) → IsBaseOf base (held self.new) }
+        ensures failing { failed self.old ≡ true → IsErr result }
+        ensures err { OnErr result ((failed self.new ≡ true) × ((some : List OneChange) × (out.new.items ≡ out.old.items ++ some))) };
+}
+
+/// An operator with stores, which are committed and restored by their changelogs.
+pub trait StoredOperator: Operator {
+    /// Commits, and answers what changed in the stores since the last commit: 0 is the number of the left table's
+    /// store, 1 that of the right one's, 2 that of the groups' or the windows'. After an error the operator is as before.
+    fn changes(&mut self, alloc: Global) -> Result<Changelog, AllocError>
+        ensures same_node { Self.node self.new ≡ Self.node self.old }
+        ensures same_failed { Self.failed self.new ≡ Self.failed self.old }
+        ensures replayed { IfOk result (λ log. (base : Maps) → IsBaseOf base (Self.held self.old) →
+            replayed (Self.node self.old) base log ≡ maps_of (Self.held self.old)) }
+        ensures loadable { IfOk result (IsLoadable (Self.node self.old)) }
+        ensures committed { OnOk result (Self.held self.new ≡ committed (maps_of (Self.held self.old))) }
+        ensures kept { OnErr result (Self.held self.new ≡ Self.held self.old) };
+
+    /// Puts what the entries of a log make of empty stores in place of the stores. After an error the operator is as
+    /// before.
+    fn load(&mut self, alloc: Global, log: &[StoreEntry]) -> Result<(), AllocError>
+        requires { IsLoadable (Self.node self.old) log.now }
+        ensures same_node { Self.node self.new ≡ Self.node self.old }
+        ensures same_failed { Self.failed self.new ≡ Self.failed self.old }
+        ensures loaded { OnOk result (Self.held self.new ≡ committed (replayed (Self.node self.old) no_maps log.now)) }
+        ensures kept { OnErr result (Self.held self.new ≡ Self.held self.old) };
+}

@@ -1,0 +1,119 @@
+//! Operators, each driven over the entries.
+ghost use Rattle.operator_bench.specs.Plain.{TakesPlain};
+
+use crate::entries::entry;
+use crate::operators;
+use operator::{Operator, StoredOperator};
+use std::alloc::{AllocError, Global};
+
+/// The sides on which entries come in: one, or two in turn; and on which of them they are a table's.
+#[derive(Clone, Copy)]
+struct Sides {
+    are_two: bool,
+    left_table: bool,
+    right_table: bool,
+}
+
+const STREAM: Sides = Sides {
+    are_two: false,
+    left_table: false,
+    right_table: false,
+};
+
+const TABLE: Sides = Sides {
+    are_two: false,
+    left_table: true,
+    right_table: false,
+};
+
+const BOTH: Sides = Sides {
+    are_two: true,
+    left_table: false,
+    right_table: true,
+};
+
+const TABLES: Sides = Sides {
+    are_two: true,
+    left_table: true,
+    right_table: true,
+};
+
+/// How many changes an operator gave, and how many entries its changelog has: 0 of an operator without stores.
+#[derive(Clone, Copy)]
+pub struct Counts {
+    pub given: u64,
+    pub logged: u64,
+}
+
+/// What the operator of a name gives for so many entries; None where no operator has the name.
+pub fn counts_of(
+    alloc: Global,
+    operator: &str,
+    entries: u32,
+) -> Result<Option<Counts>, AllocError> {
+    match operator {
+        "select" => stepped(alloc, operators::select(alloc)?, STREAM, entries),
+        "filter" => stepped(alloc, operators::filter(alloc)?, STREAM, entries),
+        "group" => stepped(alloc, operators::group(alloc)?, STREAM, entries),
+        "table" => restored(alloc, operators::table(alloc)?, TABLE, entries),
+        "count" => restored(alloc, operators::count(alloc)?, STREAM, entries),
+        "table-count" => restored(alloc, operators::table_count(alloc)?, TABLE, entries),
+        "stream-table" => restored(alloc, operators::stream_table(alloc)?, BOTH, entries),
+        "table-table" => restored(alloc, operators::table_table(alloc)?, TABLES, entries),
+        _ => Ok(None),
+    }
+}
+
+/// Steps an operator without stores.
+fn stepped<O: Operator + Drop>(
+    alloc: Global,
+    mut op: O,
+    sides: Sides,
+    entries: u32,
+) -> Result<Option<Counts>, AllocError>
+    requires { TakesPlain (O.node op) }
+{
+    let given = driven(alloc, &mut op, sides, entries)?;
+    Ok(Some(Counts { given, logged: 0 }))
+}
+
+/// Steps an operator with stores, and restores it from its changelog.
+fn restored<O: StoredOperator + Drop>(
+    alloc: Global,
+    mut op: O,
+    sides: Sides,
+    entries: u32,
+) -> Result<Option<Counts>, AllocError>
+    requires { TakesPlain (O.Operator.node op) }
+{
+    let given = driven(alloc, &mut op, sides, entries)?;
+    let log = op.changes(alloc)?;
+    op.load(alloc, log.items())?;
+    let logged = log.items().len() as u64;
+    Ok(Some(Counts { given, logged }))
+}
+
+/// How many changes an operator gives for so many entries, on its sides in turn.
+fn driven<O: Operator>(
+    alloc: Global,
+    op: &mut O,
+    sides: Sides,
+    entries: u32,
+) -> Result<u64, AllocError>
+    requires { TakesPlain (O.node op.old) }
+{
+    let mut out = Vec::new(alloc);
+    let mut given: u64 = 0;
+    for number in 0..entries {
+        let (side, of_table) = if sides.are_two && number % 2 == 1 {
+            (1, sides.right_table)
+        } else {
+            (0, sides.left_table)
+        };
+        let change = entry(alloc, number, of_table)?;
+        op.step(alloc, side, &change, &mut out)?;
+        given = given.wrapping_add(out.len() as u64);
+        out.clear();
+    }
+    Ok(given)
+}

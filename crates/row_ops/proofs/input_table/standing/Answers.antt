@@ -1,0 +1,29 @@
+use Rattle.std.proofs.Common.{◌≡◌, ◌∙◌, ap, sym, List, Ok, Err, Result, true≢false}
+use Rattle.std.specs.Prelude.{Option, IfOk}
+use Rattle.std.specs.FinMap.{get}
+use Rattle.ksql_types.specs.declared.value.Value.{Value}
+use Rattle.ksql_place.specs.declared.change.Change.{Change}
+use Rattle.ksql_nodes.specs.Entries.{Entry, of_key}
+use Rattle.state_store.specs.Store.{Values}
+use Rattle.operator.specs.Kept.{kept_after}
+use Rattle.row_ops.specs.InputTable.{HoldsRows}
+use Rattle.row_ops.proofs.InputTable.{rows-read, rows-spelled, rows-long}
+use Rattle.row_ops.proofs.input_table.standing.Goals as goal
+
+-- what holds of a result for all entries holds of its Ok for all of them
+of-all : {E : Type 0} (m : Values) (key : List Value) (r : Result (Option Change) E) → ((es : List Entry) → HoldsRows m es → IfOk r (λ found. found ≡ kept_after (of_key key es))) →
+    IfOk r (λ found. (es : List Entry) → HoldsRows m es → found ≡ kept_after (of_key key es))
+of-all m key (Ok found) h = h
+of-all m key (Err e) h = tt
+
+pub returns-then-not-is_short : goal.returns-then-not-is_short
+returns-then-not-is_short c = λ es h.
+    rows-long c.args.store.now.map es c.args.key.now h (λ short. true≢false (sym (c.is_short.ensures.1 short) ∙ c.if-not-is_short.true))
+
+pub returns : goal.returns
+returns c =
+    let m = c.args.store.now.map in
+    let key = c.args.key.now in
+    of-all m key c.latest.result
+    (λ es h. c.latest.ensures (kept_after (of_key key es)) (rows-spelled m es key h)
+    (ap (get m) (c.items.ensures ∙ c.in_ok-key.ensures.bytes) ∙ rows-read m es key h c.in_ok-key.ensures.spellable))

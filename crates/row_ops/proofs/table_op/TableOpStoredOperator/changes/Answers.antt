@@ -1,0 +1,5 @@
+use Rattle.row_ops.proofs.Fresh.{changes-replayed}
+use Rattle.row_ops.proofs.table_op.TableOpStoredOperator.changes.Goals as goal
+
+pub returns-clause-replayed : goal.returns-clause-replayed
+returns-clause-replayed c = changes-replayed c.args.self.now.relation c.args.self.now.rows c.changes.result c.changes.ensures.given

@@ -1,0 +1,3 @@
+pub mod InputTable
+pub mod Keying
+pub mod Kinds

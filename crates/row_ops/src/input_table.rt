@@ -1,0 +1,91 @@
+//! The table at an input: for each key the change that set its row, under the bytes of the key.
+ghost use Rattle.std.specs.Prelude.{◌≡◌, ℕ, List, [], ◌∷◌, ◌++◌, Option, All, IfOk, IfSome, OnOk, option_map};
+ghost use Rattle.std.specs.FinMap as finite;
+ghost use Rattle.ksql_place.specs.declared.change.Change.{Change as OneChange};
+ghost use Rattle.ksql_nodes.specs.Entries.{Entry, of_key};
+ghost use Rattle.state_store.specs.Store.{Values, with_value, IsBase};
+ghost use Rattle.record_codec.specs.Spelling.{spelling, IsShort, IsSpellable};
+ghost use Rattle.operator.specs.Kept.{kept, kept_after};
+ghost use Rattle.operator.specs.Storable.{HasShortRow};
+ghost use Rattle.row_ops.specs.InputTable.{HoldsRows};
+
+use ksql_place::{Body, Change};
+use ksql_types::{CopyOf, Key};
+use node_steps::row_in;
+use operator::{is_short, spelled_key};
+use record_codec::{decode, encode};
+use state_store::Store;
+use std::alloc::{AllocError, Global};
+
+/// Puts what a change says of its key into the table, and answers the change that had set the key's row, with the row
+/// before that left out; None where the key had no row.
+pub fn turn(store: &mut Store, alloc: Global, change: &Change) -> Result<Option<Change>, AllocError>
+    requires key { All IsShort change.now.key }
+    requires row { HasShortRow change.now }
+    ensures next { IfOk result (λ before. (side : ℕ) (es : List Entry) → HoldsRows store.old.map es →
+        (before ≡ kept_after (of_key change.now.key es)) × HoldsRows store.new.map (es ++ record { side = side; change = change.now } ∷ [])) }
+    ensures base { (base : Values) → IsBase base store.old → IsBase base store.new }
+{
+    let key = spelled_key(alloc, &change.key)?;
+    let before = latest(store, alloc, key.items())?;
+    keep(store, alloc, key.items(), change)?;
+    Ok(before)
+}
+
+/// The change that set a key's row, as `turn` answers it; the table stays as it is. Every key may be asked for.
+pub fn standing(store: &Store, alloc: Global, key: &Key) -> Result<Option<Change>, AllocError>
+    ensures { IfOk result (λ found. (es : List Entry) → HoldsRows store.now.map es → found ≡ kept_after (of_key key.now es)) }
+{
+    // No row has a key with a long value.
+    if !is_short(key) {
+        return Ok(None);
+    }
+    let key = spelled_key(alloc, key)?;
+    latest(store, alloc, key.items())
+}
+
+/// The change that is kept under some bytes; None also where what is kept there spells no change.
+fn latest(store: &Store, alloc: Global, key: &[u8]) -> Result<Option<Change>, AllocError>
+    ensures { (change : Option OneChange) → IfSome change IsSpellable → finite.get store.now.map key.now ≡ option_map spelling change →
+        IfOk result (λ found. found ≡ change) }
+{
+    match store.get(key) {
+        Some(bytes) => decode(alloc, bytes),
+        None => Ok(None),
+    }
+}
+
+/// Keeps what a change says of a key in place of what was kept before: nothing where it brings no row.
+fn keep(store: &mut Store, alloc: Global, key: &[u8], change: &Change) -> Result<(), AllocError>
+    requires { HasShortRow change.now }
+    ensures map { OnOk result (store.new.map ≡ with_value store.old.map key.now (option_map spelling (kept change.now))) }
+    ensures spellable { OnOk result (IfSome (kept change.now) IsSpellable) }
+    ensures base { (base : Values) → IsBase base store.old → IsBase base store.new }
+{
+    match kept(alloc, change)? {
+        Some(kept) => {
+            let bytes = encode(alloc, &kept)?;
+            store.set(alloc, key, bytes.items())
+        }
+        None => store.delete(alloc, key),
+    }
+}
+
+/// The change that sets the row, with the row before left out, where a change brings a row.
+fn kept(alloc: Global, change: &Change) -> Result<Option<Change>, AllocError>
+    ensures { IfOk result (λ made. made ≡ kept change.now) }
+{
+    let Some(row) = row_in(&change.body) else {
+        return Ok(None);
+    };
+    Ok(Some(Change {
+        place: change.place.copy(alloc)?,
+        time: change.time,
+        key: change.key.copy(alloc)?,
+        span: change.span,
+        body: Body::Turned {
+            old: None,
+            new: Some(row.copy(alloc)?),
+        },
+    }))
+}

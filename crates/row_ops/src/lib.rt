@@ -1,0 +1,17 @@
+//! The operators that look at each row by itself, and the one of a table at an input.
+#![tactic(auto)]
+
+mod filter_op;
+mod input_table;
+mod rekey_op;
+mod select_op;
+mod table_op;
+
+pub use filter_op::FilterOp;
+pub use input_table::{standing, turn};
+pub use rekey_op::RekeyOp;
+pub use select_op::SelectOp;
+pub use table_op::TableOp;
+
+#[cfg(test)]
+mod tests;

@@ -1,0 +1,136 @@
+ghost use Rattle.std.specs.Prelude.{◌≡◌, ℕ, false, List, [], ◌∷◌, ◌++◌, All, IfOk, OnOk, OnErr, IsTrue, option_and_then};
+ghost use Rattle.ksql_place.specs.Said.{row_in};
+ghost use Rattle.ksql_nodes.specs.declared.node.Node.TheVariants as nodes;
+ghost use Rattle.ksql_nodes.specs.Entries.{Entry, of_key, row_after};
+ghost use Rattle.ksql_nodes.specs.Rows.{turned, with_body};
+ghost use Rattle.state_store.specs.Store.{Values, IsBase};
+ghost use Rattle.record_codec.specs.Spelling.{IsShort};
+ghost use Rattle.operator.specs.Holding.{nothing};
+ghost use Rattle.operator.specs.StandsFor.{StandsFor};
+ghost use Rattle.operator.specs.Storable.{HasShortRow};
+ghost use Rattle.row_ops.specs.InputTable.{HoldsRows};
+ghost use Rattle.row_ops.specs.Kinds.{is_table};
+
+use crate::input_table::turn;
+use ksql_nodes::Node;
+use ksql_place::{Body, Change};
+use ksql_types::{Changelog, CopyOf, Row, StoreEntry};
+use node_steps::{copied, row_in, turned, with_body};
+use operator::{Operator, StoredOperator};
+use state_store::Store;
+use std::alloc::{AllocError, Global};
+
+/// The operator of a table at the input of a query without a join: what it gives says which row stood before.
+#[derive(Drop)]
+pub struct TableOp {
+    relation: u32,
+    rows: Store,
+    failed: bool,
+}
+
+impl TableOp {
+    /// The operator of a table, before any entry. Takes no memory.
+    pub fn new(alloc: Global, node: &Node) -> Result<TableOp, AllocError>
+        requires { IsTrue (is_table node.now) }
+        ensures node { IfOk result (λ made. ⟦<TableOp as Operator>⟧.node made ≡ node.now) }
+        ensures stands { IfOk result (λ made. StandsFor (⟦<TableOp as Operator>⟧.node made) (⟦<TableOp as Operator>⟧.held made) []) }
+        ensures sound { IfOk result (λ made. ⟦<TableOp as Operator>⟧.failed made ≡ false) }
+    {
+        match node {
+            Node::Table { relation } => Ok(TableOp {
+                relation: *relation,
+                rows: Store::new(alloc),
+                failed: false,
+            }),
+            _ => unreachable!(),
+        }
+    }
+}
+
+impl Operator for TableOp {
+    ghost node = { λ s. nodes.Table s.relation };
+
+    ghost held = { λ s. record nothing { left = s.rows } };
+
+    ghost failed = { λ s. s.failed };
+
+    fn step(
+        &mut self,
+        alloc: Global,
+        _side: u32,
+        change: &Change,
+        out: &mut Vec<Change>,
+    ) -> Result<(), AllocError> {
+        if self.failed {
+            return Err(AllocError);
+        }
+        let stepped = give(&mut self.rows, alloc, change, out);
+        self.failed = stepped.is_err();
+        stepped
+    }
+}
+
+impl StoredOperator for TableOp {
+    fn changes(&mut self, alloc: Global) -> Result<Changelog, AllocError> {
+        self.rows.changes(alloc)
+    }
+
+    fn load(&mut self, alloc: Global, log: &[StoreEntry]) -> Result<(), AllocError> {
+        self.rows.load(alloc, 0, log)
+    }
+}
+
+/// Gives the change from the row that the key had before, where it isn't from absent to absent.
+fn give(
+    rows: &mut Store,
+    alloc: Global,
+    change: &Change,
+    out: &mut Vec<Change>,
+) -> Result<(), AllocError>
+    requires key { All IsShort change.now.key }
+    requires row { HasShortRow change.now }
+    ensures next { OnOk result ((side : ℕ) (es : List Entry) → HoldsRows rows.old.map es →
+        (out.new.items ≡ out.old.items ++ with_body change.now (turned (row_after (of_key change.now.key es)) (row_in change.now.body)))
+        × HoldsRows rows.new.map (es ++ record { side = side; change = change.now } ∷ [])) }
+    ensures base { (base : Values) → IsBase base rows.old → IsBase base rows.new }
+    ensures out { OnErr result (out.new.items ≡ out.old.items) }
+{
+    let before = turn(rows, alloc, change)?;
+    let mut given = changed(alloc, change, before)?;
+    out.append(&mut given)?;
+    Ok(())
+}
+
+/// The change from the row that another change brought, where that isn't from absent to absent.
+fn changed(
+    alloc: Global,
+    change: &Change,
+    before: Option<Change>,
+) -> Result<Vec<Change>, AllocError>
+    ensures { IfOk result (λ made. made.items ≡ with_body change.now (turned (option_and_then (λ c. row_in c.body) before) (row_in change.now.body))) }
+{
+    let old = row_of(before);
+    let new = copied(alloc, row_in(&change.body))?;
+    with_body(alloc, change, change.key.copy(alloc)?, turned(old, new))
+}
+
+/// The row that a change brings, where there is a change.
+fn row_of(change: Option<Change>) -> Option<Row>
+    ensures { result ≡ option_and_then (λ c. row_in c.body) change }
+{
+    match change {
+        Some(change) => into_row(change),
+        None => None,
+    }
+}
+
+/// The row that a change brings.
+fn into_row(change: Change) -> Option<Row>
+    ensures { result ≡ row_in change.body }
+{
+    let Change { body, .. } = change;
+    match body {
+        Body::Said(row) => Some(row),
+        Body::Turned { new, .. } => new,
+    }
+}

@@ -1,0 +1,45 @@
+-- Joins, from the rows that stand on their sides (ksqlDB reference manual, "Join event streams").
+use Rattle.std.specs.Prelude.{ℕ, max, Bool, true, false, List, [], ◌∷◌, Option, option_map, option_and_then}
+use Rattle.ksql_types.specs.declared.value.Value.{Value}
+use Rattle.ksql_place.specs.Said.{row_in, row_out}
+use Rattle.ksql_place.specs.declared.change.Body.TheVariants.{Said}
+use Rattle.ksql_place.specs.declared.change.Change.{Change}
+use Rattle.ksql_nodes.specs.declared.node.Node.{Node}
+use Rattle.ksql_nodes.specs.declared.node.Node.TheVariants.{JoinStreamTable, JoinTables}
+use Rattle.ksql_nodes.specs.Entries.{Row, Entry, of_key, of_side, row_after, time_after}
+use Rattle.ksql_nodes.specs.Joins.{joined, joined_from, other_side, side_step}
+use Rattle.ksql_nodes.specs.Rows.{turned, with_body, at_path}
+use Rattle.table_steps.specs.declared.join.Join.{Join}
+use Rattle.table_steps.specs.declared.join.Standing.{Standing}
+
+abbrev pub is_join : Node → Bool
+is_join (JoinStreamTable kind on left right) = true
+is_join (JoinTables kind left right) = true
+is_join node = false
+
+-- a stream's change beside a row of the table
+abbrev pub beside : Join → Change → Option Row → List Change
+beside j c row = with_body c (option_map (λ r. Said r) (joined j.kind j.left j.right [] (row_in c.body) row))
+
+-- the rows that stand for a key: the own table's, and the other one's with its time
+pub record Rows : Type 0 where
+  pub own : Option Row
+  pub other : Option Row
+  pub time : ℕ
+
+-- such rows that are lent
+abbrev pub standing_of : Standing → Rows
+standing_of s = record { own = option_map (λ r. r.now) s.own; other = option_map (λ r. r.now) s.other; time = s.time }
+
+-- the rows that stand for a key after some entries of two tables
+abbrev pub standing_before : ℕ → List Value → List Entry → Rows
+standing_before side key es =
+    let others = of_side (other_side side) (of_key key es) in
+    record { own = row_after (of_side side (of_key key es)); other = row_after others; time = time_after others }
+
+-- a change of one of two tables: from the joined row before it to the one after it, and no earlier than the other table's row
+abbrev pub turned_beside : Join → ℕ → Change → Rows → List Change
+turned_beside j side c rows =
+    let joined_with : Option Row → Option Row = λ own. joined_from side j.kind j.left j.right c.key own rows.other in
+    with_body (record (at_path (side_step side j.left j.right ∷ c.place.path) c) { time = max c.time rows.time })
+    (option_and_then (λ own. turned (joined_with (row_out own)) (joined_with (row_in own))) (turned rows.own (row_in c.body)))

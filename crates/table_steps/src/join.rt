@@ -1,0 +1,204 @@
+//! The joined changes, from the rows that stand on the sides of a join.
+ghost use Rattle.std.specs.Prelude.{◌≡◌, ◌∷◌, ◌++◌, max, replicate, IfOk, OnOk, option_map};
+ghost use Rattle.ksql_types.specs.declared.value.Value.TheVariants as value;
+ghost use Rattle.ksql_nodes.specs.Joins.{joined, joined_from, or_nulls, other_side, side_step};
+ghost use Rattle.ksql_nodes.specs.Rows.{at_path};
+ghost use Rattle.table_steps.specs.Joining.{beside, standing_of, turned_beside};
+
+use ksql_nodes::Side;
+use ksql_place::{Body, Change, Place};
+use ksql_program::JoinKind;
+use ksql_types::{CopyOf, Items, Row, Value};
+use node_steps::{row_in, turned, with_body};
+use std::alloc::{AllocError, Global};
+
+/// A join of two relations, whichever their kinds.
+#[derive(Clone, Copy, Debug, PartialEq, Eq)]
+pub struct Join {
+    pub kind: JoinKind,
+    pub left: Side,
+    pub right: Side,
+}
+
+/// The rows that stand for a key before a change of one of two tables: the row of the table that changes, and that of
+/// the other one with its time, which is 0 where there is none.
+#[derive(Clone, Copy)]
+pub struct Standing<'a> {
+    pub own: Option<&'a Row>,
+    pub other: Option<&'a Row>,
+    pub time: u64,
+}
+
+/// A stream's change, which has its join key, beside the row that the table has for that key.
+pub fn stream_joined(
+    alloc: Global,
+    join: &Join,
+    change: &Change,
+    row: Option<&Row>,
+) -> Result<Vec<Change>, AllocError>
+    ensures { IfOk result (λ made. made.items ≡ beside join.now change.now (option_map (λ r. r.now) row.entry)) }
+{
+    let Some(row) = joined(alloc, join, &[], row_in(&change.body), row)? else {
+        return Ok(Vec::new(alloc));
+    };
+    let key = change.key.copy(alloc)?;
+    with_body(alloc, change, key, Some(Body::Said(row)))
+}
+
+/// The joined change of a change of one of two tables: from the joined row before it to that after it.
+pub fn tables_joined(
+    alloc: Global,
+    join: &Join,
+    side: u32,
+    change: &Change,
+    standing: &Standing,
+) -> Result<Vec<Change>, AllocError>
+    ensures { IfOk result (λ made. made.items ≡ turned_beside join.now side change.now (standing_of standing.now)) }
+{
+    let new = row_in(&change.body);
+    if standing.own.is_none() && new.is_none() {
+        return Ok(Vec::new(alloc));
+    }
+    let key = change.key.items();
+    let old = joined_from(alloc, join, side, key, standing.own, standing.other)?;
+    let new = joined_from(alloc, join, side, key, new, standing.other)?;
+    let Some(body) = turned(old, new) else {
+        return Ok(Vec::new(alloc));
+    };
+    let given = join_change(alloc, side_step(join, side), change, standing.time, body)?;
+    Ok(vec![in alloc; given]?)
+}
+
+/// The other one of two sides.
+pub(crate) fn other_side(side: u32) -> u32
+    ensures { result ≡ other_side side }
+{
+    if side == 0 { 1 } else { 0 }
+}
+
+/// The number in a path that tells the sides of a join apart: 0 for the relation of the smaller number.
+fn side_step(join: &Join, side: u32) -> u32
+    ensures { result ≡ side_step side join.now.left join.now.right }
+{
+    if join.left.relation < join.right.relation {
+        side
+    } else {
+        other_side(side)
+    }
+}
+
+/// What a change of one side makes the join say, at a path with one more number, and no earlier than at a time.
+fn join_change(
+    alloc: Global,
+    step: u32,
+    change: &Change,
+    time: u64,
+    body: Body,
+) -> Result<Change, AllocError>
+    ensures { IfOk result (λ made. made ≡ record (at_path (step ∷ change.now.place.path) change.now) { time = max change.now.time time; body = body }) }
+{
+    let mut path = vec![in alloc; step]?;
+    path.extend_from_slice(change.place.path.items())?;
+    Ok(Change {
+        place: Place {
+            stamp: change.place.stamp,
+            path: Items::of(path),
+        },
+        time: change.time.max(time),
+        key: change.key.copy(alloc)?,
+        span: change.span,
+        body,
+    })
+}
+
+/// The joined row, from the row of a side and that of the other one.
+fn joined_from(
+    alloc: Global,
+    join: &Join,
+    side: u32,
+    key: &[Value],
+    own: Option<&Row>,
+    other: Option<&Row>,
+) -> Result<Option<Row>, AllocError>
+    ensures { IfOk result (λ row. row ≡ joined_from side join.now.kind join.now.left join.now.right key.now (option_map (λ r. r.now) own.entry) (option_map (λ r. r.now) other.entry)) }
+{
+    if side == 0 {
+        joined(alloc, join, key, own, other)
+    } else {
+        joined(alloc, join, key, other, own)
+    }
+}
+
+/// The joined row, where there is one: INNER wants both sides, LEFT the left one, FULL one of them, and a FULL row ends
+/// with the key.
+fn joined(
+    alloc: Global,
+    join: &Join,
+    key: &[Value],
+    left: Option<&Row>,
+    right: Option<&Row>,
+) -> Result<Option<Row>, AllocError>
+    ensures { IfOk result (λ row. row ≡ joined join.now.kind join.now.left join.now.right key.now (option_map (λ r. r.now) left.entry) (option_map (λ r. r.now) right.entry)) }
+{
+    match (join.kind, left, right) {
+        (JoinKind::Inner, Some(_), Some(_)) | (JoinKind::Left, Some(_), _) => {
+            Ok(Some(sides(alloc, join, left, right, &[])?))
+        }
+        (JoinKind::Full, Some(_), _) | (JoinKind::Full, _, Some(_)) => {
+            Ok(Some(sides(alloc, join, left, right, key)?))
+        }
+        _ => Ok(None),
+    }
+}
+
+/// The cells of both sides, NULLs where there is no row, and then some more.
+fn sides(
+    alloc: Global,
+    join: &Join,
+    left: Option<&Row>,
+    right: Option<&Row>,
+    end: &[Value],
+) -> Result<Row, AllocError>
+    ensures { IfOk result (λ row. row ≡ or_nulls join.now.left (option_map (λ r. r.now) left.entry) ++ or_nulls join.now.right (option_map (λ r. r.now) right.entry) ++ end.now) }
+{
+    let mut cells = Vec::new(alloc);
+    push_side(alloc, &mut cells, &join.left, left)?;
+    push_side(alloc, &mut cells, &join.right, right)?;
+    push_copies(alloc, &mut cells, end)?;
+    Ok(Items::of(cells))
+}
+
+/// Adds the cells of a side's row, or NULLs where there is none.
+fn push_side(
+    alloc: Global,
+    cells: &mut Vec<Value>,
+    side: &Side,
+    row: Option<&Row>,
+) -> Result<(), AllocError>
+    ensures { OnOk result (cells.new.items ≡ cells.old.items ++ or_nulls side.now (option_map (λ r. r.now) row.entry)) }
+{
+    match row {
+        Some(row) => push_copies(alloc, cells, row.items()),
+        None => push_nulls(cells, side.columns),
+    }
+}
+
+/// Adds copies of values.
+fn push_copies(alloc: Global, cells: &mut Vec<Value>, values: &[Value]) -> Result<(), AllocError>
+    ensures { OnOk result (cells.new.items ≡ cells.old.items ++ values.now) }
+{
+    for value in values {
+        cells.push(value.copy(alloc)?)?;
+    }
+    Ok(())
+}
+
+/// Adds so many NULLs.
+fn push_nulls(cells: &mut Vec<Value>, count: u32) -> Result<(), AllocError>
+    ensures { OnOk result (cells.new.items ≡ cells.old.items ++ replicate count value.Null) }
+{
+    for _ in 0..count {
+        cells.push(Value::Null)?;
+    }
+    Ok(())
+}

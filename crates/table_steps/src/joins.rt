@@ -1,0 +1,149 @@
+//! What joins give for their entries.
+ghost use Rattle.std.specs.Prelude.{◌≡◌, ℕ, [], IfOk, IsTrue, map, option_and_then, option_map, unwrap_or};
+ghost use Rattle.std.specs.List.{last_or};
+ghost use Rattle.ksql_place.specs.Said.{row_in};
+ghost use Rattle.ksql_nodes.specs.Entries.{of_key, of_side, results};
+ghost use Rattle.ksql_nodes.specs.Joins.{join_stream, join_tables};
+ghost use Rattle.ksql_nodes.specs.Nodes.{gives};
+ghost use Rattle.node_steps.specs.Steps.{entry_of};
+ghost use Rattle.table_steps.specs.Joining.{is_join, standing_before, standing_of};
+
+use crate::join::{Join, Standing, other_side, stream_joined, tables_joined};
+use ksql_expr::Typed;
+use ksql_nodes::Node;
+use ksql_place::Change;
+use ksql_types::{Key, Row};
+use node_steps::{EntryRef, is_same_key, rekeyed, row_in};
+use std::alloc::{AllocError, Global};
+
+/// What a join gives for the entries of its sides, each with all those before it. Takes of the order of n² steps for n
+/// entries.
+pub fn join_results(
+    alloc: Global,
+    node: &Node,
+    entries: &[EntryRef],
+) -> Result<Vec<Change>, AllocError>
+    requires { IsTrue (is_join node.now) }
+    ensures { IfOk result (λ changes. (lanes : ℕ) → changes.items ≡ results (gives lanes node.now) [] (map entry_of entries.now)) }
+{
+    let mut changes = Vec::new(alloc);
+    for (index, entry) in entries.iter().enumerate() {
+        let mut given = gives(alloc, node, &entries[..index], entry)?;
+        changes.append(&mut given)?;
+    }
+    Ok(changes)
+}
+
+/// What a join gives for an entry after others.
+#[tactic(auto, unfolding(ksql_nodes::specs::Nodes::gives))]
+fn gives(
+    alloc: Global,
+    node: &Node,
+    before: &[EntryRef],
+    entry: &EntryRef,
+) -> Result<Vec<Change>, AllocError>
+    requires { IsTrue (is_join node.now) }
+    ensures { IfOk result (λ changes. (lanes : ℕ) → changes.items ≡ gives lanes node.now (map entry_of before.now) (entry_of entry.now)) }
+{
+    match node {
+        Node::JoinStreamTable {
+            kind,
+            on,
+            left,
+            right,
+        } => {
+            let join = Join {
+                kind: *kind,
+                left: *left,
+                right: *right,
+            };
+            stream_changes(alloc, &join, on, before, entry)
+        }
+        Node::JoinTables { kind, left, right } => {
+            let join = Join {
+                kind: *kind,
+                left: *left,
+                right: *right,
+            };
+            table_changes(alloc, &join, before, entry)
+        }
+        _ => unreachable!(),
+    }
+}
+
+/// A stream's change beside the row that the table has for its join key; a table's change triggers nothing.
+fn stream_changes(
+    alloc: Global,
+    join: &Join,
+    on: &Typed,
+    before: &[EntryRef],
+    entry: &EntryRef,
+) -> Result<Vec<Change>, AllocError>
+    ensures { IfOk result (λ changes. changes.items ≡ join_stream join.now.kind on.now join.now.left join.now.right (map entry_of before.now) (entry_of entry.now)) }
+{
+    if entry.side != 0 {
+        return Ok(Vec::new(alloc));
+    }
+    let keyed = rekeyed(alloc, on, entry.change)?;
+    let Some(change) = keyed.first() else {
+        return Ok(Vec::new(alloc));
+    };
+    let row = row_of(latest_on(1, &change.key, before));
+    stream_joined(alloc, join, change, row)
+}
+
+/// The joined change of a change of one of two tables.
+fn table_changes(
+    alloc: Global,
+    join: &Join,
+    before: &[EntryRef],
+    entry: &EntryRef,
+) -> Result<Vec<Change>, AllocError>
+    ensures { IfOk result (λ changes. changes.items ≡ join_tables join.now.kind join.now.left join.now.right (map entry_of before.now) (entry_of entry.now)) }
+{
+    let standing = standing(entry.side, &entry.change.key, before);
+    tables_joined(alloc, join, entry.side, entry.change, &standing)
+}
+
+/// The rows that stand for a key before a change of one of two tables.
+fn standing<'a>(side: u32, key: &Key, before: &[EntryRef<'a>]) -> Standing<'a>
+    ensures { standing_of result ≡ standing_before side key.now (map entry_of before.now) }
+{
+    let other = latest_on(other_side(side), key, before);
+    Standing {
+        own: row_of(latest_on(side, key, before)),
+        other: row_of(other),
+        time: time_of(other),
+    }
+}
+
+/// The latest entry of a side with a key.
+fn latest_on<'a>(side: u32, key: &Key, entries: &[EntryRef<'a>]) -> Option<EntryRef<'a>>
+    ensures { option_map entry_of result ≡ last_or None (of_side side (of_key key.now (map entry_of entries.now))) }
+{
+    entries
+        .iter()
+        .rev()
+        .find(|entry| entry.side == side && is_same_key(&entry.change.key, key))
+        .copied()
+}
+
+/// The row that an entry leaves, where there is an entry that leaves one.
+fn row_of<'a>(found: Option<EntryRef<'a>>) -> Option<&'a Row>
+    ensures { option_map (λ r. r.now) result ≡ option_and_then (λ e. row_in e.change.body) (option_map entry_of found.entry) }
+{
+    match found {
+        Some(entry) => row_in(&entry.change.body),
+        None => None,
+    }
+}
+
+/// The time of the row that an entry leaves; 0 where there is none.
+fn time_of(found: Option<EntryRef>) -> u64
+    ensures { result ≡ unwrap_or (option_and_then (λ e. option_map (λ row. e.change.time) (row_in e.change.body)) (option_map entry_of found.entry)) 0 }
+{
+    match found {
+        Some(entry) if row_in(&entry.change.body).is_some() => entry.change.time,
+        _ => 0,
+    }
+}
