@@ -1,6 +1,7 @@
 -- What a sound program whose forms are run keeps that its topic files and its report ask for.
-use Rattle.std.proofs.Common.{◌≡◌, ◌<◌, ℕ, zero, suc, ◌+◌, List, [], ◌∷◌, ◌++◌, get_or, length, arith, refl, Bool, true, false}
-use Rattle.std.specs.Prelude.{All, IsTrue, ◌≤◌, ◌&&◌, not, is_none, Some, if◌then◌else◌}
+use Rattle.std.proofs.Common.{◌≡◌, ◌<◌, ℕ, zero, suc, List, [], ◌∷◌, ◌++◌, get_or, length, arith, refl, Bool, true, false}
+use Rattle.std.specs.Prelude.{All, IsTrue, ◌≤◌, ◌&&◌, not}
+use Rattle.std.specs.List.{AllByRecursion}
 use Rattle.std.proofs.lemmas.Bool.Decides.{nat_tests}
 use Rattle.std.proofs.lemmas.List.Elements.{All-cons, All-head, All-nil, All-tail}
 use Rattle.ksql_types.specs.Names.{is_topic_name}
@@ -11,8 +12,8 @@ use Rattle.ksql_program.specs.declared.program.Item.{Item}
 use Rattle.ksql_program.specs.declared.program.Item.TheVariants.{Declared, Started}
 use Rattle.ksql_program.specs.Program.{relation_of, relations}
 use Rattle.ksql_program.specs.Sound.{AreSoundItems, IsSound, IsSoundRelation}
-use Rattle.query_meaning.specs.Built.{first_unbuilt_from, is_built, is_built_relation, is_built_shape, is_json, is_windowed, reads_one, AreBuilt}
-use Rattle.query_meaning.specs.Queries.{kind_at, leftmost}
+use Rattle.query_meaning.specs.Built.{is_built, is_built_relation, is_built_shape, is_json, is_windowed, AreBuilt}
+use Rattle.query_meaning.proofs.EachBuilt.{each-built}
 use Rattle.run_text.specs.Report.{IsPrintable}
 use Rattle.ksql_cli.specs.Run.{declared_of}
 use Rattle.ksql_cli.specs.Steps.{IsFeedable}
@@ -30,25 +31,10 @@ json_of : (format : Format) → IsTrue (is_json format) → format ≡ Json
 json_of Json is = refl
 json_of Delimited is = absurd (cc (is))
 
--- of items of a program that are all built, the first and the others
-abbrev Builts : List Item → List Item → Type 0
-Builts items [] = Unit {0}
-Builts items (i ∷ is) = IsTrue (is_built items i) × Builts items is
-
-builts : (items : List Item) (number : ℕ) (is : List Item) → IsTrue (is_none (first_unbuilt_from items number is)) → Builts items is
-builts items number [] none = tt
-builts items number (i ∷ is) none = by (is_built items i) none (builts items (number + 1) is)
-  where
-    by : (b : Bool) → IsTrue (is_none (if b then first_unbuilt_from items (number + 1) is else Some number)) →
-        (IsTrue (is_none (first_unbuilt_from items (number + 1) is)) → Builts items is) → IsTrue b × Builts items is
-    by true rest others = (refl, others rest)
-    by false rest others = absurd (cc (rest))
-
 -- the result of a built item is a built relation
-built_relation : (items : List Item) (i : Item) → IsTrue (is_built items i) → IsTrue (is_built_relation (relation_of i))
-built_relation items (Declared r) is = is
-built_relation items (Started q) is =
-    both_second (reads_one q.from && is_built_shape (kind_at items (leftmost q.from)) q.shape) (is_built_relation q.out) is
+built_relation : (i : Item) → IsTrue (is_built i) → IsTrue (is_built_relation (relation_of i))
+built_relation (Declared r) is = is
+built_relation (Started q) is = both_second (is_built_shape q.shape) (is_built_relation q.out) is
 
 feedable_one : (number : ℕ) (r : Relation) → IsSoundRelation number r → IsTrue (is_built_relation r) → IsFeedable r
 feedable_one number r sound built = record {
@@ -58,15 +44,15 @@ feedable_one number r sound built = record {
   few = sound.partitions_few;
 }
 
-each_feedable : (items before is : List Item) → AreSoundItems before is → Builts items is → All IsFeedable (declared_of is)
-each_feedable items before [] sound built = All-nil IsFeedable
-each_feedable items before (Declared r ∷ is) sound built =
+each_feedable : (before is : List Item) → AreSoundItems before is → AllByRecursion (λ i. IsTrue (is_built i)) is → All IsFeedable (declared_of is)
+each_feedable before [] sound built = All-nil IsFeedable
+each_feedable before (Declared r ∷ is) sound built =
     All-cons IsFeedable r (declared_of is) (feedable_one (length before) r sound.0.0 built.0)
-    (each_feedable items (before ++ Declared r ∷ []) is sound.1 built.1)
-each_feedable items before (Started q ∷ is) sound built = each_feedable items (before ++ Started q ∷ []) is sound.1 built.1
+    (each_feedable (before ++ Declared r ∷ []) is sound.1 built.1)
+each_feedable before (Started q ∷ is) sound built = each_feedable (before ++ Started q ∷ []) is sound.1 built.1
 
 pub feedable : (items : List Item) → IsSound items → AreBuilt items → All IsFeedable (declared_of items)
-feedable items sound built = each_feedable items [] items sound.sound (builts items 1 items built)
+feedable items sound built = each_feedable [] items sound.sound (each-built 1 items built)
 
 printable_one : (number : ℕ) (r : Relation) → IsSoundRelation number r → IsTrue (is_built_relation r) → IsPrintable r
 printable_one number r sound built = record {
@@ -75,17 +61,17 @@ printable_one number r sound built = record {
   json = json_of r.format (both_second (not (is_windowed r.kind)) (is_json r.format) built);
 }
 
-each_printable : (items before is : List Item) → AreSoundItems before is → Builts items is → All IsPrintable (relations is)
-each_printable items before [] sound built = All-nil IsPrintable
-each_printable items before (Declared r ∷ is) sound built =
+each_printable : (before is : List Item) → AreSoundItems before is → AllByRecursion (λ i. IsTrue (is_built i)) is → All IsPrintable (relations is)
+each_printable before [] sound built = All-nil IsPrintable
+each_printable before (Declared r ∷ is) sound built =
     All-cons IsPrintable r (relations is) (printable_one (length before) r sound.0.0 built.0)
-    (each_printable items (before ++ Declared r ∷ []) is sound.1 built.1)
-each_printable items before (Started q ∷ is) sound built =
-    All-cons IsPrintable q.out (relations is) (printable_one (length before) q.out sound.0.0 (built_relation items (Started q) built.0))
-    (each_printable items (before ++ Started q ∷ []) is sound.1 built.1)
+    (each_printable (before ++ Declared r ∷ []) is sound.1 built.1)
+each_printable before (Started q ∷ is) sound built =
+    All-cons IsPrintable q.out (relations is) (printable_one (length before) q.out sound.0.0 (built_relation (Started q) built.0))
+    (each_printable (before ++ Started q ∷ []) is sound.1 built.1)
 
 pub printable : (items : List Item) → IsSound items → AreBuilt items → All IsPrintable (relations items)
-printable items sound built = each_printable items [] items sound.sound (builts items 1 items built)
+printable items sound built = each_printable [] items sound.sound (each-built 1 items built)
 
 -- each of some items, alone
 pub feedable-at : (items : List Item) (i : ℕ) (d : Item) → i < length items → All IsFeedable (declared_of items) →

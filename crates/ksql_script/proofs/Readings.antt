@@ -52,17 +52,15 @@ script_answer script (Err (Refused statement code)) short utf8 is = inr (short, 
 script_answer script (Err OutOfMemory) short utf8 is = tt
 
 -- the first statement that isn't run is one of them
-unbuilt-step : (items : List Item) (number : ℕ) (is : List Item) (found : ℕ) (b : Bool) →
-    (first_unbuilt_from items (number + 1) is ≡ Some found → found < number + 1 + length is) →
-    (if b then first_unbuilt_from items (number + 1) is else Some number) ≡ Some found → found < number + 1 + length is
-unbuilt-step items number is found true later e = later e
-unbuilt-step items number is found false later e = omega (arith, same_Some number found e)
+unbuilt-step : (number : ℕ) (is : List Item) (found : ℕ) (b : Bool) →
+    (first_unbuilt_from (number + 1) is ≡ Some found → found < number + 1 + length is) →
+    (if b then first_unbuilt_from (number + 1) is else Some number) ≡ Some found → found < number + 1 + length is
+unbuilt-step number is found true later e = later e
+unbuilt-step number is found false later e = omega (arith, same_Some number found e)
 
-unbuilt-within : (items : List Item) (number : ℕ) (is : List Item) (found : ℕ) →
-    first_unbuilt_from items number is ≡ Some found → found < number + length is
-unbuilt-within items number [] found is = absurd (cc (is))
-unbuilt-within items number (i ∷ is) found e =
-    omega (arith, unbuilt-step items number is found (is_built items i) (unbuilt-within items (number + 1) is found) e)
+unbuilt-within : (number : ℕ) (is : List Item) (found : ℕ) → first_unbuilt_from number is ≡ Some found → found < number + length is
+unbuilt-within number [] found is = absurd (cc (is))
+unbuilt-within number (i ∷ is) found e = omega (arith, unbuilt-step number is found (is_built i) (unbuilt-within (number + 1) is found) e)
 
 pub unbuilt-small : (items : List Item) (found : ℕ) → length items ≤ 200 → first_unbuilt items ≡ Some found → found < 2 ^ 32
-unbuilt-small items found few is = omega (arith, few, unbuilt-within items 1 items found is)
+unbuilt-small items found few is = omega (arith, few, unbuilt-within 1 items found is)

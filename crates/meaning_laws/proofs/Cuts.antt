@@ -1,12 +1,10 @@
 -- What is meant of the records that pass a test of stamps, where these stand first.
 use Rattle.std.proofs.Common.{◌≡◌, ◌∙◌, ap, ap₂, sym, refl, ℕ, List, [], ◌∷◌, ◌++◌, map, Bool, true, false, cond, arith}
-use Rattle.std.specs.Prelude.{filter, flat_map, ◌==◌, if◌then◌else◌, Option, Some, None, option_map, unwrap_or, slice_get, nat_le}
+use Rattle.std.specs.Prelude.{filter, flat_map, Option, Some, None, option_map, unwrap_or, slice_get, nat_le}
 use Rattle.std.specs.List.{AllByRecursion}
-use Rattle.std.specs.Cmp.{IsTotalOrder}
 use Rattle.std.specs.Ordering.{is_gt, nat_cmp, ordering_then}
 use Rattle.std.specs.declared.cmp.Ordering.{Ordering}
 use Rattle.std.specs.declared.cmp.Ordering.TheVariants.{Less, Equal, Greater}
-use Rattle.std.proofs.lemmas.Cmp.{on_total}
 use Rattle.std.proofs.lemmas.List.{map-append}
 use Rattle.std.proofs.lemmas.List.Elements.{filter-append}
 use Rattle.std.proofs.lemmas.Option.{slice_get-map}
@@ -21,7 +19,6 @@ use Rattle.ksql_place.specs.declared.change.Change.{Change}
 use Rattle.ksql_place.specs.declared.change.SourceRecord.{SourceRecord}
 use Rattle.ksql_place.specs.declared.stamp.Stamp.{Stamp}
 use Rattle.ksql_place.proofs.Ascending.{Ascends, Ascends-ascending, filter-ascending}
-use Rattle.ksql_place.proofs.Orders.{between_total}
 use Rattle.ksql_program.specs.declared.program.Item.{Item}
 use Rattle.ksql_program.specs.declared.program.Item.TheVariants.{Declared, Started}
 use Rattle.ksql_program.specs.declared.query.From.{From}
@@ -32,17 +29,13 @@ use Rattle.ksql_nodes.proofs.Cuts.{through-cut}
 use Rattle.ksql_nodes.proofs.Lists.{All-append}
 use Rattle.query_meaning.specs.Meaning.{declared_changes, item_changes, meaning_from, steps_of_declared}
 use Rattle.query_meaning.specs.Queries.{changes_at, entry_cmp, key_columns, query_changes, read_entries, steps_of, whole_changes, with_key_cells}
+use Rattle.query_meaning.proofs.QuerySteps.{entries_total}
 use Rattle.meaning_laws.specs.Prefixes.{IsMeantByFeeds}
 use Rattle.meaning_laws.proofs.Lists.{All-weaker, filter-map, filter-swap, first-filter, first-map, Pairwise, Pairwise-from_all}
 use Rattle.meaning_laws.proofs.Keeping.{steps-keep, declared-keeps}
 use Rattle.meaning_laws.proofs.EachRelation.{at-each}
 use Rattle.meaning_laws.proofs.Saying.{placed_at, saying-keeps, flat-each}
 use Rattle.meaning_laws.proofs.StampOrder.{passes, enters, PassesAfter, first-append, through-first}
-
--- ---- the order of the entries of a join
-
-pub entries_total : (left right : ℕ) → IsTotalOrder (entry_cmp left right)
-entries_total left right = on_total (λ (e : Entry). (e.change.place, if e.side == 0 then left else right)) between_total
 
 first-of : (o p : Ordering) → is_gt (ordering_then o p) ≡ false → is_gt o ≡ false
 first-of Less p h = refl

@@ -16,4 +16,5 @@ pub mod TypedValues
 pub mod Sizes
 pub mod RelationSizes
 pub mod RowTypes
+pub mod JoinedRows
 pub mod RelationColumns

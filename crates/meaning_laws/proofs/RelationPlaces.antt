@@ -21,7 +21,6 @@ use Rattle.ksql_program.specs.declared.program.Item.{Item}
 use Rattle.ksql_program.specs.declared.program.Item.TheVariants.{Declared, Started}
 use Rattle.ksql_program.specs.declared.query.From.{From}
 use Rattle.ksql_program.specs.declared.query.From.TheVariants.{One, Join}
-use Rattle.ksql_program.specs.declared.query.JoinKind.{JoinKind}
 use Rattle.ksql_program.specs.declared.query.Query.{Query}
 use Rattle.ksql_program.specs.declared.query.Shape.{Shape}
 use Rattle.ksql_program.specs.declared.query.Shape.TheVariants.{Plain, Group}
@@ -31,7 +30,7 @@ use Rattle.ksql_nodes.specs.Entries.{Entry, Step, from_side, results, through}
 use Rattle.ksql_nodes.specs.Nodes.{gives}
 use Rattle.ksql_nodes.proofs.Lists.{All-append}
 use Rattle.query_meaning.specs.Meaning.{declared_changes, item_changes, meaning, steps_of_declared}
-use Rattle.query_meaning.specs.Queries.{after_aggregate, changes_at, filter_of, join_of, key_columns, kind_at, lanes_of, leftmost, query_changes, read_entries, shape_steps, side_at, steps_of, whole_changes, with_key_cells}
+use Rattle.query_meaning.specs.Queries.{after_aggregate, changes_at, filter_of, join_of, join_over, key_columns, kind_at, lanes_of, leftmost, query_changes, read_entries, shape_steps, side_at, steps_of, whole_changes, with_key_cells}
 use Rattle.meaning_laws.specs.Places.{ArePlaced}
 use Rattle.meaning_laws.proofs.Lists.{All-of, All-weaker, Pairwise, Pairwise-filter, Pairwise-from_all, Pairwise-map}
 use Rattle.meaning_laws.proofs.Forks.{IsBefore, Rise, rise-placed}
@@ -87,11 +86,6 @@ shape-plain n kind.Windowed (Group keys window aggs having values) = (aggregate-
 
 whole-rise : (items : List Item) (lists : List (List Change)) (number : ℕ) → Rise (changes_at lists number) → Rise (whole_changes items lists number)
 whole-rise items lists number rise = Pairwise-map (λ c d. IsBefore c.place d.place) (with_key_cells (key_columns items number)) (changes_at lists number) rise
-
--- the join of relations, the left of which is of a kind
-abbrev pub join_over : List Item → JoinKind → ℕ → ℕ → Typed → Kind → List Node
-join_over items k left right on kind.Stream = node.JoinStreamTable k on (side_at items left) (side_at items right) ∷ []
-join_over items k left right on _ = node.JoinTables k (side_at items left) (side_at items right) ∷ []
 
 module _ (items before : List Item) (lists : List (List Change)) (each : Each (λ r. Rise) before lists) (n : ℕ) where
   whole-at : (number : ℕ) (r : Relation) → relation_at before number ≡ Some r → Rise (whole_changes items lists number)

@@ -27,11 +27,10 @@ use Rattle.ksql_nodes.specs.Entries.{Entry, Step, from_side, results, through}
 use Rattle.ksql_nodes.specs.Nodes.{gives}
 use Rattle.ksql_nodes.proofs.Lists.{All-append}
 use Rattle.query_meaning.specs.Meaning.{declared_changes, item_changes, meaning, meaning_from, steps_of_declared}
-use Rattle.query_meaning.specs.Queries.{after_aggregate, changes_at, entry_cmp, filter_of, join_of, key_columns, kind_at, lanes_of, leftmost, query_changes, read_entries, shape_steps, side_at, steps_of, whole_changes, with_key_cells}
+use Rattle.query_meaning.specs.Queries.{after_aggregate, changes_at, entry_cmp, filter_of, join_of, join_over, key_columns, kind_at, lanes_of, leftmost, query_changes, read_entries, shape_steps, side_at, steps_of, whole_changes, with_key_cells}
 use Rattle.meaning_laws.specs.Bounds.{IsInTime, IsSmall}
 use Rattle.meaning_laws.proofs.Lists.{All-ascending, All-filter, All-map, All-weaker}
 use Rattle.meaning_laws.proofs.EachRelation.{at-each}
-use Rattle.meaning_laws.proofs.RelationPlaces.{join_over}
 use Rattle.meaning_laws.proofs.Saying.{placed_at}
 use Rattle.meaning_laws.proofs.Sizes.{All-flat_map, Gives, IsSized, aggregate-sized, entries-give, growth, node-sized, results-give}
 
@@ -52,7 +51,7 @@ module _ (b : ℕ) where
   through-sized m k [] is es h = All-map (IsSized b k) (λ e. e.change) es (subst (λ x. AllByRecursion (λ e. IsSized b x e.change) es) is h)
   through-sized m k (step ∷ steps) lead es h =
       through-sized lead.0 k steps lead.2 (from_side 0 (results step [] es))
-      (entries-give (IsSized b lead.0) 0 (results step [] es) (results-give (IsSized b m) (IsSized b lead.0) step lead.1 [] es tt h))
+      (entries-give (IsSized b lead.0) 0 (results step [] es) (results-give (λ e. IsSized b m e.change) (IsSized b lead.0) step lead.1 [] es tt h))
 
   after-leads : (j n : ℕ) (having : Option Typed) (values : List Typed) → Leads j (map (gives n) (after_aggregate having values)) j
   after-leads j n None values = (j, node-sized b j j n (node.Select [] values) (omega arith), refl)

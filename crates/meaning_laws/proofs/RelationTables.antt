@@ -31,12 +31,11 @@ use Rattle.ksql_nodes.specs.Nodes.{gives}
 use Rattle.ksql_nodes.specs.Steps.{HasTimelessArgument, IsHeld, Timeless}
 use Rattle.ksql_nodes.proofs.Lists.{All-append}
 use Rattle.query_meaning.specs.Meaning.{declared_changes, item_changes, meaning, steps_of_declared}
-use Rattle.query_meaning.specs.Queries.{after_aggregate, changes_at, filter_of, join_of, key_columns, kind_at, lanes_of, leftmost, query_changes, read_entries, shape_steps, side_at, steps_of, whole_changes}
+use Rattle.query_meaning.specs.Queries.{after_aggregate, changes_at, filter_of, join_of, join_over, key_columns, kind_at, lanes_of, leftmost, query_changes, read_entries, shape_steps, side_at, steps_of, whole_changes}
 use Rattle.meaning_laws.specs.Tables.{TablesTurn}
 use Rattle.meaning_laws.proofs.Lists.{All-of}
 use Rattle.meaning_laws.proofs.JoinedTables.{joined-turned}
 use Rattle.meaning_laws.proofs.EachRelation.{AreAmong, Each, each-at, meant-each}
-use Rattle.meaning_laws.proofs.RelationPlaces.{join_over}
 use Rattle.meaning_laws.proofs.Rowwise.{filter-keeps, grouped-turned, having-keeps, select-keeps, table-aggregate-keeps, whole-turned}
 use Rattle.meaning_laws.proofs.Sides.{merged-sided}
 use Rattle.meaning_laws.proofs.Turning.{AreTurned, KeepsTable, changed-from-side, table-turned, through-ends, through-turned, turned-turning}
@@ -54,7 +53,7 @@ joined-unwindowed Inner on l r j is = subst (λ x. IsJoined Inner on x r) (λ i.
 joined-unwindowed Left on l r j is = subst (λ x. IsJoined Left on x r) (λ i. record l { kind = is i }) j
 joined-unwindowed Full on l r j is = windowed-isnt_table (sym is ∙ j.left_table)
 
-reads-unwindowed : (before : List Item) {from : From} {types : List (Option SqlType)} {l : Relation} → Reads before from types l → l.kind ≡ kind.Windowed → ⊥
+pub reads-unwindowed : (before : List Item) {from : From} {types : List (Option SqlType)} {l : Relation} → Reads before from types l → l.kind ≡ kind.Windowed → ⊥
 reads-unwindowed before (one _ unwindowed) = unwindowed
 reads-unwindowed before (joined {k = k} {on = on} {l = l} {r = r} _ _ _ _ _ j) = joined-unwindowed k on l r j
 

@@ -1,10 +1,10 @@
 -- Rows and keys that hold values of some types, and what steps make of them.
-use Rattle.std.proofs.Common.{◌≡◌, ◌∙◌, ap, ap₂, refl, sym, subst, ℕ, zero, suc, ◌+◌, List, [], ◌∷◌, ◌++◌, map, length, replicate, Bool, true, false, arith}
-use Rattle.std.specs.Prelude.{if◌then◌else◌, Option, Some, None, option_map, option_and_then, unwrap_or, slice_get, IfSome}
-use Rattle.std.specs.List.{fold, last_or, AllByRecursion, AllZip}
+use Rattle.std.proofs.Common.{◌≡◌, ◌∙◌, ap, ap₂, refl, sym, subst, ℕ, List, [], ◌∷◌, ◌++◌, map, length, length-append, append_assoc, replicate, Bool, true, false}
+use Rattle.std.specs.Prelude.{filter, if◌then◌else◌, Option, Some, None, option_map, option_and_then, unwrap_or, IfSome}
+use Rattle.std.specs.List.{fold, last_or, list_any, AllByRecursion, AllZip}
 use Rattle.std.specs.declared.cmp.Ordering.{Ordering}
 use Rattle.std.specs.Ordering.{is_gt, is_lt}
-use Rattle.std.proofs.lemmas.List.{map-append}
+use Rattle.std.proofs.lemmas.List.{append-nil, length-map, map-append}
 use Rattle.std.proofs.lemmas.Option.{none-some, same_Some}
 use Rattle.ksql_types.specs.Columns.{columns}
 use Rattle.ksql_types.specs.Key.{IsKey, is_key, is_null}
@@ -21,18 +21,22 @@ use Rattle.ksql_place.specs.declared.change.Body.{Body}
 use Rattle.ksql_place.specs.declared.change.Body.TheVariants.{Said, Turned}
 use Rattle.ksql_place.specs.declared.change.Change.{Change}
 use Rattle.ksql_expr.specs.Rules.{agg_type, sign_type, typed}
-use Rattle.ksql_expr.specs.Value.{first_value, is_true_value, value_of}
+use Rattle.ksql_expr.specs.Typing.{IsTyped}
+use Rattle.ksql_expr.specs.Value.{cell, first_value, is_true_value, value_of}
 use Rattle.ksql_expr.specs.declared.typed.AggFun.{AggFun}
 use Rattle.ksql_expr.specs.declared.typed.AggFun.TheVariants.{CountAll, Count, Sum, Min, Max, Latest, Earliest}
 use Rattle.ksql_expr.specs.declared.typed.Typed.{Typed}
+use Rattle.ksql_expr.specs.declared.typed.TypedNode.TheVariants as form
 use Rattle.ksql_program.specs.Sound.{AreColumns, AreColumnsFrom, Aggregates, argument_type, column_types, IsArgument, more, none}
 use Rattle.ksql_program.specs.declared.query.Agg.{Agg}
 use Rattle.ksql_nodes.specs.declared.node.Node.TheVariants.{Aggregate, Filter, Group, Having, Select, Table}
-use Rattle.ksql_nodes.specs.Aggregates.{Dated, aggregate, argument, arguments, better, dated, entered, extreme, outcome, present, type_of_agg, worth}
-use Rattle.ksql_nodes.specs.Entries.{Entry, Row, of_key, row_after}
+use Rattle.ksql_nodes.specs.Aggregates.{Dated, aggregate, argument, arguments, better, dated, entered, extreme, outcome, present, type_of_agg, unless_none, worth}
+use Rattle.ksql_nodes.specs.Entries.{Entry, Row, is_same_key, of_key, row_after}
+use Rattle.ksql_nodes.specs.Groups.{Member, grouped, in_group, member, moved}
 use Rattle.ksql_nodes.specs.Joins.{rekeyed}
 use Rattle.ksql_nodes.specs.Nodes.{gives}
 use Rattle.ksql_nodes.specs.Rows.{by_rows, key_of, passing, selected, selected_key, turned, values, with_body}
+use Rattle.ksql_nodes.specs.TableAggregates.{aggregate_of_table, held, held_change, held_outcome, held_worth, is_in, standing, touching}
 use Rattle.ksql_nodes.proofs.Lists.{All-append}
 use Rattle.query_meaning.specs.Queries.{key_cells, with_key_cells}
 use Rattle.meaning_laws.specs.Bounds.{HasColumnsOf, IsBodyOf, IsKeyOf, IsRowOf}
@@ -44,10 +48,19 @@ use Rattle.meaning_laws.proofs.TypedValues.{Has, null-has, nothing-has, number-h
 abbrev pub RowHas : List (Option SqlType) → List Value → Type 0
 RowHas ts row = AllZip Has ts row
 
--- a key is empty, or has a value of each type, none of them NULL
+-- a key has a value of each type, none of them NULL
+abbrev pub WholeKey : List (Option SqlType) → List Value → Type 0
+WholeKey ks key = RowHas ks key × IsKey key
+
+-- a key is empty or whole
 abbrev pub KeyHas : List (Option SqlType) → List Value → Type 0
 KeyHas ks [] = Unit {0}
-KeyHas ks (v ∷ vs) = RowHas ks (v ∷ vs) × IsKey (v ∷ vs)
+KeyHas ks (v ∷ vs) = WholeKey ks (v ∷ vs)
+
+-- a stream's key may be empty, and a table's is whole
+abbrev pub KeyOf : Kind → List (Option SqlType) → List Value → Type 0
+KeyOf kind.Stream ks key = KeyHas ks key
+KeyOf _ ks key = WholeKey ks key
 
 -- a stream's change says a row, and a table's turns rows
 abbrev pub BodyHas : Kind → List (Option SqlType) → Body → Type 0
@@ -56,25 +69,25 @@ BodyHas kind.Stream ts (Turned old new) = ⊥
 BodyHas _ ts (Said row) = ⊥
 BodyHas _ ts (Turned old new) = IfSome old (RowHas ts) × IfSome new (RowHas ts)
 
--- a change of a kind has a key and rows of these types
-abbrev pub IsChangeOf : Kind → List (Option SqlType) → List (Option SqlType) → Change → Type 0
-IsChangeOf over ks ts c = KeyHas ks c.key × BodyHas over ts c.body
+-- a change of a kind has a key of which K holds, and rows of these types
+abbrev pub Holds : Kind → (List Value → Type 0) → List (Option SqlType) → Change → Type 0
+Holds over K ts c = K c.key × BodyHas over ts c.body
 
--- the same with a key that is whole
-abbrev pub HasWholeKey : Kind → List (Option SqlType) → List (Option SqlType) → Change → Type 0
-HasWholeKey over ks ts c = (RowHas ks c.key × IsKey c.key) × BodyHas over ts c.body
+-- a change of a relation of a kind has a key and rows of these types
+abbrev pub IsChangeOf : Kind → List (Option SqlType) → List (Option SqlType) → Change → Type 0
+IsChangeOf over ks ts c = Holds over (KeyOf over ks) ts c
 
 -- ---- rows
 
-zip-append : (ts us : List (Option SqlType)) (xs ys : List Value) → RowHas ts xs → RowHas us ys → RowHas (ts ++ us) (xs ++ ys)
+pub zip-append : (ts us : List (Option SqlType)) (xs ys : List Value) → RowHas ts xs → RowHas us ys → RowHas (ts ++ us) (xs ++ ys)
 zip-append [] us [] ys hx hy = hy
 zip-append [] us (x ∷ xs) ys hx hy = absurd hx
 zip-append (t ∷ ts) us [] ys hx hy = absurd hx
 zip-append (t ∷ ts) us (x ∷ xs) ys hx hy = (hx.0, zip-append ts us xs ys hx.1 hy)
 
-nulls-fit : (cs : List Column) → RowHas (column_types cs) (replicate (length cs) Null)
+pub nulls-fit : (ts : List (Option SqlType)) → RowHas ts (replicate (length ts) Null)
 nulls-fit [] = tt
-nulls-fit (c ∷ cs) = (null-has (Some c.ty), nulls-fit cs)
+nulls-fit (t ∷ ts) = (null-has t, nulls-fit ts)
 
 pub row-types : (cs : List Column) (row : List Value) → IsRowOf cs row → RowHas (column_types cs) row
 row-types [] [] h = tt
@@ -91,6 +104,13 @@ row-columns (c ∷ cs) (v ∷ vs) h = (h.0, row-columns cs vs h.1)
 pub key-types : (cs : List Column) (key : List Value) → IsKeyOf cs key → KeyHas (column_types cs) key
 key-types cs [] h = tt
 key-types cs (v ∷ vs) h = (row-types cs (v ∷ vs) h.0, h.1)
+
+some-key : (over : Kind) (ks : List (Option SqlType)) (key : List Value) → KeyOf over ks key → KeyHas ks key
+some-key kind.Stream ks key h = h
+some-key kind.Table ks [] h = tt
+some-key kind.Table ks (v ∷ vs) h = h
+some-key kind.Windowed ks [] h = tt
+some-key kind.Windowed ks (v ∷ vs) h = h
 
 key-columns : (cs : List Column) (key : List Value) → KeyHas (column_types cs) key → IsKeyOf cs key
 key-columns cs [] h = tt
@@ -109,12 +129,12 @@ body-columns kind.Windowed cs (Said row) h = absurd h
 body-columns kind.Windowed cs (Turned old new) h = (option-columns cs old h.0, option-columns cs new h.1)
 
 pub filled-columns : (r : Relation) (c : Change) → IsChangeOf r.kind (column_types r.schema.keys) (column_types r.schema.values) c → HasColumnsOf r c
-filled-columns r c h = record { key = key-columns r.schema.keys c.key h.0; rows = body-columns r.kind r.schema.values c.body h.1 }
+filled-columns r c h = record { key = key-columns r.schema.keys c.key (some-key r.kind (column_types r.schema.keys) c.key h.0); rows = body-columns r.kind r.schema.values c.body h.1 }
 
 -- ---- whole rows
 
 cells-fit : (cs : List Column) (key : List Value) → KeyHas (column_types cs) key → RowHas (column_types cs) (key_cells (length cs) key)
-cells-fit cs [] h = nulls-fit cs
+cells-fit cs [] h = subst (λ n. RowHas (column_types cs) (replicate n Null)) (length-map cs (λ c. Some c.ty)) (nulls-fit (column_types cs))
 cells-fit cs (v ∷ vs) h = h.0
 
 whole-fits : (r : Relation) (key row : List Value) → KeyHas (column_types r.schema.keys) key → RowHas (column_types r.schema.values) row →
@@ -132,18 +152,21 @@ pub whole-filled : (over : Kind) (r : Relation) (c : Change) → IsChangeOf over
     IsChangeOf over (column_types r.schema.keys) (column_types (columns r)) (with_key_cells (length r.schema.keys) c)
 whole-filled over r c h = (h.0, by over c.body h.1)
   where
+    key : KeyHas (column_types r.schema.keys) c.key
+    key = some-key over (column_types r.schema.keys) c.key h.0
+
     by : (over : Kind) (body : Body) → BodyHas over (column_types r.schema.values) body →
         BodyHas over (column_types (columns r)) (with_key_cells (length r.schema.keys) (record c { body = body })).body
-    by kind.Stream (Said row) h' = whole-fits r c.key row h.0 h'
-    by kind.Stream (Turned old new) h' = absurd h'
-    by kind.Table (Said row) h' = absurd h'
-    by kind.Table (Turned old new) h' = (whole-option r c.key old h.0 h'.0, whole-option r c.key new h.0 h'.1)
-    by kind.Windowed (Said row) h' = absurd h'
-    by kind.Windowed (Turned old new) h' = (whole-option r c.key old h.0 h'.0, whole-option r c.key new h.0 h'.1)
+    by kind.Stream (Said row) h = whole-fits r c.key row key h
+    by kind.Stream (Turned old new) h = absurd h
+    by kind.Table (Said row) h = absurd h
+    by kind.Table (Turned old new) h = (whole-option r c.key old key h.0, whole-option r c.key new key h.1)
+    by kind.Windowed (Said row) h = absurd h
+    by kind.Windowed (Turned old new) h = (whole-option r c.key old key h.0, whole-option r c.key new key h.1)
 
 -- ---- rows by themselves
 
-turned-fits : (over : Kind) → (over ≡ kind.Stream → ⊥) → (ts : List (Option SqlType)) (old new : Option Row) → IfSome old (RowHas ts) → IfSome new (RowHas ts) → IfSome (turned old new) (BodyHas over ts)
+pub turned-fits : (over : Kind) → (over ≡ kind.Stream → ⊥) → (ts : List (Option SqlType)) (old new : Option Row) → IfSome old (RowHas ts) → IfSome new (RowHas ts) → IfSome (turned old new) (BodyHas over ts)
 turned-fits over table ts None None h k = tt
 turned-fits kind.Stream table ts None (Some new) h k = absurd (table refl)
 turned-fits kind.Table table ts None (Some new) h k = (h, k)
@@ -182,8 +205,8 @@ rows-fit f ts us fit over body h = by over body h
     by kind.Windowed (Turned old new) h = turned-fits kind.Windowed windowed-apart us (option_and_then f old) (option_and_then f new) (each old h.0) (each new h.1)
 
 -- a change with another body
-body-holds : (over : Kind) (K : List Value → Type 0) (ts : List (Option SqlType)) (c : Change) → K c.key → (o : Option Body) → IfSome o (BodyHas over ts) →
-    AllByRecursion (λ d. K d.key × BodyHas over ts d.body) (with_body c o)
+pub body-holds : (over : Kind) (K : List Value → Type 0) (ts : List (Option SqlType)) (c : Change) → K c.key → (o : Option Body) → IfSome o (BodyHas over ts) →
+    AllByRecursion (Holds over K ts) (with_body c o)
 body-holds over K ts c key None h = tt
 body-holds over K ts c key (Some body) h = ((key, h), tt)
 
@@ -195,38 +218,55 @@ passing-fits on time ts row h = by (is_true_value (value_of row time on))
     by false = tt
 
 pub filter-fits : (n : ℕ) (on : Typed) (over : Kind) (K : List Value → Type 0) (ts : List (Option SqlType)) →
-    Gives (λ c. K c.key × BodyHas over ts c.body) (λ c. K c.key × BodyHas over ts c.body) (gives n (Filter on))
+    Gives (Holds over K ts) (Holds over K ts) (gives n (Filter on))
 unfolding gives
 filter-fits n on over K ts before past e now =
     body-holds over K ts e.change now.0 (by_rows (passing on e.change.time) e.change.body)
     (rows-fit (passing on e.change.time) ts ts (passing-fits on e.change.time ts) over e.change.body now.1)
 
 pub having-fits : (n : ℕ) (on : Typed) (over : Kind) (K : List Value → Type 0) (ts : List (Option SqlType)) →
-    Gives (λ c. K c.key × BodyHas over ts c.body) (λ c. K c.key × BodyHas over ts c.body) (gives n (Having on))
+    Gives (Holds over K ts) (Holds over K ts) (gives n (Having on))
 unfolding gives
 having-fits n on over K ts = filter-fits n on over K ts
 
--- ---- a declared table
+-- ---- the rows that entries bring
 
-in-fits : (ts : List (Option SqlType)) (body : Body) → BodyHas kind.Table ts body → IfSome (row_in body) (RowHas ts)
-in-fits ts (Said row) h = absurd h
-in-fits ts (Turned old new) h = h.1
+pub in-fits : (over : Kind) (ts : List (Option SqlType)) (body : Body) → BodyHas over ts body → IfSome (row_in body) (RowHas ts)
+in-fits kind.Stream ts (Said row) h = h
+in-fits kind.Stream ts (Turned old new) h = absurd h
+in-fits kind.Table ts (Said row) h = absurd h
+in-fits kind.Table ts (Turned old new) h = h.1
+in-fits kind.Windowed ts (Said row) h = absurd h
+in-fits kind.Windowed ts (Turned old new) h = h.1
 
-after-fits : (ts : List (Option SqlType)) (es : List Entry) → AllByRecursion (λ e. BodyHas kind.Table ts e.change.body) es → IfSome (row_after es) (RowHas ts)
-after-fits ts es h = by (last_or None es) (last-holds (λ e. BodyHas kind.Table ts e.change.body) None es tt h)
+-- the rows of some entries have these types
+abbrev pub BringRows : Kind → List (Option SqlType) → List Entry → Type 0
+BringRows over ts es = AllByRecursion (λ e. BodyHas over ts e.change.body) es
+
+pub bring-rows : (over : Kind) (K : List Value → Type 0) (ts : List (Option SqlType)) (es : List Entry) → AllByRecursion (λ e. Holds over K ts e.change) es → BringRows over ts es
+bring-rows over K ts es h = All-weaker (λ (e : Entry). Holds over K ts e.change) (λ e. BodyHas over ts e.change.body) (λ e h. h.1) es h
+
+of_key-rows : (over : Kind) (ts : List (Option SqlType)) (key : List Value) (es : List Entry) → BringRows over ts es → BringRows over ts (of_key key es)
+of_key-rows over ts key es h = All-filter (λ e. BodyHas over ts e.change.body) _ es h
+
+more-rows : (over : Kind) (ts : List (Option SqlType)) (es : List Entry) (e : Entry) → BringRows over ts es → BodyHas over ts e.change.body → BringRows over ts (es ++ e ∷ [])
+more-rows over ts es e h now = All-append (λ e. BodyHas over ts e.change.body) es (e ∷ []) h (now, tt)
+
+pub after-fits : (over : Kind) (ts : List (Option SqlType)) (es : List Entry) → BringRows over ts es → IfSome (row_after es) (RowHas ts)
+after-fits over ts es h = by (last_or None es) (last-holds (λ e. BodyHas over ts e.change.body) None es tt h)
   where
-    by : (o : Option Entry) → IfSome o (λ e. BodyHas kind.Table ts e.change.body) → IfSome (option_and_then (λ e. row_in e.change.body) o) (RowHas ts)
+    by : (o : Option Entry) → IfSome o (λ e. BodyHas over ts e.change.body) → IfSome (option_and_then (λ e. row_in e.change.body) o) (RowHas ts)
     by None h = tt
-    by (Some e) h = in-fits ts e.change.body h
+    by (Some e) h = in-fits over ts e.change.body h
 
+-- a declared table
 pub table-fits : (n number : ℕ) (ks ts : List (Option SqlType)) → Gives (IsChangeOf kind.Table ks ts) (IsChangeOf kind.Table ks ts) (gives n (Table number))
 unfolding gives
 table-fits n number ks ts before past e now =
-    body-holds kind.Table (KeyHas ks) ts e.change now.0 (turned (row_after (of_key e.change.key before)) (row_in e.change.body))
+    body-holds kind.Table (WholeKey ks) ts e.change now.0 (turned (row_after (of_key e.change.key before)) (row_in e.change.body))
     (turned-fits kind.Table table-apart ts (row_after (of_key e.change.key before)) (row_in e.change.body)
-    (after-fits ts (of_key e.change.key before) (All-filter (λ e. BodyHas kind.Table ts e.change.body) _ before
-    (All-weaker (λ (e : Entry). IsChangeOf kind.Table ks ts e.change) (λ e. BodyHas kind.Table ts e.change.body) (λ e h. h.1) before past)))
-    (in-fits ts e.change.body now.1))
+    (after-fits kind.Table ts (of_key e.change.key before) (of_key-rows kind.Table ts e.change.key before (bring-rows kind.Table (WholeKey ks) ts before past)))
+    (in-fits kind.Table ts e.change.body now.1))
 
 -- ---- select lists
 
@@ -257,9 +297,9 @@ key_of-fits ks cells h = by (is_key cells) refl
 
 -- of a stream the key comes from the row
 pub select-said : (n : ℕ) (types : List (Option SqlType)) (ks vs : List Typed) (kcs vcs : List Column) → AreColumns kind.Stream types ks kcs → AreColumns kind.Stream types vs vcs →
-    (keys : List (Option SqlType)) → Gives (IsChangeOf kind.Stream keys types) (IsChangeOf kind.Stream (column_types kcs) (column_types vcs)) (gives n (Select ks vs))
+    (K : List Value → Type 0) → Gives (Holds kind.Stream K types) (IsChangeOf kind.Stream (column_types kcs) (column_types vcs)) (gives n (Select ks vs))
 unfolding gives
-select-said n types ks vs kcs vcs kss vss keys before past e now = by e.change.body now.1
+select-said n types ks vs kcs vcs kss vss K before past e now = by e.change.body now.1
   where
     by : (body : Body) → BodyHas kind.Stream types body → AllByRecursion (IsChangeOf kind.Stream (column_types kcs) (column_types vcs)) (selected ks vs (record e.change { body = body }))
     by (Said row) h =
@@ -269,7 +309,7 @@ select-said n types ks vs kcs vcs kss vss keys before past e now = by e.change.b
 -- and a table keeps its own
 pub select-turned : (n : ℕ) (over : Kind) → (over ≡ kind.Stream → ⊥) → (types : List (Option SqlType)) (ks vs : List Typed) (vcs : List Column) → AreColumns over types vs vcs →
     (K L : List Value → Type 0) → ((key : List Value) → K key → L key) →
-    Gives (λ c. K c.key × BodyHas over types c.body) (λ c. L c.key × BodyHas over (column_types vcs) c.body) (gives n (Select ks vs))
+    Gives (Holds over K types) (Holds over L (column_types vcs)) (gives n (Select ks vs))
 unfolding gives
 select-turned n over table types ks vs vcs vss K L keep before past e now =
     body-holds over L (column_types vcs) (record e.change { key = selected_key ks e.change }) (by over table e.change.body now.1) (by_rows (λ row. Some (values vs e.change.time row)) e.change.body)
@@ -284,53 +324,90 @@ select-turned n over table types ks vs vcs vss K L keep before past e now =
 
 -- ---- a key that stays
 
-get-append : (xs ys : List Value) (j : ℕ) (v : Value) → slice_get xs j ≡ Some v → slice_get (xs ++ ys) j ≡ Some v
-get-append [] ys j v is = absurd (none-some v is)
-get-append (x ∷ xs) ys zero v is = is
-get-append (x ∷ xs) ys (suc j) v is = get-append xs ys j v is
+cell-behind : (before : List (Option SqlType)) (v : Value) (rest : List Value) → cell (replicate (length before) Null ++ v ∷ rest) (length before) ≡ v
+cell-behind [] v rest = refl
+cell-behind (t ∷ ts) v rest = cell-behind ts v rest
 
--- the first columns of a row, read one by one
-columns-read : (row : List Value) (i : ℕ) (cs : List Column) (es : List Typed) (vs : List Value) → AreColumnsFrom i cs es → RowHas (column_types cs) vs →
-    ((j : ℕ) (v : Value) → slice_get vs j ≡ Some v → slice_get row (i + j) ≡ Some v) → values es 0 row ≡ vs
-columns-read row i [] [] [] from fit at = refl
-columns-read row i [] [] (v ∷ vs) from fit at = absurd fit
-columns-read row i [] (e ∷ es) vs from fit at = absurd from
-columns-read row i (c ∷ cs) [] vs from fit at = absurd from
-columns-read row i (c ∷ cs) (e ∷ es) [] from fit at = absurd fit
-columns-read row i (c ∷ cs) (e ∷ es) (v ∷ vs) from fit at =
-    let here : slice_get row i ≡ Some v = subst (λ k. slice_get row k ≡ Some v) (omega arith) (at 0 v refl) in
-    let first : value_of row 0 e ≡ v = sym (value-column row 0 e i from.0) ∙ ap (λ o. unwrap_or o Null) here in
-    let rest : values es 0 row ≡ vs =
-    columns-read row (i + 1) cs es vs from.1 fit.1 (λ j w is. subst (λ k. slice_get row k ≡ Some w) (omega arith) (at (suc j) w is)) in
-    λ k. first k ∷ rest k
+-- a value of a column's type has the type of an expression that is this column
+pub column-has : (before : List (Option SqlType)) (t : Option SqlType) (after : List (Option SqlType)) (e : Typed) → IsTyped (before ++ t ∷ after) e → e.node ≡ form.Column (length before) →
+    (v : Value) → Has t v → Has e.ty v
+column-has before t after e typed is v h =
+    let row : List Value = replicate (length before) Null ++ v ∷ replicate (length after) Null in
+    let fit : RowHas (before ++ t ∷ after) row = zip-append before (t ∷ after) (replicate (length before) Null) (v ∷ replicate (length after) Null) (nulls-fit before) (h, nulls-fit after) in
+    subst (Has e.ty) (sym (value-column row 0 e (length before) is) ∙ cell-behind before v (replicate (length after) Null)) (typed-has_type row 0 (before ++ t ∷ after) fit e typed)
+
+columns-have : (over : Kind) (before after : List (Option SqlType)) (cs : List Column) (es : List Typed) (outs : List Column) → AreColumnsFrom (length before) cs es →
+    AreColumns over (before ++ (column_types cs ++ after)) es outs → (vs : List Value) → RowHas (column_types cs) vs → RowHas (column_types outs) vs
+columns-have over before after [] [] [] from sound [] h = tt
+columns-have over before after [] [] outs from sound (v ∷ vs) h = absurd h
+columns-have over before after [] [] (o ∷ outs) from sound [] h = absurd sound
+columns-have over before after [] (e ∷ es) outs from sound vs h = absurd from
+columns-have over before after (c ∷ cs) [] outs from sound vs h = absurd from
+columns-have over before after (c ∷ cs) (e ∷ es) [] from sound vs h = absurd sound
+columns-have over before after (c ∷ cs) (e ∷ es) (o ∷ outs) from sound [] h = absurd h
+columns-have over before after (c ∷ cs) (e ∷ es) (o ∷ outs) from sound (v ∷ vs) h = (
+  subst (λ t. Has t v) sound.1 (column-has before (Some c.ty) (column_types cs ++ after) e sound.0.typed from.0 v h.0),
+  columns-have over (before ++ Some c.ty ∷ []) after cs es outs (subst (λ i. AreColumnsFrom i cs es) (sym (length-append before (Some c.ty ∷ []))) from.1)
+      (subst (λ ts. AreColumns over ts es outs) (sym (append_assoc before (Some c.ty ∷ []) (column_types cs ++ after))) sound.2) vs h.1,
+)
 
 pub own-key : (over : Kind) (r : Relation) (es : List Typed) (outs : List Column) → AreColumnsFrom 0 r.schema.keys es → AreColumns over (column_types (columns r)) es outs →
-    (key : List Value) → KeyHas (column_types r.schema.keys) key → KeyHas (column_types outs) key
-own-key over r es outs from sound [] h = tt
-own-key over r es outs from sound (v ∷ vs) h =
-    let nulls : List Value = replicate (length r.schema.values) Null in
-    let row : List Value = (v ∷ vs) ++ nulls in
-    let fit : RowHas (column_types (columns r)) row = whole-fits r (v ∷ vs) nulls h (nulls-fit r.schema.values) in
-    let same : values es 0 row ≡ v ∷ vs =
-    columns-read row 0 r.schema.keys es (v ∷ vs) from h.0 (λ j w is. subst (λ k. slice_get row k ≡ Some w) (omega arith) (get-append (v ∷ vs) nulls j w is)) in
-    (subst (RowHas (column_types outs)) same (values-fit over (column_types (columns r)) es outs sound row 0 fit), h.1)
+    (key : List Value) → WholeKey (column_types r.schema.keys) key → WholeKey (column_types outs) key
+own-key over r es outs from sound key h = (
+  columns-have over [] (column_types r.schema.values) r.schema.keys es outs from
+      (subst (λ ts. AreColumns over ts es outs) (map-append (λ c. Some c.ty) r.schema.keys r.schema.values) sound) key h.0,
+  h.1,
+)
 
 -- ---- groups
 
-pub group-fits : (n : ℕ) (types : List (Option SqlType)) (es : List Typed) (cs : List Column) → AreColumns kind.Stream types es cs → (keys : List (Option SqlType)) →
-    Gives (IsChangeOf kind.Stream keys types) (HasWholeKey kind.Stream (column_types cs) types) (gives n (Group es))
+pub group-fits : (n : ℕ) (types : List (Option SqlType)) (es : List Typed) (cs : List Column) → AreColumns kind.Stream types es cs → (K : List Value → Type 0) →
+    Gives (Holds kind.Stream K types) (Holds kind.Stream (WholeKey (column_types cs)) types) (gives n (Group es))
 unfolding gives
-group-fits n types es cs sound keys before past e now = by e.change.body now.1
+group-fits n types es cs sound K before past e now = by e.change.body now.1
   where
-    whole : (key : List Value) → KeyHas (column_types cs) key → (c : Change) → BodyHas kind.Stream types c.body → AllByRecursion (HasWholeKey kind.Stream (column_types cs) types) (rekeyed key c)
+    whole : (key : List Value) → KeyHas (column_types cs) key → (c : Change) → BodyHas kind.Stream types c.body → AllByRecursion (Holds kind.Stream (WholeKey (column_types cs)) types) (rekeyed key c)
     whole [] h c body = tt
     whole (k ∷ ks) h c body = ((h, body), tt)
 
-    by : (body : Body) → BodyHas kind.Stream types body → AllByRecursion (HasWholeKey kind.Stream (column_types cs) types) (gives n (Group es) before (record e { change = record e.change { body = body } }))
+    by : (body : Body) → BodyHas kind.Stream types body → AllByRecursion (Holds kind.Stream (WholeKey (column_types cs)) types) (gives n (Group es) before (record e { change = record e.change { body = body } }))
     by (Said row) h =
         whole (key_of (values es e.change.time row)) (key_of-fits (column_types cs) (values es e.change.time row) (values-fit kind.Stream types es cs sound row e.change.time h))
         (record e.change { body = Said row }) h
     by (Turned old new) h = absurd h
+
+-- the groups that a table's change touches have whole keys
+groups-fit : (types : List (Option SqlType)) (es : List Typed) (cs : List Column) → AreColumns kind.Table types es cs → (c : Change) → BodyHas kind.Table types c.body →
+    AllByRecursion (λ d. WholeKey (column_types cs) d.key) (grouped es c)
+groups-fit types es cs sound c h = by c.body h
+  where
+    one-fits : (row : Row) → RowHas types row → IfSome (member es c.time row) (λ m. WholeKey (column_types cs) m.group)
+    one-fits row h = key (is_key (values es c.time row)) refl
+      where
+        key : (b : Bool) → is_key (values es c.time row) ≡ b → IfSome (if b then Some (record { group = values es c.time row; row = row }) else None) (λ (m : Member). WholeKey (column_types cs) m.group)
+        key true is = (values-fit kind.Table types es cs sound row c.time h, is)
+        key false is = tt
+
+    member-fits : (o : Option Row) → IfSome o (RowHas types) → IfSome (option_and_then (member es c.time) o) (λ m. WholeKey (column_types cs) m.group)
+    member-fits None h = tt
+    member-fits (Some row) h = one-fits row h
+
+    moved-fits : (d : Change) (old new : Option Member) → IfSome old (λ m. WholeKey (column_types cs) m.group) → IfSome new (λ m. WholeKey (column_types cs) m.group) →
+        AllByRecursion (λ x. WholeKey (column_types cs) x.key) (moved d old new)
+    moved-fits d None None h k = tt
+    moved-fits d (Some l) None h k = (h, tt)
+    moved-fits d None (Some r) h k = (k, tt)
+    moved-fits d (Some l) (Some r) h k = same (is_same_key l.group r.group)
+      where
+        same : (b : Bool) → AllByRecursion (λ (x : Change). WholeKey (column_types cs) x.key) (if b then in_group r.group 0 d (Turned (Some l.row) (Some r.row)) ∷ []
+            else in_group l.group 0 d (Turned (Some l.row) None) ∷ in_group r.group 1 d (Turned None (Some r.row)) ∷ [])
+        same true = (k, tt)
+        same false = (h, (k, tt))
+
+    by : (body : Body) → BodyHas kind.Table types body → AllByRecursion (λ d. WholeKey (column_types cs) d.key) (grouped es (record c { body = body }))
+    by (Said row) h = absurd h
+    by (Turned old new) h =
+        moved-fits (record c { body = Turned old new }) (option_and_then (member es c.time) old) (option_and_then (member es c.time) new) (member-fits old h.0) (member-fits new h.1)
 
 -- ---- aggregates
 
@@ -380,19 +457,19 @@ aggregate-fits Earliest None t is vs h = absurd (none-some t is)
 aggregate-fits Earliest (Some x) t is vs h = subst (λ u. Has u (aggregate Earliest t vs)) (same_Some x t is) (first-fits x vs h)
 
 -- the rows that entries bring
-entered-fit : (types : List (Option SqlType)) (es : List Entry) → AllByRecursion (λ e. BodyHas kind.Stream types e.change.body) es → AllByRecursion (λ (d : Dated). RowHas types d.row) (entered es)
-entered-fit types [] h = tt
-entered-fit types (e ∷ es) h =
-    All-append (λ (d : Dated). RowHas types d.row) (dated e.change.time (row_in e.change.body)) (entered es) (by e.change.body h.0) (entered-fit types es h.1)
+entered-fit : (over : Kind) (types : List (Option SqlType)) (es : List Entry) → BringRows over types es → AllByRecursion (λ (d : Dated). RowHas types d.row) (entered es)
+entered-fit over types [] h = tt
+entered-fit over types (e ∷ es) h =
+    All-append (λ (d : Dated). RowHas types d.row) (dated e.change.time (row_in e.change.body)) (entered es) (by (row_in e.change.body) (in-fits over types e.change.body h.0)) (entered-fit over types es h.1)
   where
-    by : (body : Body) → BodyHas kind.Stream types body → AllByRecursion (λ (d : Dated). RowHas types d.row) (dated e.change.time (row_in body))
-    by (Said row) h = (h, tt)
-    by (Turned old new) h = absurd h
+    by : (o : Option Row) → IfSome o (RowHas types) → AllByRecursion (λ (d : Dated). RowHas types d.row) (dated e.change.time o)
+    by None h = tt
+    by (Some row) h = (h, tt)
 
-arguments-fit : (types : List (Option SqlType)) (arg : Option Typed) → IsArgument kind.Stream types arg → (rows : List Dated) → AllByRecursion (λ (d : Dated). RowHas types d.row) rows →
+arguments-fit : (over : Kind) (types : List (Option SqlType)) (arg : Option Typed) → IsArgument over types arg → (rows : List Dated) → AllByRecursion (λ (d : Dated). RowHas types d.row) rows →
     ArgumentsHave (argument_type arg) (arguments arg rows)
-arguments-fit types None sound rows h = tt
-arguments-fit types (Some e) sound rows h =
+arguments-fit over types None sound rows h = tt
+arguments-fit over types (Some e) sound rows h =
     All-map (Has e.ty) (argument (Some e)) rows
     (All-weaker (λ (d : Dated). RowHas types d.row) (λ d. Has e.ty (argument (Some e) d)) (λ d fit. typed-has_type d.row d.time types fit e sound.typed) rows h)
 
@@ -403,32 +480,65 @@ type-is a t is = by a.arg is
     by None is = ap (λ o. unwrap_or o None) is
     by (Some e) is = ap (λ o. unwrap_or o None) is
 
-worths-fit : (types : List (Option SqlType)) {aggs : List Agg} {ats : List (Option SqlType)} → Aggregates kind.Stream types aggs ats → (es : List Entry) →
-    AllByRecursion (λ e. BodyHas kind.Stream types e.change.body) es → RowHas ats (map (worth kind.Stream es) aggs)
-worths-fit types none es h = tt
-worths-fit types (more {a = a} {t = t} _ argument is rest) es h = (
-  subst (λ ty. Has t (aggregate a.fun ty (arguments a.arg (entered es)))) (sym (type-is a t is))
-      (aggregate-fits a.fun (argument_type a.arg) t is (arguments a.arg (entered es)) (arguments-fit types a.arg argument (entered es) (entered-fit types es h))),
-  worths-fit types rest es h,
+-- the values of aggregates over rows
+worths-fit : (over : Kind) (types : List (Option SqlType)) {aggs : List Agg} {ats : List (Option SqlType)} → Aggregates over types aggs ats → (rows : List Dated) →
+    AllByRecursion (λ (d : Dated). RowHas types d.row) rows → RowHas ats (map (λ a. aggregate a.fun (type_of_agg a) (arguments a.arg rows)) aggs)
+worths-fit over types none rows h = tt
+worths-fit over types (more {a = a} {t = t} _ argument is rest) rows h = (
+  subst (λ ty. Has t (aggregate a.fun ty (arguments a.arg rows))) (sym (type-is a t is))
+      (aggregate-fits a.fun (argument_type a.arg) t is (arguments a.arg rows) (arguments-fit over types a.arg argument rows h)),
+  worths-fit over types rest rows h,
 )
 
+unless-fits : (ts : List (Option SqlType)) (es : List Entry) (row : Row) → RowHas ts row → IfSome (unless_none es row) (RowHas ts)
+unless-fits ts [] row h = tt
+unless-fits ts (e ∷ es) row h = h
+
 pub aggregate-filled : (n : ℕ) (types ks : List (Option SqlType)) {aggs : List Agg} {ats : List (Option SqlType)} → Aggregates kind.Stream types aggs ats →
-    Gives (HasWholeKey kind.Stream ks types) (HasWholeKey kind.Table ks (ks ++ ats ++ [])) (gives n (Aggregate kind.Stream aggs None))
+    Gives (Holds kind.Stream (WholeKey ks) types) (IsChangeOf kind.Table ks (ks ++ ats ++ [])) (gives n (Aggregate kind.Stream aggs None))
 unfolding gives
 aggregate-filled n types ks {aggs = aggs} {ats = ats} sound before past e now =
-    ((now.0, (outcome-fits mine olds, outcome-fits (mine ++ e ∷ []) (All-append (λ e. BodyHas kind.Stream types e.change.body) mine (e ∷ []) olds (now.1, tt)))), tt)
+    ((now.0, (outcome-fits mine olds, outcome-fits (mine ++ e ∷ []) (more-rows kind.Stream types mine e olds now.1))), tt)
   where
     mine : List Entry
     mine = of_key e.change.key before
 
-    olds : AllByRecursion (λ e. BodyHas kind.Stream types e.change.body) mine
-    olds =
-        All-filter (λ e. BodyHas kind.Stream types e.change.body) _ before
-        (All-weaker (λ (e : Entry). HasWholeKey kind.Stream ks types e.change) (λ e. BodyHas kind.Stream types e.change.body) (λ e h. h.1) before past)
+    olds : BringRows kind.Stream types mine
+    olds = of_key-rows kind.Stream types e.change.key before (bring-rows kind.Stream (WholeKey ks) types before past)
 
-    outcome-fits : (es : List Entry) → AllByRecursion (λ e. BodyHas kind.Stream types e.change.body) es →
-        IfSome (outcome kind.Stream aggs e.change.key None es) (RowHas (ks ++ ats ++ []))
-    outcome-fits [] h = tt
-    outcome-fits (x ∷ xs) h =
-        zip-append (ks ++ ats) [] (e.change.key ++ map (worth kind.Stream (x ∷ xs)) aggs) []
-        (zip-append ks ats e.change.key (map (worth kind.Stream (x ∷ xs)) aggs) now.0.0 (worths-fit types sound (x ∷ xs) h)) tt
+    outcome-fits : (es : List Entry) → BringRows kind.Stream types es → IfSome (outcome kind.Stream aggs e.change.key None es) (RowHas (ks ++ ats ++ []))
+    outcome-fits es h =
+        unless-fits (ks ++ ats ++ []) es (e.change.key ++ map (worth kind.Stream es) aggs ++ [])
+        (zip-append (ks ++ ats) [] (e.change.key ++ map (worth kind.Stream es) aggs) []
+        (zip-append ks ats e.change.key (map (worth kind.Stream es) aggs) now.0.0 (worths-fit kind.Stream types sound (entered es) (entered-fit kind.Stream types es h))) tt)
+
+-- the entries that stand are among all
+standing-rows : (over : Kind) (ts : List (Option SqlType)) (es : List Entry) → BringRows over ts es → BringRows over ts (standing es)
+standing-rows over ts [] h = tt
+standing-rows over ts (e ∷ es) h = by (list_any (λ later. is_same_key e.change.key later.change.key) es) (standing-rows over ts es h.1)
+  where
+    by : (b : Bool) → BringRows over ts (standing es) → BringRows over ts (if b then standing es else e ∷ standing es)
+    by true ih = ih
+    by false ih = (h.0, ih)
+
+pub table-aggregate-filled : (types : List (Option SqlType)) (es : List Typed) (cs : List Column) → AreColumns kind.Table types es cs →
+    {aggs : List Agg} {ats : List (Option SqlType)} → Aggregates kind.Table types aggs ats → (K : List Value → Type 0) →
+    Gives (Holds kind.Table K types) (IsChangeOf kind.Table (column_types cs) (column_types cs ++ ats ++ [])) (aggregate_of_table es aggs)
+table-aggregate-filled types es cs keys {aggs = aggs} {ats = ats} sound K before past e now =
+    All-map (IsChangeOf kind.Table (column_types cs) (column_types cs ++ ats ++ [])) (held_change es aggs before e) (grouped es e.change)
+    (All-weaker (λ (c : Change). WholeKey (column_types cs) c.key) (λ c. IsChangeOf kind.Table (column_types cs) (column_types cs ++ ats ++ []) (held_change es aggs before e c))
+    (λ c key. (key, (outcome-fits c.key key before olds, outcome-fits c.key key (before ++ e ∷ []) (more-rows kind.Table types before e olds now.1))))
+    (grouped es e.change) (groups-fit types es cs keys e.change now.1))
+  where
+    olds : BringRows kind.Table types before
+    olds = bring-rows kind.Table K types before past
+
+    outcome-fits : (group : List Value) → WholeKey (column_types cs) group → (xs : List Entry) → BringRows kind.Table types xs →
+        IfSome (held_outcome es aggs group xs) (RowHas (column_types cs ++ ats ++ []))
+    outcome-fits group key xs h =
+        let rows : List Entry = filter (λ e. is_in es group e.change.time (row_in e.change.body)) (standing xs) in
+        unless-fits (column_types cs ++ ats ++ []) (touching es group xs) (group ++ map (held_worth es group xs) aggs)
+        (subst (λ ts. RowHas ts (group ++ map (held_worth es group xs) aggs)) (sym (append-nil (column_types cs ++ ats)))
+        (zip-append (column_types cs) ats group (map (held_worth es group xs) aggs) key.0
+        (worths-fit kind.Table types sound (held es group xs)
+        (entered-fit kind.Table types rows (All-filter (λ e. BodyHas kind.Table types e.change.body) _ (standing xs) (standing-rows kind.Table types xs h))))))

@@ -23,7 +23,7 @@ use Rattle.ksql_nodes.specs.Entries.{Entry, from_side}
 use Rattle.ksql_nodes.specs.Joins.{other_side}
 use Rattle.ksql_nodes.proofs.Lists.{All-append}
 use Rattle.query_meaning.specs.Queries.{entry_cmp, side_at}
-use Rattle.meaning_laws.proofs.Cuts.{entries_total}
+use Rattle.query_meaning.proofs.QuerySteps.{entries_total}
 use Rattle.meaning_laws.proofs.Lists.{All-ascending, All-map, All-of, All-weaker, Pairwise, Pairwise-both, Pairwise-each, Pairwise-from_filter, Pairwise-map, Pairwise-weaker}
 use Rattle.meaning_laws.proofs.Forks.{IsBefore, Rise, before-less}
 use Rattle.meaning_laws.proofs.Rising.{RiseAt, base}

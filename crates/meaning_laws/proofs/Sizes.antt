@@ -27,16 +27,20 @@ use Rattle.ksql_nodes.specs.Windows.{Timed, added, is_added, timed, window_chang
 use Rattle.ksql_nodes.proofs.Lists.{All-append}
 use Rattle.meaning_laws.proofs.Lists.{All-filter, All-map, All-weaker}
 
--- a step gives changes of which B holds for entries whose changes are A
-abbrev pub Gives : (A B : Change → Type 0) → Step → Type 0
-Gives A B step = (before : List Entry) → AllByRecursion (λ e. A e.change) before → (e : Entry) → A e.change → AllByRecursion B (step before e)
+-- a step gives changes of which B holds for entries of which P holds
+abbrev pub GivesFor : (P : Entry → Type 0) (B : Change → Type 0) → Step → Type 0
+GivesFor P B step = (before : List Entry) → AllByRecursion P before → (e : Entry) → P e → AllByRecursion B (step before e)
 
-pub results-give : (A B : Change → Type 0) (step : Step) → Gives A B step → (before es : List Entry) → AllByRecursion (λ e. A e.change) before → AllByRecursion (λ e. A e.change) es →
+-- the same for entries whose changes are A
+abbrev pub Gives : (A B : Change → Type 0) → Step → Type 0
+Gives A B step = GivesFor (λ e. A e.change) B step
+
+pub results-give : (P : Entry → Type 0) (B : Change → Type 0) (step : Step) → GivesFor P B step → (before es : List Entry) → AllByRecursion P before → AllByRecursion P es →
     AllByRecursion B (results step before es)
-results-give A B step give before [] past now = tt
-results-give A B step give before (e ∷ es) past now =
+results-give P B step give before [] past now = tt
+results-give P B step give before (e ∷ es) past now =
     All-append B (step before e) (results step (before ++ e ∷ []) es) (give before past e now.0)
-    (results-give A B step give (before ++ e ∷ []) es (All-append (λ e. A e.change) before (e ∷ []) past (now.0, tt)) now.1)
+    (results-give P B step give (before ++ e ∷ []) es (All-append P before (e ∷ []) past (now.0, tt)) now.1)
 
 pub entries-give : (A : Change → Type 0) (side : ℕ) (changes : List Change) → AllByRecursion A changes → AllByRecursion (λ e. A e.change) (from_side side changes)
 entries-give A side changes h = All-map (λ e. A e.change) (λ c. record { side = side; change = c }) changes h

@@ -1,34 +1,21 @@
 -- A plain query gives its results change by change.
 use Rattle.std.proofs.Common.{◌≡◌, ◌∙◌, ap, ap₂, sym, refl, ℕ, List, [], ◌∷◌, ◌++◌, map, true, false}
-use Rattle.std.specs.Prelude.{if◌then◌else◌, IsTrue, Option, Some, None, option_map, option_and_then, unwrap_or, slice_get}
-use Rattle.std.specs.List.{AllByRecursion, flat_map}
-use Rattle.std.proofs.lemmas.List.{map-append}
+use Rattle.std.specs.Prelude.{if◌then◌else◌, Option, Some, None, option_map, option_and_then}
+use Rattle.std.specs.List.{flat_map}
 use Rattle.std.proofs.lemmas.List.Concat.{flat_map-append, flat_map_single}
 use Rattle.std.proofs.lemmas.List.Folds.{flat_map-map}
-use Rattle.std.proofs.lemmas.Option.{slice_get-map}
-use Rattle.ksql_types.specs.declared.relation.Kind.{Kind}
-use Rattle.ksql_types.specs.declared.relation.Kind.TheVariants.{Stream}
 use Rattle.ksql_types.specs.declared.value.Value.{Value}
 use Rattle.ksql_place.specs.declared.change.Body.TheVariants.{Turned}
 use Rattle.ksql_place.specs.declared.change.Change.{Change}
 use Rattle.ksql_expr.specs.declared.typed.Typed.{Typed}
 use Rattle.ksql_expr.specs.Value.{value_of, is_true_value}
-use Rattle.ksql_program.specs.declared.program.Item.{Item}
-use Rattle.ksql_program.specs.declared.query.From.{From}
-use Rattle.ksql_program.specs.declared.query.From.TheVariants.{One}
-use Rattle.ksql_program.specs.declared.query.Query.{Query}
-use Rattle.ksql_program.specs.declared.query.Agg.{Agg}
-use Rattle.ksql_program.specs.declared.query.Shape.{Shape}
-use Rattle.ksql_program.specs.declared.query.Shape.TheVariants.{Group}
 use Rattle.ksql_nodes.specs.declared.node.Node.TheVariants as node
-use Rattle.ksql_nodes.specs.Entries.{Entry, Row, Step, from_side, results, through}
+use Rattle.ksql_nodes.specs.Entries.{Entry, Row, from_side, results, through}
 use Rattle.ksql_nodes.specs.Nodes.{gives}
 use Rattle.ksql_nodes.specs.Rows.{filtered, passing, selected, turned, values, with_body}
-use Rattle.node_steps.specs.Steps.{is_run}
-use Rattle.query_meaning.specs.Plain.{change_at, changes_of, changes_over, grouped_nodes, passed, plain_gives, row_left}
-use Rattle.query_meaning.specs.Queries.{after_aggregate, filter_of, join_of, key_cells, key_columns, kind_at, leftmost, partitions_at, query_changes, read_entries, shape_steps, steps_of, with_key_cells}
-use Rattle.query_meaning.specs.declared.meaning.At.{At}
-use Rattle.query_meaning.specs.declared.meaning.Listed.{Listed}
+use Rattle.query_meaning.specs.Plain.{change_at, passed, plain_gives, row_left}
+use Rattle.query_meaning.specs.Queries.{filter_of, key_cells, with_key_cells}
+use Rattle.query_meaning.specs.declared.plain.At.{At}
 
 -- ---- steps that look back at nothing
 
@@ -66,50 +53,6 @@ steps-each lanes columns (Some on) keys items changes =
     ∙ step-each (selected keys items) kept
     ∙ ap (flat_map (selected keys items)) (step-each (filtered on) whole ∙ flat_map-map (filtered on) (with_key_cells columns) changes)
     ∙ flat_map-twice (selected keys items) (λ c. passed (Some on) (with_key_cells columns c)) changes
-
--- ---- a query over one relation
-
--- nothing comes of no entries
-through-nothing : (steps : List Step) → through steps [] ≡ []
-through-nothing [] = refl
-through-nothing (step ∷ steps) = through-nothing steps
-
--- such a query makes its result of the changes of that relation
-pub query_changes-over : (items : List Item) (lists : List Listed) (query : Query) (number : ℕ) (found : Option Listed) →
-    query.from ≡ One number → slice_get lists number ≡ found →
-    query_changes items (map changes_of lists) query ≡ changes_over items number query.filter query.shape (unwrap_or (option_map changes_of found) [])
-unfolding query_changes steps_of read_entries
-query_changes-over items lists query number found from at =
-    ap (λ (f : From). through (map (gives (partitions_at items (leftmost f))) (join_of items f ++ filter_of query.filter) ++ shape_steps (partitions_at items (leftmost f)) (kind_at items (leftmost f)) query.shape) (read_entries items (map changes_of lists) f))
-    from
-    ∙ ap (λ (o : Option (List Change)). changes_over items number query.filter query.shape (unwrap_or o []))
-    (slice_get-map changes_of lists number ∙ ap (option_map changes_of) at)
-
--- and of no changes it makes none
-pub nothing-over : (items : List Item) (number : ℕ) (on : Option Typed) (shape : Shape) → changes_over items number on shape [] ≡ []
-nothing-over items number on shape =
-    let lanes = partitions_at items number in
-    through-nothing (map (gives lanes) (filter_of on) ++ shape_steps lanes (kind_at items number) shape)
-
--- the steps of a stream's grouping without a window are those of its nodes
-pub grouped-over : (items : List Item) (number : ℕ) (on : Option Typed) (keys : List Typed) (aggs : List Agg) (having : Option Typed) (values : List Typed)
-    (changes : List Change) → kind_at items number ≡ Stream →
-    changes_over items number on (Group keys None aggs having values) changes
-    ≡ through (map (gives (partitions_at items number)) (grouped_nodes on keys aggs having values)) (from_side 0 (map (with_key_cells (key_columns items number)) changes))
-grouped-over items number on keys aggs having values changes stream =
-    let lanes = partitions_at items number in
-    let entries = from_side 0 (map (with_key_cells (key_columns items number)) changes) in
-    ap (λ (k : Kind). through (map (gives lanes) (filter_of on) ++ shape_steps lanes k (Group keys None aggs having values)) entries) stream
-    ∙ sym (ap (λ (steps : List Step). through steps entries)
-    (map-append (gives lanes) (filter_of on) (node.Group keys ∷ node.Aggregate Stream aggs None ∷ after_aggregate having values)))
-
--- each of these nodes is run
-pub grouped-run : (on : Option Typed) (keys : List Typed) (aggs : List Agg) (having : Option Typed) (values : List Typed) →
-    AllByRecursion (λ n. IsTrue (is_run n)) (grouped_nodes on keys aggs having values)
-grouped-run None keys aggs None values = (refl, (refl, (refl, tt)))
-grouped-run None keys aggs (Some h) values = (refl, (refl, (refl, (refl, tt))))
-grouped-run (Some on) keys aggs None values = (refl, (refl, (refl, (refl, tt))))
-grouped-run (Some on) keys aggs (Some h) values = (refl, (refl, (refl, (refl, (refl, tt)))))
 
 -- ---- what a change gives
 

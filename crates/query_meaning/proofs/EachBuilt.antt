@@ -1,6 +1,7 @@
 -- What is built: each item of a program without an unbuilt one; and the changes of declared relations.
-use Rattle.std.proofs.Common.{◌≡◌, ap, refl, ◌+◌, ◌<◌, ℕ, zero, suc, List, [], ◌∷◌, length, get_or, Bool, true, false, arith}
+use Rattle.std.proofs.Common.{◌≡◌, ap, refl, ◌+◌, ℕ, List, [], ◌∷◌, Bool, true, false}
 use Rattle.std.specs.Prelude.{Option, Some, if◌then◌else◌, IsTrue, is_none, option_and_then, option_map}
+use Rattle.std.specs.List.{AllByRecursion}
 use Rattle.ksql_types.specs.declared.relation.Kind.{Kind}
 use Rattle.ksql_types.specs.declared.relation.Kind.TheVariants.{Stream, Table, Windowed}
 use Rattle.ksql_types.specs.declared.relation.Relation.{Relation}
@@ -18,12 +19,12 @@ built-first : (b : Bool) (rest : Option ℕ) (number : ℕ) → IsTrue (is_none 
 built-first true rest number h = (refl, h)
 built-first false rest number h = cc
 
-pub built-at : (all : List Item) (number : ℕ) (items : List Item) → IsTrue (is_none (first_unbuilt_from all number items)) →
-    (i : ℕ) (d : Item) → i < length items → IsTrue (is_built all (get_or items i d))
-built-at all number [] h i d below = absurd (omega arith)
-built-at all number (x ∷ xs) h zero d below = (built-first (is_built all x) (first_unbuilt_from all (number + 1) xs) number h).0
-built-at all number (x ∷ xs) h (suc i) d below =
-    built-at all (number + 1) xs (built-first (is_built all x) (first_unbuilt_from all (number + 1) xs) number h).1 i d (omega arith)
+-- each item of a program without an unbuilt one is run
+pub each-built : (number : ℕ) (items : List Item) → IsTrue (is_none (first_unbuilt_from number items)) → AllByRecursion (λ i. IsTrue (is_built i)) items
+each-built number [] h = tt
+each-built number (x ∷ xs) h =
+    let (first, rest) = built-first (is_built x) (first_unbuilt_from (number + 1) xs) number h in
+    (first, each-built (number + 1) xs rest)
 
 -- the changes of a declared relation by its kind
 pub declared_changes-by : (relation : Relation) (kind : Kind) (order : List SourceRecord) → relation.kind ≡ kind →

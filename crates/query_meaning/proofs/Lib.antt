@@ -1,2 +1,3 @@
 pub mod ChangeByChange
 pub mod EachBuilt
+pub mod QuerySteps

@@ -1,4 +1,4 @@
--- What a query over one relation makes of its changes, one by one without a grouping, and where the changes of a relation lie.
+-- The changes of queries step by step, those without a grouping change by change, and where the changes of a relation lie.
 use Rattle.std.specs.Prelude.{ℕ, ◌≡◌, List, [], ◌∷◌, ◌++◌, map, flat_map, filter, replicate, ◌==◌, Bool, true, if◌then◌else◌, Option, Some, None, option_map}
 use Rattle.ksql_types.specs.declared.relation.Kind.{Kind}
 use Rattle.ksql_types.specs.declared.relation.Kind.TheVariants.{Stream, Table, Windowed}
@@ -13,16 +13,16 @@ use Rattle.ksql_expr.specs.declared.typed.Typed.{Typed}
 use Rattle.ksql_expr.specs.Value.{value_of, is_true_value}
 use Rattle.ksql_program.specs.declared.program.Item.{Item}
 use Rattle.ksql_program.specs.declared.query.Agg.{Agg}
-use Rattle.ksql_program.specs.declared.query.Shape.{Shape}
-use Rattle.ksql_nodes.specs.declared.node.Node.{Node}
+use Rattle.ksql_program.specs.declared.query.From.{From}
 use Rattle.ksql_nodes.specs.declared.node.Node.TheVariants as node
-use Rattle.ksql_nodes.specs.Entries.{Row, from_side, through}
+use Rattle.ksql_nodes.specs.Entries.{Row, Step, from_side, through}
 use Rattle.ksql_nodes.specs.Nodes.{gives}
 use Rattle.ksql_nodes.specs.Rows.{filtered, selected, values}
+use Rattle.ksql_nodes.specs.TableAggregates.{aggregate_of_table}
 use Rattle.query_meaning.specs.Meaning.{steps_of_declared}
-use Rattle.query_meaning.specs.Queries.{after_aggregate, filter_of, key_cells, key_columns, kind_at, partitions_at, shape_steps, with_key_cells}
-use Rattle.query_meaning.specs.declared.meaning.At.{At}
-use Rattle.query_meaning.specs.declared.meaning.Plain.{Plain}
+use Rattle.query_meaning.specs.Queries.{join_of, key_cells, leftmost, partitions_at, read_entries, with_key_cells}
+use Rattle.query_meaning.specs.declared.plain.At.{At}
+use Rattle.query_meaning.specs.declared.plain.Plain.{Plain}
 use Rattle.query_meaning.specs.declared.meaning.Listed.{Listed}
 use Rattle.query_meaning.specs.declared.meaning.Listed.TheVariants.{Lent, Made}
 
@@ -79,16 +79,18 @@ abbrev pub passed : Option Typed → Change → List Change
 passed None c = c ∷ []
 passed (Some on) c = filtered on c
 
--- what a query over one relation makes of the changes of that relation, by its WHERE and its shape
-abbrev pub changes_over : List Item → ℕ → Option Typed → Shape → List Change → List Change
-changes_over items number on shape changes =
-    let lanes = partitions_at items number in
-    through (map (gives lanes) (filter_of on) ++ shape_steps lanes (kind_at items number) shape)
-    (from_side 0 (map (with_key_cells (key_columns items number)) changes))
+-- the changes that a query reads: those of its relation, or what its join makes of those of its two relations
+abbrev pub joined_changes : List Item → List (List Change) → From → List Change
+joined_changes items lists f = through (map (gives (partitions_at items (leftmost f))) (join_of items f)) (read_entries items lists f)
 
--- the nodes of a query over a stream that is grouped without a window
-abbrev pub grouped_nodes : Option Typed → List Typed → List Agg → Option Typed → List Typed → List Node
-grouped_nodes on keys aggs having values = filter_of on ++ node.Group keys ∷ node.Aggregate Stream aggs None ∷ after_aggregate having values
+-- the relation that comes in on a side of a join
+abbrev pub relation_of_side : ℕ → ℕ → ℕ → ℕ
+relation_of_side left right side = if side == 0 then left else right
+
+-- the steps of a grouping without a window over a relation of a kind, with so many lanes
+abbrev pub grouping_steps : ℕ → Kind → List Typed → List Agg → List Step
+grouping_steps n Stream keys aggs = gives n (node.Group keys) ∷ gives n (node.Aggregate Stream aggs None) ∷ []
+grouping_steps n _ keys aggs = aggregate_of_table keys aggs ∷ []
 
 -- what a change gives to a query over a relation of so many key columns, with this WHERE and this select list
 abbrev pub plain_gives : ℕ → Option Typed → List Typed → List Typed → Change → List Change

@@ -17,6 +17,7 @@ use Rattle.ksql_program.specs.Program.{relation_at}
 use Rattle.ksql_program.specs.declared.program.Item.{Item}
 use Rattle.ksql_program.specs.declared.query.From.{From}
 use Rattle.ksql_program.specs.declared.query.From.TheVariants.{One, Join}
+use Rattle.ksql_program.specs.declared.query.JoinKind.{JoinKind}
 use Rattle.ksql_program.specs.declared.query.Query.{Query}
 use Rattle.ksql_program.specs.declared.query.Shape.{Shape}
 use Rattle.ksql_program.specs.declared.query.Shape.TheVariants.{Plain, Group}
@@ -89,14 +90,15 @@ lanes_of items q = partitions_at items (leftmost q.from)
 abbrev pub side_at : List Item → ℕ → Side
 side_at items number = record { relation = number; columns = unwrap_or (option_map (λ r. length (columns r)) (relation_at items number)) 0 }
 
--- the join, where there is one: of a stream and a table, or of two tables
+-- the join of two relations, the left of which is of a kind: of a stream and a table, or of two tables
+abbrev pub join_over : List Item → JoinKind → ℕ → ℕ → Typed → Kind → List Node
+join_over items k left right on kind.Stream = node.JoinStreamTable k on (side_at items left) (side_at items right) ∷ []
+join_over items k left right on _ = node.JoinTables k (side_at items left) (side_at items right) ∷ []
+
+-- the join, where there is one
 abbrev pub join_of : List Item → From → List Node
 join_of items (One number) = []
-join_of items (Join k left right on) = by_kind (kind_at items left)
-  where
-    by_kind : Kind → List Node
-    by_kind kind.Stream = node.JoinStreamTable k on (side_at items left) (side_at items right) ∷ []
-    by_kind _ = node.JoinTables k (side_at items left) (side_at items right) ∷ []
+join_of items (Join k left right on) = join_over items k left right on (kind_at items left)
 
 -- WHERE, where there is one
 abbrev pub filter_of : Option Typed → List Node

@@ -3,6 +3,8 @@
 
 mod built;
 mod meaning;
+mod plain;
+mod queries;
 mod steps;
 
 pub use built::first_unbuilt;
@@ -12,6 +14,7 @@ pub use ksql_program::{
 };
 pub use ksql_types::Window;
 pub use meaning::{Listed, Lists, partition_of, slow_meaning};
+pub use operator::{Operator, StoredOperator};
 
 #[cfg(test)]
 mod tests;

@@ -1,4 +1,4 @@
-//! The steps of declared tables and of grouped queries.
+//! The steps of queries and of declared tables, over all changes one after another.
 
 ghost use Rattle.std.specs.Prelude.{◌≡◌, ◌∷◌, ◌++◌, [], IfOk, IsTrue, List, None, OnOk, map, option_map, replicate};
 ghost use Rattle.std.specs.List.{AllByRecursion};
@@ -6,9 +6,10 @@ ghost use Rattle.ksql_types.specs.declared.relation.Kind.TheVariants as kind;
 ghost use Rattle.ksql_types.specs.declared.value.Value.TheVariants.{Null};
 ghost use Rattle.ksql_nodes.specs.Entries.{from_side, results, through};
 ghost use Rattle.ksql_nodes.specs.Nodes.{gives};
-ghost use Rattle.node_steps.specs.Steps.{is_run};
-ghost use Rattle.query_meaning.specs.Plain.{changes_by, grouped_nodes, raw_body, said_to};
-ghost use Rattle.query_meaning.specs.Queries.{key_cells, with_key_cells};
+ghost use Rattle.ksql_nodes.specs.declared.node.Node.TheVariants as node;
+ghost use Rattle.node_steps.specs.Steps.{entry_of, is_run};
+ghost use Rattle.query_meaning.specs.Plain.{changes_by, raw_body, said_to};
+ghost use Rattle.query_meaning.specs.Queries.{after_aggregate, filter_of, key_cells, with_key_cells};
 
 use ksql_expr::{Exprs, Typed};
 use ksql_nodes::Node;
@@ -181,16 +182,9 @@ fn push_copies(alloc: Global, row: &mut Vec<Value>, values: &[Value]) -> Result<
     Ok(())
 }
 
-/// The nodes of a query over a stream that is grouped without a window.
-pub fn grouped_nodes(
-    alloc: Global,
-    filter: &Option<Typed>,
-    keys: &Exprs,
-    aggs: &Aggs,
-    having: &Option<Typed>,
-    values: &Exprs,
-) -> Result<Vec<Node>, AllocError>
-    ensures { IfOk result (λ nodes. nodes.items ≡ grouped_nodes filter.now keys.now aggs.now having.now values.now) }
+/// The node of WHERE, where there is one.
+pub fn filter_nodes(alloc: Global, filter: &Option<Typed>) -> Result<Vec<Node>, AllocError>
+    ensures { IfOk result (λ nodes. nodes.items ≡ filter_of filter.now) }
 {
     let mut nodes = Vec::new(alloc);
     if let Some(on) = filter {
@@ -198,6 +192,23 @@ pub fn grouped_nodes(
             on: on.copy(alloc)?,
         })?;
     }
+    Ok(nodes)
+}
+
+/// The node of a select list.
+pub fn select_nodes(alloc: Global, keys: &Exprs, values: &Exprs) -> Result<Vec<Node>, AllocError>
+    ensures { IfOk result (λ nodes. nodes.items ≡ node.Select keys.now values.now ∷ []) }
+{
+    let keys = keys.copy(alloc)?;
+    let values = values.copy(alloc)?;
+    Ok(vec![in alloc; Node::Select { keys, values }]?)
+}
+
+/// The nodes of a grouping of a stream without a window.
+pub fn group_nodes(alloc: Global, keys: &Exprs, aggs: &Aggs) -> Result<Vec<Node>, AllocError>
+    ensures { IfOk result (λ nodes. nodes.items ≡ node.Group keys.now ∷ node.Aggregate kind.Stream aggs.now None ∷ []) }
+{
+    let mut nodes = Vec::new(alloc);
     nodes.push(Node::Group {
         keys: keys.copy(alloc)?,
     })?;
@@ -206,6 +217,18 @@ pub fn grouped_nodes(
         aggs: aggs.copy(alloc)?,
         window: None,
     })?;
+    Ok(nodes)
+}
+
+/// The nodes after an aggregate: HAVING, where there is one, and the items.
+pub fn after_aggregate(
+    alloc: Global,
+    having: &Option<Typed>,
+    values: &Exprs,
+) -> Result<Vec<Node>, AllocError>
+    ensures { IfOk result (λ nodes. nodes.items ≡ after_aggregate having.now values.now) }
+{
+    let mut nodes = Vec::new(alloc);
     if let Some(on) = having {
         nodes.push(Node::Having {
             on: on.copy(alloc)?,
@@ -245,9 +268,22 @@ fn step(
     requires { IsTrue (is_run node.now) }
     ensures { IfOk result (λ made. made.items ≡ results (gives lanes node.now) [] (from_side 0 changes.now)) }
 {
-    let mut entries = Vec::with_capacity(alloc, changes.len())?;
-    for change in changes {
-        entries.push(EntryRef { side: 0, change })?;
-    }
+    let mut entries = Vec::new(alloc);
+    push_entries(&mut entries, 0, changes)?;
     results(alloc, lanes, node, entries.as_slice())
+}
+
+/// Adds changes as the entries of a side.
+pub fn push_entries<'a>(
+    entries: &mut Vec<EntryRef<'a>>,
+    side: u32,
+    changes: &'a [Change],
+) -> Result<(), AllocError>
+    ensures { OnOk result (map entry_of entries.new.items ≡ map entry_of entries.old.items ++ from_side side changes.now) }
+{
+    entries.reserve(changes.len())?;
+    for change in changes {
+        entries.push(EntryRef { side, change })?;
+    }
+    Ok(())
 }

@@ -8,6 +8,7 @@ use ksql_types::{Bytes, Chars, Items, Word, Words};
 use std::alloc::{AllocError, Global};
 use std::test::Fail;
 
+mod tables;
 mod values;
 
 const SCRIPT: &str = "CREATE STREAM S (ID VARCHAR KEY, N INTEGER)

@@ -4,4 +4,4 @@ use Rattle.query_meaning.proofs.built.first_unbuilt.Given as goal
 
 -- the items that are left decide
 abbrev pub invariant-loop-index : goal.invariant-loop-index
-invariant-loop-index l = first_unbuilt_from l.program.items (l.index + 1) (drop l.index l.items) ≡ first_unbuilt l.program.items
+invariant-loop-index l = first_unbuilt_from (l.index + 1) (drop l.index l.item-items) ≡ first_unbuilt l.program.items

@@ -7,7 +7,7 @@ use Rattle.ksql_nodes.specs.Entries.{Row}
 use Rattle.ksql_nodes.specs.Rows.{turned, with_body}
 use Rattle.query_meaning.specs.Plain.{change_at, plain_gives, row_left}
 use Rattle.query_meaning.proofs.ChangeByChange.{turned-gives}
-use Rattle.query_meaning.proofs.meaning.push_turned.Goals as goal
+use Rattle.query_meaning.proofs.plain.push_turned.Goals as goal
 
 pub returns : goal.returns
 returns c =

@@ -1,7 +1,7 @@
 use Rattle.std.proofs.Common.{◌≡◌, take}
 use Rattle.std.specs.List.{flat_map}
 use Rattle.query_meaning.specs.Plain.{plain_gives, rows_said}
-use Rattle.query_meaning.proofs.meaning.results_of_records.Given as goal
+use Rattle.query_meaning.proofs.plain.results_of_records.Given as goal
 
 abbrev pub invariant-loop-fed : goal.invariant-loop-fed
 invariant-loop-fed l =
