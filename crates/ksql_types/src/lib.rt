@@ -13,6 +13,7 @@ mod names;
 mod operator;
 mod order;
 mod relation;
+mod topic;
 mod value;
 mod word;
 
@@ -30,6 +31,7 @@ pub use order::{cmp_key, cmp_task, keys_are_ordered};
 pub use relation::{
     Changelog, Column, Columns, Format, Kind, Relation, Schema, Span, StoreEntry, TaskName, Window,
 };
+pub use topic::{TopicSpec, Writer};
 pub use value::{LONGEST_VALUE, Row, SqlType, Value};
 pub use word::{Word, Words};
 

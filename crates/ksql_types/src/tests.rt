@@ -54,6 +54,17 @@ fn values_keys_and_boxes_are_copied(rt: HostRuntime) -> Result<(), Fail> {
     let word = Word::of(String::from_str(alloc, "run")?);
     assert_eq!(rt; word.copy(alloc)?.into_items().as_str(), "run");
     assert!(rt; chars(alloc, "a")? < chars(alloc, "b")?);
+    let topic = TopicSpec {
+        number: 1,
+        name: chars(alloc, "pages")?,
+        partitions: 4,
+        writer: Some(Writer {
+            sub: 0,
+            partitions: 2,
+        }),
+    };
+    let copied = topic.copy(alloc)?;
+    assert!(rt; copied.name.items() == "pages" && copied.writer == topic.writer);
     Ok(())
 }
 
