@@ -5,10 +5,12 @@ use Rattle.std.specs.Prelude.{◌↔◌}
 use Rattle.std.proofs.Math.Numerals.{suc-eq-add-one}
 use Rattle.std.proofs.lemmas.List.{drop_more}
 use Rattle.std.proofs.lemmas.Bool.{eqb-true, eq-eqb, false≢true}
+use Rattle.ksql_expr.specs.contracts.typed.Typed as tree
 use Rattle.ksql_expr.specs.contracts.typed.TypedNode as form
+use Rattle.ksql_expr.specs.declared.typed.Typed.{Typed}
 use Rattle.ksql_expr.specs.declared.typed.TypedNode.{TypedNode}
 use Rattle.ksql_trees.specs.Grouped.{place_from}
-use Rattle.ksql_trees.specs.Same.{same_code, same_form}
+use Rattle.ksql_trees.specs.Same.{same_code, same_form, same_tree}
 
 first-holds : (p q : Bool) → (p && q) ≡ true → p ≡ true
 first-holds true q h = refl
@@ -36,6 +38,14 @@ equal a b h = form.the_row.coded.inj a b (code-equal (form.the_row.coded.code a)
 pub same : (a b : TypedNode) → a ≡ b → same_form a b ≡ true
 unfolding same_form
 same a b h = subst (λ c. same_code (form.the_row.coded.code a) (form.the_row.coded.code c) ≡ true) h (code-same (form.the_row.coded.code a))
+
+pub equal-trees : (a b : Typed) → same_tree a b ≡ true → a ≡ b
+unfolding same_tree
+equal-trees a b h = tree.the_row.coded.inj a b (code-equal (tree.the_row.coded.code a) (tree.the_row.coded.code b) h)
+
+pub same-trees : (a b : Typed) → a ≡ b → same_tree a b ≡ true
+unfolding same_tree
+same-trees a b h = subst (λ c. same_code (tree.the_row.coded.code a) (tree.the_row.coded.code c) ≡ true) h (code-same (tree.the_row.coded.code a))
 
 -- what a test says
 pub decided : (r : Bool) (a b : TypedNode) → (IsTrue r ↔ (a ≡ b)) → same_form a b ≡ r

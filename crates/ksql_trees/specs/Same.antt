@@ -1,7 +1,9 @@
--- Whether two forms of typed trees are one.
+-- Whether two typed trees, or their forms, are one.
 use base.Stored.{Gv, gnil, gnum, gcons}
 use Rattle.std.specs.Prelude.{◌==◌, Bool, true, false, ◌&&◌}
+use Rattle.ksql_expr.specs.contracts.typed.Typed as tree
 use Rattle.ksql_expr.specs.contracts.typed.TypedNode as form
+use Rattle.ksql_expr.specs.declared.typed.Typed.{Typed}
 use Rattle.ksql_expr.specs.declared.typed.TypedNode.{TypedNode}
 
 -- whether two codes are one
@@ -14,3 +16,7 @@ same_code _ _ = false
 -- whether two forms are one: their codes are, and each form has a code of its own
 unfoldable pub same_form : TypedNode → TypedNode → Bool
 same_form a b = same_code (form.the_row.coded.code a) (form.the_row.coded.code b)
+
+-- whether two trees are one
+unfoldable pub same_tree : Typed → Typed → Bool
+same_tree a b = same_code (tree.the_row.coded.code a) (tree.the_row.coded.code b)

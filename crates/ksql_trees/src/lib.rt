@@ -7,4 +7,4 @@ mod same;
 
 pub use grouped::after;
 pub use laws::sameness_is_equality;
-pub use same::same_node;
+pub use same::{same_node, same_tree};

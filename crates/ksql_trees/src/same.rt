@@ -8,12 +8,13 @@ use ksql_types::{BinaryOp, Boxed, Chars, SqlType, Value};
 
 /// Whether two trees are one: the same form with the same parts and the same type.
 #[cycle(same)]
-fn same_tree(a: &Typed, b: &Typed) -> bool
+pub fn same_tree(a: &Typed, b: &Typed) -> bool
     ensures { IsTrue result ↔ (a.now ≡ b.now) }
 {
     a.ty == b.ty && same_node(&a.node, &b.node)
 }
 
+/// Whether two forms are one: they have the same parts.
 #[cycle(same)]
 pub fn same_node(a: &TypedNode, b: &TypedNode) -> bool
     ensures { IsTrue result ↔ (a.now ≡ b.now) }

@@ -69,7 +69,7 @@ last-give A B step give changes h =
 -- ---- the list of a relation
 
 -- the changes of a relation hold values of its columns
-abbrev AreChangesOf : Relation → List Change → Type 0
+abbrev pub AreChangesOf : Relation → List Change → Type 0
 AreChangesOf r changes = AllByRecursion (IsChangeOf r.kind (column_types r.schema.keys) (column_types r.schema.values)) changes
 
 -- ---- the steps of a query
@@ -293,23 +293,31 @@ module _ (items : List Item) (order : List SourceRecord) (records : AllByRecursi
   declared-through kind.Table number ks ts changes h = last-give (IsChangeOf kind.Table ks ts) (IsChangeOf kind.Table ks ts) (gives 1 (node.Table number)) (table-fits 1 number ks ts) changes h
   declared-through kind.Windowed number ks ts changes h = subst (AllByRecursion (IsChangeOf kind.Windowed ks ts)) (sym (changed-from-side changes)) h
 
-  declared-filled : (r : Relation) → relation_at items r.number ≡ Some r → AreChangesOf r (declared_changes r order)
-  unfolding declared_changes said
-  declared-filled r at =
-      declared-through r.kind r.number (column_types r.schema.keys) (column_types r.schema.values) (said r order)
-      (All-flat_map (IsChangeOf r.kind (column_types r.schema.keys) (column_types r.schema.values)) (saying r.kind) (λ source. IsRecordOf items source × (is_of_topic r source ≡ true))
+  -- what the records of a relation say
+  pub said-filled : (r : Relation) → relation_at items r.number ≡ Some r → AreChangesOf r (said r order)
+  unfolding said
+  said-filled r at =
+      All-flat_map (IsChangeOf r.kind (column_types r.schema.keys) (column_types r.schema.values)) (saying r.kind) (λ source. IsRecordOf items source × (is_of_topic r source ≡ true))
       (λ source h. saying-filled r at r.kind source h.0 h.1) (filter (is_of_topic r) order)
-      (All-both (IsRecordOf items) (λ source. is_of_topic r source ≡ true) (filter (is_of_topic r) order) (All-filter (IsRecordOf items) (is_of_topic r) order records) (All-passes (is_of_topic r) order)))
+      (All-both (IsRecordOf items) (λ source. is_of_topic r source ≡ true) (filter (is_of_topic r) order) (All-filter (IsRecordOf items) (is_of_topic r) order records) (All-passes (is_of_topic r) order))
+
+  declared-filled : (r : Relation) → relation_at items r.number ≡ Some r → AreChangesOf r (declared_changes r order)
+  unfolding declared_changes
+  declared-filled r at =
+      declared-through r.kind r.number (column_types r.schema.keys) (column_types r.schema.values) (said r order) (said-filled r at)
 
   item-filled : (before : List Item) (lists : List (List Change)) → AreAmong before items → Each AreChangesOf before lists → (i : Item) → IsTrue (is_built i) →
       relation_at items (length before) ≡ Some (relation_of i) → IsSoundItem before i → AreChangesOf (relation_of i) (item_changes items order lists i)
   item-filled before lists among each (Declared r) built at sound = declared-filled r (ap (relation_at items) sound.0.numbered ∙ at)
   item-filled before lists among each (Started q) built at sound = query-filled items before among lists each (lanes_of items q) q refl (both-true (is_built_shape q.shape) (is_built_relation q.out) built).0 sound.1
 
+-- the changes of each relation have keys and rows of its columns
+pub meant-changes : (items : List Item) (order : List SourceRecord) → IsSound items → AreBuilt items → All (IsRecordOf items) order → Each AreChangesOf items (meaning items order)
+meant-changes items order sound built records =
+    meant-each AreChangesOf (λ i. IsTrue (is_built i)) items order (item-filled items order (recursion_from_All (IsRecordOf items) order records)) [] [] tt items (each-built 1 items built) sound.sound refl
+
 pub meant-filled : (items : List Item) (order : List SourceRecord) → IsSound items → AreBuilt items → All (IsRecordOf items) order → HaveColumns items (meaning items order)
 meant-filled items order sound built records number r at =
     All-from_recursion (HasColumnsOf r) (changes_at (meaning items order) number)
     (All-weaker (IsChangeOf r.kind (column_types r.schema.keys) (column_types r.schema.values)) (HasColumnsOf r) (filled-columns r) (changes_at (meaning items order) number)
-    (each-at AreChangesOf items (meaning items order)
-    (meant-each AreChangesOf (λ i. IsTrue (is_built i)) items order (item-filled items order (recursion_from_All (IsRecordOf items) order records)) [] [] tt items (each-built 1 items built) sound.sound refl)
-    number r at))
+    (each-at AreChangesOf items (meaning items order) (meant-changes items order sound built records) number r at))

@@ -41,7 +41,7 @@ use Rattle.meaning_laws.proofs.Sides.{both-rise, lefts-rise}
 
 -- ---- declared relations
 
-flat-rise : (k : Kind) (order : List SourceRecord) → Pairwise (λ a b. record_cmp a b ≡ Less) order → Rise (flat_map (saying k) order)
+pub flat-rise : (k : Kind) (order : List SourceRecord) → Pairwise (λ a b. record_cmp a b ≡ Less) order → Rise (flat_map (saying k) order)
 flat-rise k [] rise = tt
 flat-rise k (r ∷ rs) rise = by (said_by k r.key r.value) (flat-rise k rs rise.1)
   where
@@ -150,8 +150,10 @@ each-placed [] (l ∷ lists) each = absurd each
 each-placed (i ∷ is) [] each = absurd each
 each-placed (i ∷ is) (l ∷ lists) each = (rise-placed l each.0, each-placed is lists each.1)
 
+pub meant-rise : (items : List Item) (order : List SourceRecord) → IsSound items → Rises record_cmp order → Each (λ r. Rise) items (meaning items order)
+meant-rise items order sound rises =
+    meant-each (λ r. Rise) (λ i. Unit {0}) items order (item-rise items order (Pairwise-from_all (λ a b. record_cmp a b ≡ Less) order rises)) [] [] tt items (All-of items (λ i. tt)) sound.sound refl
+
 pub meant-placed : (items : List Item) (order : List SourceRecord) → IsSound items → Rises record_cmp order → All ArePlaced (meaning items order)
 meant-placed items order sound rises =
-    let pairs = Pairwise-from_all (λ a b. record_cmp a b ≡ Less) order rises in
-    All-from_recursion ArePlaced (meaning items order)
-    (each-placed items (meaning items order) (meant-each (λ r. Rise) (λ i. Unit {0}) items order (item-rise items order pairs) [] [] tt items (All-of items (λ i. tt)) sound.sound refl))
+    All-from_recursion ArePlaced (meaning items order) (each-placed items (meaning items order) (meant-rise items order sound rises))

@@ -122,7 +122,7 @@ shape-makes n left types is (grouped {w = Some w} _ _ _ _ _ _ _ _ _ windowed) ta
 -- ---- queries
 
 -- the list of a table
-abbrev TurnsIn : Relation → List Change → Type 0
+abbrev pub TurnsIn : Relation → List Change → Type 0
 TurnsIn r changes = r.kind ≡ kind.Table → AreTurned changes
 
 module _ (items before : List Item) (among : AreAmong before items) (lists : List (List Change)) (each : Each TurnsIn before lists) (n : ℕ) where
@@ -173,7 +173,10 @@ module _ (items : List Item) (order : List SourceRecord) where
   item-turned before lists among each (Declared r) _ at sound table = declared-turned r.kind r.number (said r order) table
   item-turned before lists among each (Started q) _ at sound table = query-turned items before among lists each (lanes_of items q) q refl sound.1 table
 
+-- the list of each table is that of a table
+pub meant-turned : (items : List Item) (order : List SourceRecord) → IsSound items → Each TurnsIn items (meaning items order)
+meant-turned items order sound = meant-each TurnsIn (λ i. Unit {0}) items order (item-turned items order) [] [] tt items (All-of items (λ i. tt)) sound.sound refl
+
 pub meant-turning : (items : List Item) (order : List SourceRecord) → IsSound items → TablesTurn items (meaning items order)
 meant-turning items order sound number r at is =
-    turned-turning (changes_at (meaning items order) number)
-    (each-at TurnsIn items (meaning items order) (meant-each TurnsIn (λ i. Unit {0}) items order (item-turned items order) [] [] tt items (All-of items (λ i. tt)) sound.sound refl) number r at is)
+    turned-turning (changes_at (meaning items order) number) (each-at TurnsIn items (meaning items order) (meant-turned items order sound) number r at is)

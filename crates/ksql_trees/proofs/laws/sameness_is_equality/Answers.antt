@@ -1,5 +1,8 @@
-use Rattle.ksql_trees.proofs.Equality.{equal, same}
+use Rattle.ksql_trees.proofs.Equality.{equal, equal-trees, same, same-trees}
 use Rattle.ksql_trees.proofs.laws.sameness_is_equality.Goals as goal
 
-pub returns : goal.returns
-returns c = λ a b. (equal a b, same a b)
+pub forms : goal.forms
+forms c = λ a b. (equal a b, same a b)
+
+pub trees : goal.trees
+trees c = λ a b. (equal-trees a b, same-trees a b)
