@@ -1,6 +1,6 @@
 -- The keys and rows of each relation's changes hold values of its columns.
-use Rattle.std.proofs.Common.{◌≡◌, ◌∙◌, ap, refl, sym, subst, subst₂, ℕ, List, [], ◌∷◌, ◌++◌, map, length, Bool, true, false, inl, inr, true≢false}
-use Rattle.std.specs.Prelude.{All, IsTrue, ◌&&◌, filter, Option, Some, None, option_map, unwrap_or, IfSome}
+use Rattle.std.proofs.Common.{◌≡◌, ◌∙◌, ap, refl, sym, subst, subst₂, ℕ, List, [], ◌∷◌, ◌++◌, map, length, true, inl, inr, true≢false}
+use Rattle.std.specs.Prelude.{All, IsTrue, filter, Option, Some, None, option_map, unwrap_or, IfSome}
 use Rattle.std.specs.List.{AllByRecursion}
 use Rattle.std.specs.Cmp.{unsigned_Decides}
 use Rattle.std.proofs.lemmas.List.{length-map}
@@ -37,10 +37,10 @@ use Rattle.ksql_nodes.specs.Entries.{Entry, Step, from_side, results, through}
 use Rattle.ksql_nodes.specs.Nodes.{gives}
 use Rattle.ksql_nodes.specs.TableAggregates.{aggregate_of_table}
 use Rattle.ksql_nodes.proofs.Lists.{All-append}
-use Rattle.query_meaning.specs.Built.{AreBuilt, is_built, is_built_relation, is_built_shape}
+use Rattle.query_meaning.specs.Built.{is_built_shape}
 use Rattle.query_meaning.specs.Meaning.{declared_changes, item_changes, meaning, steps_of_declared}
 use Rattle.query_meaning.specs.Queries.{after_aggregate, changes_at, entry_cmp, filter_of, join_of, join_over, kind_at, lanes_of, leftmost, query_changes, read_entries, shape_steps, side_at, steps_of, whole_changes, with_key_cells}
-use Rattle.query_meaning.proofs.EachBuilt.{each-built}
+use Rattle.meaning_laws.specs.Windows.{HaveNoWindow, is_windowless}
 use Rattle.meaning_laws.specs.Bounds.{HasColumnsOf, HaveColumns, IsDecodedOf, IsKeyOf, IsRecordOf}
 use Rattle.meaning_laws.proofs.Lists.{All-ascending, All-both, All-filter, All-map, All-passes, All-weaker}
 use Rattle.meaning_laws.proofs.RowTypes.{BodyHas, Holds, IsChangeOf, KeyOf, WholeKey, aggregate-filled, columns-types, filled-columns, filter-fits, group-fits, having-fits, key-types, own-key, row-types, select-said, select-turned, table-aggregate-filled, table-apart, table-fits, whole-filled}
@@ -52,10 +52,6 @@ use Rattle.meaning_laws.proofs.Turning.{changed-from-side}
 use Rattle.meaning_laws.proofs.RelationTables.{reads-kind, reads-unwindowed}
 
 -- ---- what is built
-
-both-true : (a b : Bool) → IsTrue (a && b) → IsTrue a × IsTrue b
-both-true true b h = (refl, h)
-both-true false b h = absurd (true≢false (sym h))
 
 -- ---- steps in a row
 
@@ -168,15 +164,31 @@ tables-keeps before k left right on l r at_left at_right table tables (Plain ks 
 tables-keeps before k left right on l r at_left at_right table tables (Group ks window aggs having values) keyed = tt
 
 -- a FULL join is one of tables
-stream-partial : (k : JoinKind) (on : Typed) (l r : Relation) → IsJoined k on l r → l.kind ≡ kind.Stream → k ≡ Full → ⊥
+pub stream-partial : (k : JoinKind) (on : Typed) (l r : Relation) → IsJoined k on l r → l.kind ≡ kind.Stream → k ≡ Full → ⊥
 stream-partial Inner on l r j stream is = cc
 stream-partial Left on l r j stream is = cc
 stream-partial Full on l r j stream is = table-apart (sym j.left_table ∙ stream)
 
-joins-table : (k : JoinKind) (on : Typed) (l r : Relation) → IsJoined k on l r → l.kind ≡ kind.Table → JoinsTable on l r
+pub joins-table : (k : JoinKind) (on : Typed) (l r : Relation) → IsJoined k on l r → l.kind ≡ kind.Table → JoinsTable on l r
 joins-table Inner on l r j is = let same : l ≡ record l { kind = kind.Table } = λ i. record l { kind = is i } in subst (λ x. JoinsTable on x r) (sym same) (subst (λ x. IsJoined Inner on x r) same j)
 joins-table Left on l r j is = let same : l ≡ record l { kind = kind.Table } = λ i. record l { kind = is i } in subst (λ x. JoinsTable on x r) (sym same) (subst (λ x. IsJoined Left on x r) same j)
 joins-table Full on l r j is = j
+
+-- as many columns as a side has
+pub wide-at : (items before : List Item) → AreAmong before items → (number : ℕ) (r : Relation) → relation_at before number ≡ Some r → (side_at items number).columns ≡ length (column_types (columns r))
+wide-at items before among number r at = ap (λ o. unwrap_or (option_map (λ r. length (columns r)) o) 0) (among number r at) ∙ sym (length-map (columns r) (λ c. Some c.ty))
+
+-- the entries of both sides
+pub entries-sided : (items : List Item) (lists : List (List Change)) (k : JoinKind) (left right : ℕ) (key : Typed) (A B : Change → Type 0) → AllByRecursion A (whole_changes items lists left) → AllByRecursion B (whole_changes items lists right) →
+    AllByRecursion (IsOfSides A B) (read_entries items lists (Join k left right key))
+unfolding read_entries
+entries-sided items lists k left right key A B lefts rights =
+    All-ascending (IsOfSides A B) (entry_cmp left right) (from_side 0 (whole_changes items lists left) ++ from_side 1 (whole_changes items lists right))
+    (All-append (IsOfSides A B) (from_side 0 (whole_changes items lists left)) (from_side 1 (whole_changes items lists right))
+    (All-map (IsOfSides A B) (λ c. record { side = 0; change = c }) (whole_changes items lists left)
+    (All-weaker A (λ c. IsOfSides A B (record { side = 0; change = c })) (λ c h. inl (refl, h)) (whole_changes items lists left) lefts))
+    (All-map (IsOfSides A B) (λ c. record { side = 1; change = c }) (whole_changes items lists right)
+    (All-weaker B (λ c. IsOfSides A B (record { side = 1; change = c })) (λ c h. inr (refl, h)) (whole_changes items lists right) rights)))
 
 module _ (items before : List Item) (among : AreAmong before items) (lists : List (List Change)) (each : Each AreChangesOf before lists) (n : ℕ) where
   -- the whole rows of a relation
@@ -189,21 +201,6 @@ module _ (items before : List Item) (among : AreAmong before items) (lists : Lis
       (sym (ap (λ o. unwrap_or (option_map (λ r. length r.schema.keys) o) 0) (among number r at)))
       (All-map B (with_key_cells (length r.schema.keys)) (changes_at lists number)
       (All-weaker A (λ c. B (with_key_cells (length r.schema.keys) c)) (λ c h. whole-filled r.kind r c h) (changes_at lists number) (each-at AreChangesOf before lists each number r at)))
-
-  -- as many columns as a side has
-  wide-at : (number : ℕ) (r : Relation) → relation_at before number ≡ Some r → (side_at items number).columns ≡ length (column_types (columns r))
-  wide-at number r at = ap (λ o. unwrap_or (option_map (λ r. length (columns r)) o) 0) (among number r at) ∙ sym (length-map (columns r) (λ c. Some c.ty))
-
-  entries-sided : (k : JoinKind) (left right : ℕ) (key : Typed) (A B : Change → Type 0) → AllByRecursion A (whole_changes items lists left) → AllByRecursion B (whole_changes items lists right) →
-      AllByRecursion (IsOfSides A B) (read_entries items lists (Join k left right key))
-  unfolding read_entries
-  entries-sided k left right key A B lefts rights =
-      All-ascending (IsOfSides A B) (entry_cmp left right) (from_side 0 (whole_changes items lists left) ++ from_side 1 (whole_changes items lists right))
-      (All-append (IsOfSides A B) (from_side 0 (whole_changes items lists left)) (from_side 1 (whole_changes items lists right))
-      (All-map (IsOfSides A B) (λ c. record { side = 0; change = c }) (whole_changes items lists left)
-      (All-weaker A (λ c. IsOfSides A B (record { side = 0; change = c })) (λ c h. inl (refl, h)) (whole_changes items lists left) lefts))
-      (All-map (IsOfSides A B) (λ c. record { side = 1; change = c }) (whole_changes items lists right)
-      (All-weaker B (λ c. IsOfSides A B (record { side = 1; change = c })) (λ c h. inr (refl, h)) (whole_changes items lists right) rights)))
 
   module _ (on : Option Typed) {shape : Shape} {out : Relation} (built : IsTrue (is_built_shape shape)) where
     -- a join, WHERE and a shape
@@ -225,9 +222,9 @@ module _ (items before : List Item) (among : AreAmong before items) (lists : Lis
         let L : List Value → Type 0 = KeyOf kind.Table (column_types r.schema.keys) in
         join-filled kind.Stream (λ key. Unit {0}) l (lts ++ rts ++ rowkey_types k l) is un makes (λ t. absurd (table-apart (sym t))) (node.JoinStreamTable k key (side_at items left) (side_at items right))
         (IsOfSides (Holds kind.Stream K lts) (Holds kind.Table L rts))
-        (stream-joined l (side_at items left) (side_at items right) lts rts (wide-at left l at_left) (wide-at right r at_right) k (stream-partial k key l r j is) key K L n)
+        (stream-joined l (side_at items left) (side_at items right) lts rts (wide-at items before among left l at_left) (wide-at items before among right r at_right) k (stream-partial k key l r j is) key K L n)
         (read_entries items lists (Join k left right key))
-        (entries-sided k left right key (Holds kind.Stream K lts) (Holds kind.Table L rts) (whole-at left l at_left kind.Stream is) (whole-at right r at_right kind.Table table))
+        (entries-sided items lists k left right key (Holds kind.Stream K lts) (Holds kind.Table L rts) (whole-at left l at_left kind.Stream is) (whole-at right r at_right kind.Table table))
     joined-filled k left right key l r at_left at_right table j makes keyed kind.Table is un =
         let lts : List (Option SqlType) = column_types (columns l) in
         let rts : List (Option SqlType) = column_types (columns r) in
@@ -235,9 +232,9 @@ module _ (items before : List Item) (among : AreAmong before items) (lists : Lis
         let tables : JoinsTable key l r = joins-table k key l r j is in
         join-filled kind.Table K l (lts ++ rts ++ rowkey_types k l) is un makes (λ _. tables-keeps before k left right key l r at_left at_right is tables shape keyed)
         (node.JoinTables k (side_at items left) (side_at items right)) (IsOfSides (Holds kind.Table K lts) (Holds kind.Table K rts))
-        (tables-joined l (side_at items left) (side_at items right) lts rts (wide-at left l at_left) (wide-at right r at_right) k n)
+        (tables-joined l (side_at items left) (side_at items right) lts rts (wide-at items before among left l at_left) (wide-at items before among right r at_right) k n)
         (read_entries items lists (Join k left right key))
-        (entries-sided k left right key (Holds kind.Table K lts) (Holds kind.Table K rts)
+        (entries-sided items lists k left right key (Holds kind.Table K lts) (Holds kind.Table K rts)
         (subst (λ ks. AllByRecursion (Holds kind.Table (WholeKey ks) lts) (whole_changes items lists left)) (key-first l tables.one_key_left) (whole-at left l at_left kind.Table is))
         (subst (λ ks. AllByRecursion (Holds kind.Table (WholeKey ks) rts) (whole_changes items lists right)) (key-first r tables.one_key_right ∙ sym tables.like_key) (whole-at right r at_right kind.Table table)))
     joined-filled k left right key l r at_left at_right table j makes keyed kind.Windowed is un = absurd (un refl)
@@ -306,18 +303,18 @@ module _ (items : List Item) (order : List SourceRecord) (records : AllByRecursi
   declared-filled r at =
       declared-through r.kind r.number (column_types r.schema.keys) (column_types r.schema.values) (said r order) (said-filled r at)
 
-  item-filled : (before : List Item) (lists : List (List Change)) → AreAmong before items → Each AreChangesOf before lists → (i : Item) → IsTrue (is_built i) →
+  item-filled : (before : List Item) (lists : List (List Change)) → AreAmong before items → Each AreChangesOf before lists → (i : Item) → IsTrue (is_windowless i) →
       relation_at items (length before) ≡ Some (relation_of i) → IsSoundItem before i → AreChangesOf (relation_of i) (item_changes items order lists i)
   item-filled before lists among each (Declared r) built at sound = declared-filled r (ap (relation_at items) sound.0.numbered ∙ at)
-  item-filled before lists among each (Started q) built at sound = query-filled items before among lists each (lanes_of items q) q refl (both-true (is_built_shape q.shape) (is_built_relation q.out) built).0 sound.1
+  item-filled before lists among each (Started q) built at sound = query-filled items before among lists each (lanes_of items q) q refl built sound.1
 
 -- the changes of each relation have keys and rows of its columns
-pub meant-changes : (items : List Item) (order : List SourceRecord) → IsSound items → AreBuilt items → All (IsRecordOf items) order → Each AreChangesOf items (meaning items order)
-meant-changes items order sound built records =
-    meant-each AreChangesOf (λ i. IsTrue (is_built i)) items order (item-filled items order (recursion_from_All (IsRecordOf items) order records)) [] [] tt items (each-built 1 items built) sound.sound refl
+pub meant-changes : (items : List Item) (order : List SourceRecord) → IsSound items → HaveNoWindow items → All (IsRecordOf items) order → Each AreChangesOf items (meaning items order)
+meant-changes items order sound windowless records =
+    meant-each AreChangesOf (λ i. IsTrue (is_windowless i)) items order (item-filled items order (recursion_from_All (IsRecordOf items) order records)) [] [] tt items windowless sound.sound refl
 
-pub meant-filled : (items : List Item) (order : List SourceRecord) → IsSound items → AreBuilt items → All (IsRecordOf items) order → HaveColumns items (meaning items order)
-meant-filled items order sound built records number r at =
+pub meant-filled : (items : List Item) (order : List SourceRecord) → IsSound items → HaveNoWindow items → All (IsRecordOf items) order → HaveColumns items (meaning items order)
+meant-filled items order sound windowless records number r at =
     All-from_recursion (HasColumnsOf r) (changes_at (meaning items order) number)
     (All-weaker (IsChangeOf r.kind (column_types r.schema.keys) (column_types r.schema.values)) (HasColumnsOf r) (filled-columns r) (changes_at (meaning items order) number)
-    (each-at AreChangesOf items (meaning items order) (meant-changes items order sound built records) number r at))
+    (each-at AreChangesOf items (meaning items order) (meant-changes items order sound windowless records) number r at))

@@ -84,7 +84,7 @@ shape-plain n kind.Stream (Group keys window aggs having values) =
 shape-plain n kind.Table (Group keys window aggs having values) = (aggregate-rising keys aggs, after-plain n having values)
 shape-plain n kind.Windowed (Group keys window aggs having values) = (aggregate-rising keys aggs, after-plain n having values)
 
-whole-rise : (items : List Item) (lists : List (List Change)) (number : ℕ) → Rise (changes_at lists number) → Rise (whole_changes items lists number)
+pub whole-rise : (items : List Item) (lists : List (List Change)) (number : ℕ) → Rise (changes_at lists number) → Rise (whole_changes items lists number)
 whole-rise items lists number rise = Pairwise-map (λ c d. IsBefore c.place d.place) (with_key_cells (key_columns items number)) (changes_at lists number) rise
 
 module _ (items before : List Item) (lists : List (List Change)) (each : Each (λ r. Rise) before lists) (n : ℕ) where

@@ -42,7 +42,7 @@ use Rattle.meaning_laws.proofs.Turning.{AreTurned, KeepsTable, changed-from-side
 
 -- ---- kinds
 
-table-isnt_stream : (k : Kind) → k ≡ kind.Table → k ≢ kind.Stream
+pub table-isnt_stream : (k : Kind) → k ≡ kind.Table → k ≢ kind.Stream
 table-isnt_stream k is stream = cc
 
 windowed-isnt_table : kind.Windowed ≡ kind.Table → ⊥
@@ -71,13 +71,13 @@ reads-kind before items among (joined {left = left} {l = l} is _ _ _ _ _) = ap k
 over-timeless : (over : Kind) (types : List (Option SqlType)) (e : Typed) → over ≢ kind.Stream → IsSoundOver over types e → Timeless e
 over-timeless over types e table sound row time = timeless_value e row time 0 (sound.timeless table)
 
-columns-timeless : (over : Kind) (types : List (Option SqlType)) → over ≢ kind.Stream → (es : List Typed) (cs : List Column) → AreColumns over types es cs → AllByRecursion Timeless es
+pub columns-timeless : (over : Kind) (types : List (Option SqlType)) → over ≢ kind.Stream → (es : List Typed) (cs : List Column) → AreColumns over types es cs → AllByRecursion Timeless es
 columns-timeless over types table [] [] sound = tt
 columns-timeless over types table [] (c ∷ cs) sound = absurd sound
 columns-timeless over types table (e ∷ es) [] sound = absurd sound
 columns-timeless over types table (e ∷ es) (c ∷ cs) sound = (over-timeless over types e table sound.0, columns-timeless over types table es cs sound.2)
 
-condition-keeps : (n : ℕ) (over : Kind) (types : List (Option SqlType)) → over ≢ kind.Stream → (on : Option Typed) → IsCondition over types on → AllByRecursion KeepsTable (map (gives n) (filter_of on))
+pub condition-keeps : (n : ℕ) (over : Kind) (types : List (Option SqlType)) → over ≢ kind.Stream → (on : Option Typed) → IsCondition over types on → AllByRecursion KeepsTable (map (gives n) (filter_of on))
 condition-keeps n over types table None sound = tt
 condition-keeps n over types table (Some e) sound = (filter-keeps n e (over-timeless over types e table sound.0), tt)
 
@@ -93,7 +93,7 @@ argument-timeless : (types : List (Option SqlType)) (fun : AggFun) (arg : Option
 argument-timeless types fun None sound = tt
 argument-timeless types fun (Some e) sound = over-timeless kind.Table types e (table-isnt_stream kind.Table refl) sound
 
-aggs-held : (types : List (Option SqlType)) {gs : List Agg} {ats : List (Option SqlType)} → Aggregates kind.Table types gs ats → AllByRecursion IsHeld gs
+pub aggs-held : (types : List (Option SqlType)) {gs : List Agg} {ats : List (Option SqlType)} → Aggregates kind.Table types gs ats → AllByRecursion IsHeld gs
 aggs-held types none = tt
 aggs-held types (more {a = a} over argument _ rest) = ((argument-timeless types a.fun a.arg argument, over), aggs-held types rest)
 

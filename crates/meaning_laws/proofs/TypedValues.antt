@@ -329,20 +329,20 @@ chosen-into t operand (w ∷ ws) otherwise h other = by (is_taken operand w.0) (
 
 -- ---- the values of parts
 
-abbrev of_node : List Value → ℕ → TypedNode → Option SqlType → Value
+abbrev pub of_node : List Value → ℕ → TypedNode → Option SqlType → Value
 of_node row time = fold-TypedNode (Option SqlType → Value) Value (Value × Value) (node_value row time) (λ e. e.node e.ty) (λ w. (w.cond, w.result))
 
-abbrev of_typed : List Value → ℕ → Typed → Value
+abbrev pub of_typed : List Value → ℕ → Typed → Value
 of_typed row time = fold-Typed (Option SqlType → Value) Value (Value × Value) (node_value row time) (λ e. e.node e.ty) (λ w. (w.cond, w.result))
 
-abbrev of_when : List Value → ℕ → TypedWhen → Value × Value
+abbrev pub of_when : List Value → ℕ → TypedWhen → Value × Value
 of_when row time = fold-TypedWhen (Option SqlType → Value) Value (Value × Value) (node_value row time) (λ e. e.node e.ty) (λ w. (w.cond, w.result))
 
 -- a form with the values of its parts
-abbrev with_values : List Value → ℕ → TypedNode-F TypedNode Typed TypedWhen → TypedNode-F (Option SqlType → Value) Value (Value × Value)
+abbrev pub with_values : List Value → ℕ → TypedNode-F TypedNode Typed TypedWhen → TypedNode-F (Option SqlType → Value) Value (Value × Value)
 with_values row time = map-TypedNode TypedNode Typed TypedWhen (Option SqlType → Value) Value (Value × Value) (of_node row time) (of_typed row time) (of_when row time)
 
-of_form : (row : List Value) (time : ℕ) (t : Option SqlType) (form : TypedNode-F TypedNode Typed TypedWhen) (node : TypedNode)
+pub of_form : (row : List Value) (time : ℕ) (t : Option SqlType) (form : TypedNode-F TypedNode Typed TypedWhen) (node : TypedNode)
     → roll-TypedNode form ≡ node → node_value row time (with_values row time form) t ≡ value_of row time (of t node)
 unfolding value_of
 of_form row time t form node rolls =

@@ -2,3 +2,4 @@ pub mod Bounds
 pub mod Places
 pub mod Prefixes
 pub mod Tables
+pub mod Windows

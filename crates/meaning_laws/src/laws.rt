@@ -5,12 +5,12 @@ ghost use Rattle.ksql_place.specs.Order.{record_cmp};
 ghost use Rattle.ksql_place.specs.declared.change.SourceRecord.{SourceRecord as OneRecord};
 ghost use Rattle.ksql_program.specs.declared.program.Item.{Item as OneItem};
 ghost use Rattle.ksql_program.specs.Sound.{IsSound};
-ghost use Rattle.query_meaning.specs.Built.{AreBuilt};
 ghost use Rattle.query_meaning.specs.Meaning.{meaning};
 ghost use Rattle.meaning_laws.specs.Bounds.{HaveColumns, IsInTime, IsRecordOf, IsSmall};
 ghost use Rattle.meaning_laws.specs.Places.{ArePlaced};
 ghost use Rattle.meaning_laws.specs.Prefixes.{IsMeantByFeeds};
 ghost use Rattle.meaning_laws.specs.Tables.{TablesTurn};
+ghost use Rattle.meaning_laws.specs.Windows.{HaveNoWindow};
 
 /// What is meant of the records up to a feed is what is meant of all records, up to that feed.
 pub fn prefixes_are_meant()
@@ -35,9 +35,9 @@ pub fn changes_are_small()
         All (λ changes. All IsSmall changes) (meaning items order) }
 {}
 
-/// Where the records have keys and rows of their relations' columns, so has each change. This is said of the forms that
-/// are run so far.
+/// Where the records have keys and rows of their relations' columns, so has each change. This is said of programs without
+/// windows.
 pub fn changes_have_columns()
-    ensures { (items : List OneItem) (order : List OneRecord) → IsSound items → AreBuilt items →
+    ensures { (items : List OneItem) (order : List OneRecord) → IsSound items → HaveNoWindow items →
         All (IsRecordOf items) order → HaveColumns items (meaning items order) }
 {}

@@ -1,0 +1,10 @@
+pub mod Gathering
+pub mod Dividing
+pub mod OneTime
+pub mod KeptKeys
+pub mod NodeLanes
+pub mod Sidewise
+pub mod Rekeying
+pub mod RawTables
+pub mod Inputs
+pub mod Sending

@@ -1,0 +1,6 @@
+//! Laws of partitions: what the tasks of a sub-topology give is what its nodes give, partition by partition.
+#![tactic(auto)]
+
+mod laws;
+
+pub use laws::nodes_are_laned;

@@ -1,0 +1,4 @@
+pub mod Depths
+pub mod Numbered
+pub mod Ascent
+pub mod WorkedRows

@@ -1,0 +1,85 @@
+-- What stands in each partition of each topic: each task goes over the entries of its own partition alone, and each change that it
+-- sends goes to the partition of its key (Kafka Streams developer guide, "Architecture": a task for each partition).
+use Rattle.std.specs.Prelude.{ℕ, zero, suc, ◌==◌, if◌then◌else◌, Bool, List, [], ◌∷◌, ◌++◌, map, filter, flat_map, Option, Some, None, unwrap_or, option_map, slice_get}
+use Rattle.std.specs.List.{range_with_len}
+use Rattle.std.specs.declared.cmp.Ordering.{Ordering}
+use Rattle.ksql_types.specs.Lane.{lane}
+use Rattle.ksql_types.specs.declared.topic.TopicSpec.{TopicSpec}
+use Rattle.ksql_place.specs.Ascending.{ascending}
+use Rattle.ksql_place.specs.Order.{place_cmp}
+use Rattle.ksql_place.specs.Said.{said}
+use Rattle.ksql_place.specs.declared.change.Change.{Change}
+use Rattle.ksql_place.specs.declared.change.SourceRecord.{SourceRecord}
+use Rattle.ksql_program.specs.declared.program.Item.{Item}
+use Rattle.ksql_program.specs.declared.program.Item.TheVariants.{Declared, Started}
+use Rattle.ksql_nodes.specs.Entries.{Entry, from_side, through}
+use Rattle.ksql_nodes.specs.Nodes.{gives}
+use Rattle.query_meaning.specs.Queries.{entry_cmp, with_key_cells}
+use Rattle.topology.specs.declared.topology.Sub.{Sub}
+use Rattle.topology.specs.declared.topology.SubInput.{SubInput}
+use Rattle.topology.specs.declared.topology.Topology.{Topology}
+
+-- what stands in a partition of a topic, by the topic's number and the partition's
+abbrev pub Contents : Type 0
+Contents = ℕ → ℕ → List Change
+
+-- what the records of a source say, which is nothing of a topic that isn't one; of a table it is raw: no old rows
+abbrev pub source_changes : List SourceRecord → Option Item → List Change
+source_changes order None = []
+source_changes order (Some (Declared r)) = said r order
+source_changes order (Some (Started q)) = []
+
+-- what the records in each partition of each source say
+abbrev pub source_contents : List Item → List SourceRecord → Contents
+source_contents items order topic part = filter (λ c. c.place.stamp.part == part) (source_changes order (slice_get items topic))
+
+-- ---- a task
+
+-- a change as a task reads it: with so many key columns in front of its rows; they are whole already where that is none
+abbrev pub with_cells : ℕ → Change → Change
+with_cells zero c = c
+with_cells (suc columns) c = with_key_cells (suc columns) c
+
+-- what comes in on a side
+abbrev pub side_entries : ℕ → SubInput → Contents → ℕ → List Entry
+side_entries side input has part = from_side side (map (with_cells input.keys) (has input.topic part))
+
+-- what a task of a partition reads: the changes of one topic, or those of two in the order of their places
+abbrev pub task_entries : List SubInput → Contents → ℕ → List Entry
+task_entries [] has part = []
+task_entries (one ∷ []) has part = side_entries 0 one has part
+task_entries (left ∷ right ∷ more) has part =
+    ascending (entry_cmp left.relation right.relation) (side_entries 0 left has part ++ side_entries 1 right has part)
+
+-- what a task gives for them, which has one stream time
+abbrev pub task_results : Sub → Contents → ℕ → List Change
+task_results sub has part = through (map (gives 1) sub.nodes) (task_entries sub.inputs has part)
+
+-- ---- a topic
+
+abbrev pub change_cmp : Change → Change → Ordering
+change_cmp a b = place_cmp a.place b.place
+
+-- the partition among n to which a change goes: the lane of its key, and without one that of its record
+abbrev pub is_to : ℕ → ℕ → Change → Bool
+is_to n part c = lane c.key n c.place.stamp.part == part
+
+-- what all tasks of a sub-topology send to a partition among n, in place order
+abbrev pub sent : Sub → Contents → ℕ → ℕ → List Change
+sent sub has n part = ascending change_cmp (flat_map (λ task. filter (is_to n part) (task_results sub has task)) (range_with_len 0 sub.partitions))
+
+abbrev pub partitions_of : List TopicSpec → ℕ → ℕ
+partitions_of topics number = unwrap_or (option_map (λ t. t.partitions) (slice_get topics number)) 1
+
+-- the contents after a sub-topology, which writes its topic
+abbrev pub with_sub : List TopicSpec → Contents → Sub → Contents
+with_sub topics has sub topic part = if topic == sub.output then sent sub has (partitions_of topics topic) part else has topic part
+
+-- the contents after some sub-topologies, inputs first
+unfoldable pub contents_from : List TopicSpec → Contents → List Sub → Contents
+contents_from topics has [] = has
+contents_from topics has (s ∷ ss) = contents_from topics (with_sub topics has s) ss
+
+-- what a topology makes of the records that were fed: what stands in each partition of each topic
+abbrev pub contents : List Item → Topology → List SourceRecord → Contents
+contents items t order = contents_from t.topics (source_contents items order) t.subs

@@ -1,0 +1,4 @@
+pub mod Stages
+pub mod Topologies
+pub mod Contents
+pub mod Tasks

@@ -1,0 +1,4 @@
+pub mod Chain
+pub mod Fed
+pub mod Meant
+pub mod Sent
