@@ -1,0 +1,7 @@
+use topology::Stages;
+
+/// The stages of a query, inputs first.
+#[derive(Debug, Drop)]
+pub struct Keyed {
+    pub stages: Stages,
+}

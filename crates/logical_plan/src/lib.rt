@@ -1,0 +1,17 @@
+//! The plan of a query: the tree of what it reads and of its steps, which means what the query means.
+#![tactic(auto)]
+
+mod copies;
+mod planning;
+mod relations;
+mod tree;
+
+pub use ksql_expr::{Exprs, Typed, TypedNode};
+pub use ksql_types::{Boxed, CopyOf, Items, Kind, Window};
+pub use planning::plan;
+pub use query_meaning::{Agg, Aggs, From, Item, JoinKind, Program, Query, Shape, relation_of};
+pub use relations::{key_columns, kind_of};
+pub use tree::Plan;
+
+#[cfg(test)]
+mod tests;
