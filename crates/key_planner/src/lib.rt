@@ -9,6 +9,3 @@ mod staging;
 pub use made::Keyed;
 pub use staging::keyed;
 pub use topology::{CutName, Link, Links, Stage, Stages};
-
-#[cfg(test)]
-mod tests;
