@@ -232,7 +232,7 @@ fn explains_each_kind_of_node(rt: HostRuntime) -> Result<(), Fail> {
     push_plain(alloc, &mut subs)?;
     push_windowed(alloc, &mut subs)?;
     push_own_key(alloc, &mut subs)?;
-    let queries = ["S2", "T3", "T4", "S6", "Q7", "q 10", "Q12", "Q13"];
+    let queries = ["S2", "A3", "A4", "S6", "Q7", "q 10", "Q12", "Q13"];
     let topics = [
         "a-b_2",
         "t3",
