@@ -2,3 +2,4 @@ pub mod Ascending
 pub mod Merge
 pub mod Order
 pub mod Said
+pub mod Routing

@@ -22,7 +22,8 @@ use Rattle.query_meaning.specs.Queries.{entry_cmp, key_cells, with_key_cells}
 use Rattle.query_meaning.proofs.QuerySteps.{entries_total}
 use Rattle.meaning_laws.proofs.Lists.{All-ascending, filter-map}
 use Rattle.meaning_laws.proofs.Turning.{after-more}
-use Rattle.topology.specs.Contents.{is_to, with_cells}
+use Rattle.ksql_place.specs.Routing.{is_to}
+use Rattle.topology.specs.Contents.{with_cells}
 use Rattle.lane_laws.specs.Lanes.{HasKey, in_part, merged, tabled}
 
 -- ---- parts of lists

@@ -26,7 +26,7 @@ use Rattle.ksql_nodes.proofs.Keys.{key-decides}
 use Rattle.ksql_nodes.proofs.Locality.{gives-fixed}
 use Rattle.ksql_nodes.proofs.Stamps.{gives-keeps}
 use Rattle.meaning_laws.proofs.Lists.{All-of, All-passes}
-use Rattle.topology.specs.Contents.{is_to}
+use Rattle.ksql_place.specs.Routing.{is_to}
 use Rattle.lane_laws.specs.Lanes.{HasKey, IsInOwnGroup, IsJoinedByKey, IsKeyed, IsLaned, in_part}
 use Rattle.lane_laws.proofs.Dividing.{divided}
 use Rattle.lane_laws.proofs.KeptKeys.{HasGroups, Key, KeepsKey, gives-key, grouped-keys, kept-keyed, results-keyed, stream-join-keys}

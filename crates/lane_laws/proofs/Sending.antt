@@ -18,7 +18,7 @@ use Rattle.ksql_nodes.specs.Nodes.{gives}
 use Rattle.query_meaning.proofs.ChangeByChange.{changed-from-side}
 use Rattle.meaning_laws.proofs.Forks.{IsBefore, Rise, before-less}
 use Rattle.meaning_laws.proofs.Lists.{Pairwise, Pairwise-filter, Pairwise-weaker, filter-map}
-use Rattle.topology.specs.Contents.{change_cmp, is_to}
+use Rattle.ksql_place.specs.Routing.{change_cmp, is_to}
 use Rattle.lane_laws.specs.Lanes.{AreLaned, LooksAtNone, in_part}
 use Rattle.lane_laws.proofs.Gathering.{IsBelow, gathered}
 use Rattle.lane_laws.proofs.Inputs.{side-part}

@@ -14,7 +14,7 @@ use Rattle.ksql_nodes.specs.Joins.{join_key}
 use Rattle.ksql_nodes.specs.Nodes.{gives}
 use Rattle.ksql_nodes.specs.Rows.{key_of, values}
 use Rattle.query_meaning.specs.Queries.{entry_cmp}
-use Rattle.topology.specs.Contents.{is_to}
+use Rattle.ksql_place.specs.Routing.{is_to}
 
 -- ---- keys
 

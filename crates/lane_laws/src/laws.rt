@@ -11,7 +11,7 @@ ghost use Rattle.ksql_nodes.specs.declared.node.Node.TheVariants as node;
 ghost use Rattle.ksql_nodes.specs.declared.node.Side.{Side as OneSide};
 ghost use Rattle.ksql_nodes.specs.Entries.{Entry as OneEntry, through};
 ghost use Rattle.ksql_nodes.specs.Nodes.{gives};
-ghost use Rattle.topology.specs.Contents.{is_to};
+ghost use Rattle.ksql_place.specs.Routing.{is_to};
 ghost use Rattle.lane_laws.specs.Lanes.{AreLaned, HasKey, IsInOwnGroup, IsJoinedByKey, IsLaned, in_part};
 
 /// What a node gives for the entries of one partition, with one stream time, is the partition's part of what it gives for

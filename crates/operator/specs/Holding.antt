@@ -1,5 +1,5 @@
 -- What an operator holds, and how changelogs change it.
-use Rattle.std.specs.Prelude.{◌≡◌, ℕ, ◌≤◌, ◌==◌, ◌^◌, Bool, not, List, [], ◌∷◌, ◌++◌, filter, length, All, Option, Some, None, unwrap_or, option_map, ◌⊎◌}
+use Rattle.std.specs.Prelude.{◌≡◌, ℕ, ◌≤◌, ◌==◌, ◌^◌, nat_lt, Bool, false, not, IsTrue, List, [], ◌∷◌, ◌++◌, filter, length, All, Option, Some, None, unwrap_or, option_map, ◌⊎◌}
 use Rattle.std.specs.FinMap as finite
 use Rattle.std.specs.Int.{w64, from_be_bytes}
 use Rattle.ksql_types.specs.declared.relation.StoreEntry.{StoreEntry}
@@ -53,6 +53,18 @@ nothing = committed no_maps
 -- an entry under the number of a store
 abbrev pub in_store : ℕ → StoreEntry → StoreEntry
 in_store number entry = record entry { store = number }
+
+-- whether a number is that of one of a node's stores
+abbrev pub is_store_of : Node → ℕ → Bool
+is_store_of (Table relation) number = number == 0
+is_store_of (JoinStreamTable kind on left right) number = number == 1
+is_store_of (JoinTables kind left right) number = nat_lt number 2
+is_store_of (Aggregate over aggs window) number = number == 2
+is_store_of node number = false
+
+-- each entry of a log is of one of a node's stores
+abbrev pub IsOwnLog : Node → List StoreEntry → Type 0
+IsOwnLog node log = All (λ entry. IsTrue (is_store_of node entry.store)) log
 
 -- the stream time stands under the key without bytes
 abbrev pub is_of_time : StoreEntry → Bool

@@ -22,7 +22,7 @@ HasShortArguments aggs c = IfSome (row_in c.body) (λ row. All (λ a. IsShort (a
 abbrev pub IsShortAt : Node → ℕ → Change → Type 0
 IsShortAt (Table relation) side c = HasShortRow c
 IsShortAt (JoinStreamTable kind on left right) side c = side ≡ 1 → HasShortRow c
-IsShortAt (JoinTables kind left right) side c = HasShortRow c
+IsShortAt (JoinTables kind left right) side c = (side < 2) × HasShortRow c
 IsShortAt (Aggregate over aggs window) side c = (suc (length aggs) < 2 ^ 32) × HasShortArguments aggs c
 IsShortAt node side c = Unit {0}
 

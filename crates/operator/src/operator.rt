@@ -4,7 +4,7 @@ ghost use Rattle.ksql_place.specs.declared.change.Change.{Change as OneChange};
 ghost use Rattle.ksql_nodes.specs.declared.node.Node.{Node};
 ghost use Rattle.ksql_nodes.specs.Entries.{Entry};
 ghost use Rattle.ksql_nodes.specs.Nodes.{gives};
-ghost use Rattle.operator.specs.Holding.{Held, Maps, maps_of, committed, no_maps, replayed, IsLoadable, IsBaseOf};
+ghost use Rattle.operator.specs.Holding.{Held, Maps, maps_of, committed, no_maps, replayed, IsLoadable, IsOwnLog, IsBaseOf};
 ghost use Rattle.operator.specs.StandsFor.{StandsFor};
 ghost use Rattle.operator.specs.Storable.{IsStorable};
 
@@ -51,6 +51,7 @@ pub trait StoredOperator: Operator {
         ensures replayed { IfOk result (λ log. (base : Maps) → IsBaseOf base (Self.held self.old) →
             replayed (Self.node self.old) base log ≡ maps_of (Self.held self.old)) }
         ensures loadable { IfOk result (IsLoadable (Self.node self.old)) }
+        ensures own { IfOk result (IsOwnLog (Self.node self.old)) }
         ensures committed { OnOk result (Self.held self.new ≡ committed (maps_of (Self.held self.old))) }
         ensures kept { OnErr result (Self.held self.new ≡ Self.held self.old) };
 

@@ -1,12 +1,10 @@
 -- What stands in each partition of each topic: each task goes over the entries of its own partition alone, and each change that it
 -- sends goes to the partition of its key (Kafka Streams developer guide, "Architecture": a task for each partition).
-use Rattle.std.specs.Prelude.{ℕ, zero, suc, ◌==◌, if◌then◌else◌, Bool, List, [], ◌∷◌, ◌++◌, map, filter, flat_map, Option, Some, None, unwrap_or, option_map, slice_get}
+use Rattle.std.specs.Prelude.{ℕ, zero, suc, ◌==◌, if◌then◌else◌, List, [], ◌∷◌, ◌++◌, map, filter, flat_map, Option, Some, None, slice_get}
 use Rattle.std.specs.List.{range_with_len}
-use Rattle.std.specs.declared.cmp.Ordering.{Ordering}
-use Rattle.ksql_types.specs.Lane.{lane}
 use Rattle.ksql_types.specs.declared.topic.TopicSpec.{TopicSpec}
 use Rattle.ksql_place.specs.Ascending.{ascending}
-use Rattle.ksql_place.specs.Order.{place_cmp}
+use Rattle.ksql_place.specs.Routing.{change_cmp, is_to, partitions_of}
 use Rattle.ksql_place.specs.Said.{said}
 use Rattle.ksql_place.specs.declared.change.Change.{Change}
 use Rattle.ksql_place.specs.declared.change.SourceRecord.{SourceRecord}
@@ -57,19 +55,9 @@ task_results sub has part = through (map (gives 1) sub.nodes) (task_entries sub.
 
 -- ---- a topic
 
-abbrev pub change_cmp : Change → Change → Ordering
-change_cmp a b = place_cmp a.place b.place
-
--- the partition among n to which a change goes: the lane of its key, and without one that of its record
-abbrev pub is_to : ℕ → ℕ → Change → Bool
-is_to n part c = lane c.key n c.place.stamp.part == part
-
 -- what all tasks of a sub-topology send to a partition among n, in place order
 abbrev pub sent : Sub → Contents → ℕ → ℕ → List Change
 sent sub has n part = ascending change_cmp (flat_map (λ task. filter (is_to n part) (task_results sub has task)) (range_with_len 0 sub.partitions))
-
-abbrev pub partitions_of : List TopicSpec → ℕ → ℕ
-partitions_of topics number = unwrap_or (option_map (λ t. t.partitions) (slice_get topics number)) 1
 
 -- the contents after a sub-topology, which writes its topic
 abbrev pub with_sub : List TopicSpec → Contents → Sub → Contents

@@ -37,7 +37,8 @@ use Rattle.meaning_laws.proofs.RelationColumns.{AreChangesOf, meant-changes}
 use Rattle.meaning_laws.proofs.RelationPlaces.{meant-rise}
 use Rattle.meaning_laws.proofs.RelationTables.{TurnsIn, meant-turned}
 use Rattle.meaning_laws.proofs.Turning.{changed-from-side}
-use Rattle.topology.specs.Contents.{Contents, contents, contents_from, is_to, partitions_of, source_contents, with_sub}
+use Rattle.ksql_place.specs.Routing.{is_to, partitions_of}
+use Rattle.topology.specs.Contents.{Contents, contents, contents_from, source_contents, with_sub}
 use Rattle.topology.specs.Stages.{stages_of}
 use Rattle.topology.specs.Topologies.{cut_topics, cuts_of, relation_topic, stages_at, subs, subs_from, subs_of, topics_from, topology_of}
 use Rattle.topology.specs.declared.stage.Stage.{Stage}

@@ -27,7 +27,8 @@ use Rattle.meaning_laws.proofs.RelationPlaces.{whole-rise}
 use Rattle.meaning_laws.proofs.Rising.{RiseAt, base, gives-rising, results-rise, triggers}
 use Rattle.meaning_laws.proofs.Sides.{both-rise, lefts-rise}
 use Rattle.meaning_laws.proofs.Turning.{changed-from-side}
-use Rattle.topology.specs.Contents.{Contents, is_to, task_entries, with_cells}
+use Rattle.ksql_place.specs.Routing.{is_to}
+use Rattle.topology.specs.Contents.{Contents, task_entries, with_cells}
 use Rattle.topology.specs.Stages.{is_rekeyed, table_of}
 use Rattle.topology.specs.declared.topology.SubInput.{SubInput}
 use Rattle.lane_laws.specs.Lanes.{AreLaned, HasKey, IsJoinedByKey, in_part, merged}

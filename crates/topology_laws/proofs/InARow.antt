@@ -12,7 +12,7 @@ use Rattle.ksql_nodes.specs.Nodes.{gives}
 use Rattle.meaning_laws.proofs.Forks.{Rise}
 use Rattle.meaning_laws.proofs.Rising.{IsPlain, gives-rising, rise-next, through-rise}
 use Rattle.meaning_laws.proofs.Turning.{changed-from-side}
-use Rattle.topology.specs.Contents.{change_cmp, is_to}
+use Rattle.ksql_place.specs.Routing.{change_cmp, is_to}
 use Rattle.lane_laws.specs.Lanes.{AreLaned, LooksAtNone, in_part}
 use Rattle.lane_laws.proofs.Sending.{laned-through, sent-whole}
 

@@ -13,7 +13,7 @@ use Rattle.ksql_program.specs.declared.query.Shape.{Shape}
 use Rattle.ksql_program.specs.declared.query.Shape.TheVariants.{Plain, Group}
 use Rattle.ksql_nodes.proofs.Lists.{All-append}
 use Rattle.query_meaning.specs.Queries.{lanes_of}
-use Rattle.topology.specs.Contents.{partitions_of}
+use Rattle.ksql_place.specs.Routing.{partitions_of}
 use Rattle.topology.specs.Stages.{are_own_key, is_rekeyed, rekey_from, rekey_stages, shape_stages, stages_of}
 use Rattle.topology.specs.Topologies.{cuts_of, relation_topic, topics_from}
 use Rattle.topology.specs.declared.stage.Link.{Link}

@@ -29,7 +29,8 @@ use Rattle.meaning_laws.proofs.Forks.{Rise}
 use Rattle.meaning_laws.proofs.RelationColumns.{AreChangesOf}
 use Rattle.meaning_laws.proofs.RelationTables.{TurnsIn}
 use Rattle.meaning_laws.proofs.Turning.{changed-from-side}
-use Rattle.topology.specs.Contents.{Contents, contents_from, is_to, partitions_of, sent, task_entries, with_sub}
+use Rattle.ksql_place.specs.Routing.{is_to, partitions_of}
+use Rattle.topology.specs.Contents.{Contents, contents_from, sent, task_entries, with_sub}
 use Rattle.topology.specs.Stages.{are_own_key, aggregate_nodes, inputs_of, is_rekeyed, rekey_stages, shape_stages, stages_of}
 use Rattle.topology.specs.Topologies.{cuts_of, input_of, place_of, sub_of, subs_from, topic_of}
 use Rattle.topology.specs.declared.stage.CutName.{CutName}

@@ -33,7 +33,8 @@ use Rattle.meaning_laws.proofs.Lists.{Pairwise, Pairwise-filter}
 use Rattle.meaning_laws.proofs.RelationPlaces.{flat-rise}
 use Rattle.meaning_laws.proofs.Saying.{placed_at}
 use Rattle.meaning_laws.proofs.Turning.{AreTurned, changed-from-side}
-use Rattle.topology.specs.Contents.{is_to, source_changes, source_contents}
+use Rattle.ksql_place.specs.Routing.{is_to}
+use Rattle.topology.specs.Contents.{source_changes, source_contents}
 use Rattle.lane_laws.specs.Lanes.{IsKeyed, tabled}
 use Rattle.topology_laws.specs.Fed.{IsInItsPartition}
 use Rattle.topology_laws.proofs.Raw.{IsRaw}

@@ -35,7 +35,8 @@ use Rattle.meaning_laws.proofs.Cuts.{rises-first}
 use Rattle.meaning_laws.proofs.Lists.{All-map, All-of, All-weaker, filter-map, filter-swap, first-filter, first-map, Pairwise-from_all}
 use Rattle.meaning_laws.proofs.Saying.{placed_at, saying-keeps, flat-each}
 use Rattle.meaning_laws.proofs.StampOrder.{passes, enters, PassesAfter, first-append}
-use Rattle.topology.specs.Contents.{Contents, change_cmp, contents_from, is_to, partitions_of, sent, side_entries, source_changes, source_contents, task_entries, task_results, with_cells, with_sub}
+use Rattle.ksql_place.specs.Routing.{change_cmp, is_to, partitions_of}
+use Rattle.topology.specs.Contents.{Contents, contents_from, sent, side_entries, source_changes, source_contents, task_entries, task_results, with_cells, with_sub}
 use Rattle.topology.specs.declared.topology.Sub.{Sub}
 use Rattle.topology.specs.declared.topology.SubInput.{SubInput}
 use Rattle.topology.specs.declared.topology.Topology.{Topology}

@@ -32,7 +32,8 @@ use Rattle.meaning_laws.proofs.Lists.{All-ascending, All-both, All-filter, All-o
 use Rattle.meaning_laws.proofs.RelationColumns.{said-filled}
 use Rattle.meaning_laws.proofs.RowTypes.{BodyHas, RowHas, filled-columns}
 use Rattle.meaning_laws.proofs.Sizes.{All-flat_map}
-use Rattle.topology.specs.Contents.{Contents, change_cmp, contents, contents_from, is_to, partitions_of, sent, source_changes, source_contents, task_results, with_sub}
+use Rattle.ksql_place.specs.Routing.{change_cmp, is_to, partitions_of}
+use Rattle.topology.specs.Contents.{Contents, contents, contents_from, sent, source_changes, source_contents, task_results, with_sub}
 use Rattle.topology.specs.Stages.{stages_of}
 use Rattle.topology.specs.Topologies.{cuts_of, place_of, stages_at, subs, subs_from, subs_of, topology_of}
 use Rattle.topology.specs.declared.stage.CutName.{CutName}

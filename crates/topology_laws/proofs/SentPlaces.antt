@@ -35,7 +35,8 @@ use Rattle.meaning_laws.proofs.Lists.{Pairwise-filter}
 use Rattle.meaning_laws.proofs.RelationColumns.{AreChangesOf}
 use Rattle.meaning_laws.proofs.RelationTables.{TurnsIn}
 use Rattle.meaning_laws.proofs.Turning.{changed-from-side}
-use Rattle.topology.specs.Contents.{Contents, contents, contents_from, is_to, partitions_of, sent, source_changes, source_contents, task_entries, with_sub}
+use Rattle.ksql_place.specs.Routing.{is_to, partitions_of}
+use Rattle.topology.specs.Contents.{Contents, contents, contents_from, sent, source_changes, source_contents, task_entries, with_sub}
 use Rattle.topology.specs.Stages.{aggregate_nodes, are_own_key, inputs_of, is_rekeyed, rekey_stages, shape_stages, stages_of, table_of}
 use Rattle.topology.specs.Topologies.{cuts_of, input_of, sub_of, subs_from, topology_of}
 use Rattle.topology.specs.declared.stage.CutName.{CutName}

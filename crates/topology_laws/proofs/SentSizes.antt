@@ -35,7 +35,8 @@ use Rattle.meaning_laws.proofs.Lists.{All-ascending, All-filter, All-map, All-of
 use Rattle.meaning_laws.proofs.RelationTables.{reads-kind}
 use Rattle.meaning_laws.proofs.Saying.{placed_at}
 use Rattle.meaning_laws.proofs.Sizes.{All-flat_map, IsSized, entries-give, growth, node-sized, results-give}
-use Rattle.topology.specs.Contents.{Contents, change_cmp, contents, contents_from, is_to, partitions_of, sent, side_entries, source_changes, source_contents, task_entries, task_results, with_cells, with_sub}
+use Rattle.ksql_place.specs.Routing.{change_cmp, is_to, partitions_of}
+use Rattle.topology.specs.Contents.{Contents, contents, contents_from, sent, side_entries, source_changes, source_contents, task_entries, task_results, with_cells, with_sub}
 use Rattle.topology.specs.Stages.{aggregate_nodes, are_own_key, input_nodes, is_rekeyed, rekey_from, rekey_stages, shape_stages, stages_of, table_of}
 use Rattle.topology.specs.Topologies.{cuts_of, stages_at, subs, subs_from, subs_of, topology_of}
 use Rattle.topology.specs.declared.stage.CutName.{CutName}

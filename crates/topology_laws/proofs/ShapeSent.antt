@@ -32,7 +32,8 @@ use Rattle.meaning_laws.proofs.Forks.{Rise}
 use Rattle.meaning_laws.proofs.RelationColumns.{AreChangesOf}
 use Rattle.meaning_laws.proofs.RelationTables.{TurnsIn, reads-kind, reads-unwindowed}
 use Rattle.meaning_laws.proofs.Lists.{All-map}
-use Rattle.topology.specs.Contents.{Contents, contents_from, is_to, partitions_of, sent, task_entries, with_sub}
+use Rattle.ksql_place.specs.Routing.{is_to, partitions_of}
+use Rattle.topology.specs.Contents.{Contents, contents_from, sent, task_entries, with_sub}
 use Rattle.topology.specs.Stages.{are_own_key, aggregate_nodes, input_nodes, inputs_of, shape_stages, table_of}
 use Rattle.topology.specs.Topologies.{input_of, place_of, sub_of, subs_from}
 use Rattle.topology.specs.declared.stage.CutName.{CutName}

@@ -1,7 +1,8 @@
 -- What stands in the topics after one sub-topology, and how the repartition topics of a query are numbered.
 use Rattle.std.proofs.Common.{◌≡◌, ◌∙◌, ap, refl, sym, subst, ℕ, ◌+◌, ◌<◌, eq-eqb, ne_eqb, List, [], ◌∷◌, ◌++◌, length, Bool, true, false, if◌then◌else◌, arith}
 use Rattle.ksql_types.specs.declared.topic.TopicSpec.{TopicSpec}
-use Rattle.topology.specs.Contents.{Contents, partitions_of, sent, with_sub}
+use Rattle.ksql_place.specs.Routing.{partitions_of}
+use Rattle.topology.specs.Contents.{Contents, sent, with_sub}
 use Rattle.topology.specs.Topologies.{is_same_cut, place_of}
 use Rattle.topology.specs.declared.stage.CutName.{CutName}
 use Rattle.topology.specs.declared.stage.CutName.TheVariants as cut

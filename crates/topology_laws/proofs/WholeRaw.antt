@@ -23,7 +23,8 @@ use Rattle.meaning_laws.proofs.Forks.{IsBefore, Rise}
 use Rattle.meaning_laws.proofs.EachRelation.{AreAmong, Each, each-at}
 use Rattle.meaning_laws.proofs.RelationColumns.{AreChangesOf}
 use Rattle.meaning_laws.proofs.RowTypes.{IsChangeOf, KeyHas, KeyOf}
-use Rattle.topology.specs.Contents.{is_to, with_cells}
+use Rattle.ksql_place.specs.Routing.{is_to}
+use Rattle.topology.specs.Contents.{with_cells}
 use Rattle.lane_laws.specs.Lanes.{HasKey, IsKeyed, tabled}
 use Rattle.lane_laws.proofs.Inputs.{cells-part, tabled-cells}
 use Rattle.topology_laws.proofs.Raw.{IsRaw}
