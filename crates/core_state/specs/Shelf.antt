@@ -46,6 +46,15 @@ pub record ShelfOpens (r : Routes) (b : Shelf) : Type 0 where
   pub newest : (u : TaskName) → IsWriter r u → b.newest u ≡ 1
   pub logs : (u : TaskName) → IsWriter r u → b.logs u ≡ []
 
+-- nothing changes
+pub record ShelfStays (r : Routes) (b next : Shelf) : Type 0 where
+  pub fed : next.fed ≡ b.fed
+  pub shown : (topic q : ℕ) → next.shown topic q ≡ b.shown topic q
+  pub waiting : (u : TaskName) → IsWriter r u → (q : ℕ) → next.waiting u q ≡ b.waiting u q
+  pub done : (u : TaskName) → IsWriter r u → next.done u ≡ b.done u
+  pub newest : (u : TaskName) → IsWriter r u → next.newest u ≡ b.newest u
+  pub logs : (u : TaskName) → IsWriter r u → next.logs u ≡ b.logs u
+
 -- a feed of records becomes visible, and nothing else changes
 pub record ShelfFeeds (r : Routes) (records : List SourceRecord) (b next : Shelf) : Type 0 where
   pub fed : next.fed ≡ b.fed + 1

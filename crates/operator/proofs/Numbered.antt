@@ -1,12 +1,13 @@
 -- Changelogs under the number of a store.
-use Rattle.std.proofs.Common.{◌≡◌, ◌∙◌, ap, ap₂, refl, sym, ℕ, Bool, true, cond, List, [], ◌∷◌, ◌++◌, map, eq-eqb}
-use Rattle.std.specs.Prelude.{◌==◌}
+use Rattle.std.proofs.Common.{◌≡◌, ◌∙◌, ap, ap₂, refl, ℕ, Bool, cond, List, [], ◌∷◌, ◌++◌, map, eq-eqb}
+use Rattle.std.specs.Prelude.{◌==◌, IsTrue}
 use Rattle.std.proofs.lemmas.List.{append-nil}
-use Rattle.std.proofs.lemmas.List.Elements.{filter-append}
+use Rattle.std.proofs.lemmas.List.Elements.{filter-append, All-append, All-map}
 use Rattle.std.specs.Str.{bytes_eq}
 use Rattle.ksql_types.specs.declared.relation.StoreEntry.{StoreEntry}
+use Rattle.ksql_nodes.specs.declared.node.Node.{Node}
 use Rattle.state_store.specs.Store.{Values, Content, with_value, replay, numbered, last_of_each, change_of, changes_of}
-use Rattle.operator.specs.Holding.{in_store}
+use Rattle.operator.specs.Holding.{in_store, is_store_of, IsOwnLog}
 
 -- a store's own changes have the number 0
 changes-own : (m : Values) (keys : List (List ℕ)) → numbered 0 (map (change_of m) keys) ≡ map (change_of m) keys
@@ -50,3 +51,20 @@ replay-right base left log =
     ap (replay base) (filter-append (λ (entry : StoreEntry). entry.store == 1) (changes_of left) (map (in_store 1) log)
     ∙ ap (λ (rest : List StoreEntry). rest ++ numbered 1 (map (in_store 1) log)) (none-of-left left.map (last_of_each bytes_eq left.written)))
     ∙ replay-numbered 1 base log
+
+-- ---- logs whose entries are all of a node's stores
+
+-- the changes of a store, where 0 is the number of one of the node's stores
+pub own-changes : (node : Node) (c : Content) → IsTrue (is_store_of node 0) → IsOwnLog node (changes_of c)
+own-changes node c zero =
+    All-map (λ (entry : StoreEntry). IsTrue (is_store_of node entry.store)) (change_of c.map) (last_of_each bytes_eq c.written) (λ i d below. zero)
+
+-- entries under the number of one of the node's stores
+pub own-in_store : (node : Node) (number : ℕ) (log : List StoreEntry) → IsTrue (is_store_of node number) → IsOwnLog node (map (in_store number) log)
+own-in_store node number log own =
+    All-map (λ (entry : StoreEntry). IsTrue (is_store_of node entry.store)) (in_store number) log (λ i d below. own)
+
+-- the log of two stores
+pub own-both : (node : Node) (left : Content) (log : List StoreEntry) → IsTrue (is_store_of node 0) → IsTrue (is_store_of node 1) → IsOwnLog node (changes_of left ++ map (in_store 1) log)
+own-both node left log zero one =
+    All-append (λ (entry : StoreEntry). IsTrue (is_store_of node entry.store)) (changes_of left) (map (in_store 1) log) (own-changes node left zero) (own-in_store node 1 log one)

@@ -1,10 +1,9 @@
 -- What a table keeps of its entries, and of one more.
-use Rattle.std.proofs.Common.{◌≡◌, ◌∙◌, ap, refl, sym, List, [], ◌∷◌, ◌++◌, ℕ, Bool, true, false, cond}
+use Rattle.std.proofs.Common.{◌≡◌, ◌∙◌, ap, refl, List, [], ◌∷◌, ◌++◌, ℕ, Bool, true, false, cond}
 use Rattle.std.specs.Prelude.{Option, None, Some, IfSome, option_map, option_and_then, unwrap_or}
 use Rattle.std.proofs.lemmas.List.{append-nil}
 use Rattle.std.specs.List.{AllByRecursion, filter, last_or}
 use Rattle.std.specs.Str.{bytes_eq}
-use Rattle.ksql_types.specs.declared.value.Value.{Value}
 use Rattle.ksql_place.specs.Said.{row_in}
 use Rattle.ksql_place.specs.declared.change.Body.TheVariants.{Turned}
 use Rattle.ksql_place.specs.declared.change.Change.{Change}

@@ -1,0 +1,3 @@
+pub mod Order
+pub mod Ready
+pub mod Shelves

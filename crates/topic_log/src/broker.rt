@@ -1,0 +1,165 @@
+//! The broker and its calls.
+ghost use Rattle.std.specs.Prelude.{◌≡◌, ◌+◌, ◌<◌, ◌^◌, All, IfErr, IfOk, IsSome, OnErr, OnOk, Some, length};
+ghost use Rattle.ksql_place.specs.Ascending.{Rises};
+ghost use Rattle.ksql_place.specs.Order.{record_cmp};
+ghost use Rattle.core_state.specs.declared.log.Proposal.{Proposal as OneProposal};
+ghost use Rattle.core_state.specs.Routes.{IsWriter};
+ghost use Rattle.core_state.specs.Shelf.{ShelfApplies, ShelfFeeds, ShelfOpens, ShelfRaises, ShelfStays, shelf_closed};
+ghost use Rattle.topic_log.specs.declared.prepared.Prepared.{Prepared as OnePrepared};
+ghost use Rattle.topic_log.specs.Ready.{IsProposal, IsReady};
+ghost use Rattle.topic_log.specs.Shelves.{AreTopics, IsSourcePart, part_at, routes_in, shelf_of, task_at, topics_of};
+
+use crate::prepared::Prepared;
+use crate::shelves::{Shelves, TaskShelf};
+use core_state::{LogEntry, Proposal};
+use ksql_place::SourceRecord;
+use ksql_types::{StoreEntry, TaskName, TopicSpec};
+use std::alloc::{AllocError, Global};
+use std::collections::BTreeMap;
+use std::marker::Model;
+
+/// The topics of a topology, what was fed to them, and what the tasks committed.
+#[derive(Drop)]
+pub struct Broker {
+    inner: Shelves,
+    // The number of the topic that each sub-topology writes.
+    written: BTreeMap<u32, u32>,
+}
+
+impl Model for Broker {
+    ghost use Rattle.topic_log.specs.declared.shelves.Shelves.{Shelves as OneShelves};
+    ghost use Rattle.std.specs.Prelude.{◌≡◌, ℕ, length, unwrap_or};
+    ghost use Rattle.std.specs.BTreeMap.{get};
+    ghost use Rattle.std.specs.Ordering.{nat_cmp};
+    ghost use Rattle.core_state.specs.Routes.{topic_from};
+    ghost use Rattle.topic_log.specs.Shelves.{AreShelves, topics_of};
+
+    ghost Value = { OneShelves };
+
+    ghost view = { λ b. b.inner };
+
+    ghost invariant = { λ b. AreShelves b.inner
+        × ((sub : ℕ) → unwrap_or (get nat_cmp b.written sub) (length b.inner.topics.items) ≡ topic_from 0 (topics_of b.inner) sub) };
+}
+
+impl Broker {
+    /// Topics to which nothing was fed. The number of each topic is its index, it and its writer have 1 to 64 partitions,
+    /// and no two are written by one sub-topology.
+    pub fn new(alloc: Global, topics: &[TopicSpec]) -> Result<Broker, AllocError>
+        requires { AreTopics topics.now }
+        ensures topics { IfOk result (λ broker. topics_of broker ≡ topics.now) }
+        ensures opens { IfOk result (λ broker. ShelfOpens (routes_in broker) (shelf_of broker)) }
+    {
+        unreachable!()
+    }
+
+    /// Makes a feed of records visible, and answers its number. The stamps of the records ascend, are of the feed after the
+    /// last one, and stand in partitions of topics that no task writes. After an error the broker has what it had.
+    pub fn feed(&mut self, alloc: Global, records: Vec<SourceRecord>) -> Result<u64, AllocError>
+        requires room { self.old.fed + 1 < 2 ^ 64 }
+        requires ascends { Rises record_cmp records.items }
+        requires next_feed { All (λ r. r.stamp.feed ≡ self.old.fed + 1) records.items }
+        requires sources { All (λ r. IsSourcePart self.old r.stamp.topic r.stamp.part) records.items }
+        ensures topics { topics_of self.new ≡ topics_of self.old }
+        ensures feeds { OnOk result (ShelfFeeds (routes_in self.old) records.items (shelf_of self.old) (shelf_of self.new)) }
+        ensures number { IfOk result (λ feed. feed ≡ self.new.fed) }
+        ensures kept { OnErr result (ShelfStays (routes_in self.old) (shelf_of self.old) (shelf_of self.new)) }
+    {
+        unreachable!()
+    }
+
+    /// The last feed.
+    pub fn fed(&self) -> u64
+        ensures { result ≡ (shelf_of self.now).fed }
+    {
+        self.inner.fed
+    }
+
+    /// The feed up to which a topic is closed: the last one of a source, and the least that its writers committed of
+    /// another. The topic is one of the broker's.
+    pub fn closed(&self, topic: u32) -> u64
+        requires { topic < length (topics_of self.now) }
+        ensures { result ≡ shelf_closed (routes_in self.now) (shelf_of self.now) topic }
+    {
+        unreachable!()
+    }
+
+    /// The entries of a partition up to its topic's closed feed, in the order of their places. The topic is one of the
+    /// broker's, and the partition one of its partitions.
+    pub fn visible(&self, topic: u32, part: u32) -> &[LogEntry]
+        requires { IsSome (part_at self.now topic part) }
+        ensures { result.now ≡ (shelf_of self.now).shown topic part }
+    {
+        unreachable!()
+    }
+
+    /// The last feed that a task committed.
+    pub fn done(&self, task: TaskName) -> u64
+        requires { IsWriter (routes_in self.now) task }
+        ensures { result ≡ (shelf_of self.now).done task }
+    {
+        self.task(task).done
+    }
+
+    /// The newest generation of a task.
+    pub fn newest(&self, task: TaskName) -> u64
+        requires { IsWriter (routes_in self.now) task }
+        ensures { result ≡ (shelf_of self.now).newest task }
+    {
+        self.task(task).newest
+    }
+
+    /// The changelog of a task's stores.
+    pub fn logs(&self, task: TaskName) -> &[StoreEntry]
+        requires { IsWriter (routes_in self.now) task }
+        ensures { result.now ≡ (shelf_of self.now).logs task }
+    {
+        self.task(task).logs.as_slice()
+    }
+
+    /// Takes all memory of a proposal's commit. What the broker has stays as it is. After an error it hands the proposal
+    /// back.
+    pub fn prepare(&mut self, alloc: Global, proposal: Proposal) -> Result<Prepared, Proposal>
+        requires writer { IsWriter (routes_in self.old) proposal.task }
+        requires proposal { IsProposal proposal }
+        ensures topics { topics_of self.new ≡ topics_of self.old }
+        ensures kept { ShelfStays (routes_in self.old) (shelf_of self.old) (shelf_of self.new) }
+        ensures ready { IfOk result (λ made. IsReady self.new made proposal) }
+        ensures back { IfErr result (λ back. back ≡ proposal) }
+    {
+        unreachable!()
+    }
+
+    /// Commits a proposal: what its task is done with, its outputs and its changelog entries become part of the broker at
+    /// once. Outputs wait until their topic's closed feed reaches them. The proposal begins where the task is done. Takes
+    /// no memory.
+    pub fn apply(&mut self, prepared: Prepared)
+        requires ready { (p : OneProposal) × IsReady self.old prepared p }
+        requires begins { (shelf_of self.old).done prepared.task ≡ prepared.from }
+        ensures topics { topics_of self.new ≡ topics_of self.old }
+        ensures applies { (p : OneProposal) → IsReady self.old prepared p →
+            ShelfApplies (routes_in self.old) p.task p (shelf_of self.old) (shelf_of self.new) }
+    {
+        unreachable!()
+    }
+
+    /// Raises a task's newest generation, and answers it. Takes no memory; what is ready to be committed stays so.
+    pub fn raise(&mut self, task: TaskName) -> u64
+        requires writer { IsWriter (routes_in self.old) task }
+        requires room { (shelf_of self.old).newest task + 1 < 2 ^ 64 }
+        ensures topics { topics_of self.new ≡ topics_of self.old }
+        ensures raises { ShelfRaises (routes_in self.old) task (shelf_of self.old) (shelf_of self.new) }
+        ensures number { result ≡ (shelf_of self.new).newest task }
+        ensures ready { (made : OnePrepared) (p : OneProposal) → IsReady self.old made p → IsReady self.new made p }
+    {
+        unreachable!()
+    }
+
+    /// What is kept of a task.
+    fn task(&self, task: TaskName) -> &TaskShelf
+        requires { IsWriter (routes_in self.now) task }
+        ensures { task_at self.now task ≡ Some result.now }
+    {
+        unreachable!()
+    }
+}

@@ -1,0 +1,10 @@
+//! The broker: what the partitions of topics show, what waits until its topic is closed, and what each task committed.
+#![tactic(auto)]
+
+mod broker;
+mod prepared;
+mod shelves;
+
+pub use broker::Broker;
+pub use core_state::{Journal, JournalEntry, LogEntry, Proposal};
+pub use prepared::Prepared;
