@@ -1,6 +1,6 @@
 -- When a state of the core is good: what is shown and what waits is what the topology means up to the feeds that tasks committed, each
 -- once, and the changelogs stand for the entries of these feeds.
-use Rattle.std.specs.Prelude.{◌≡◌, ℕ, ◌<◌, ◌≤◌, List, [], ◌++◌, All, Option, None, Some}
+use Rattle.std.specs.Prelude.{◌≡◌, ℕ, ◌<◌, ◌≤◌, [], ◌++◌, All, Option, None, Some}
 use Rattle.ksql_types.specs.declared.relation.TaskName.{TaskName}
 use Rattle.core_state.specs.declared.log.Proposal.{Proposal}
 use Rattle.core_state.specs.Meaning.{Meaning}

@@ -1,6 +1,9 @@
 pub mod Events
 pub mod Good
+pub mod Law
 pub mod Meaning
 pub mod Routes
 pub mod Shelf
 pub mod State
+pub mod Whole
+pub mod Wired

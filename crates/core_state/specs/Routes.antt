@@ -1,5 +1,5 @@
 -- Which tasks write which topic, and to which of its partitions each of their changes goes.
-use Rattle.std.specs.Prelude.{◌≡◌, ℕ, zero, suc, ◌==◌, if◌then◌else◌, Bool, false, List, [], ◌∷◌, map, filter, flat_map, Contains, Option, Some, None, option_and_then, slice_get}
+use Rattle.std.specs.Prelude.{ℕ, suc, ◌==◌, if◌then◌else◌, Bool, false, List, [], ◌∷◌, map, filter, flat_map, Contains, Option, Some, None, option_and_then, slice_get}
 use Rattle.std.specs.List.{range_with_len}
 use Rattle.ksql_types.specs.Lane.{lane}
 use Rattle.ksql_types.specs.declared.relation.TaskName.{TaskName}

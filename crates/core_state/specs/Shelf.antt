@@ -1,5 +1,5 @@
 -- The broker alone, and the core as a broker, instances and held proposals.
-use Rattle.std.specs.Prelude.{◌≡◌, ℕ, ◌+◌, List, [], ◌++◌, map, filter, All, Option}
+use Rattle.std.specs.Prelude.{◌≡◌, ℕ, ◌+◌, List, [], ◌++◌, map, filter, Option}
 use Rattle.ksql_types.specs.declared.relation.StoreEntry.{StoreEntry}
 use Rattle.ksql_types.specs.declared.relation.TaskName.{TaskName}
 use Rattle.ksql_place.specs.declared.change.Change.{Change}

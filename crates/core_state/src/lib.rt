@@ -3,7 +3,11 @@
 #![tactic(auto)]
 
 mod journal;
+mod laws;
 mod log;
+#[cfg(test)]
+mod tests;
 
 pub use journal::{Journal, JournalEntry};
+pub use laws::events_keep_good;
 pub use log::{LogEntry, Proposal};

@@ -1,0 +1,15 @@
+pub mod Committing
+pub mod Events
+pub mod Example
+pub mod Feeding
+pub mod Feeds
+pub mod Fitting
+pub mod Instances
+pub mod Lifting
+pub mod Lists
+pub mod Meant
+pub mod Running
+pub mod Staging
+pub mod Tasks
+pub mod Whole
+pub mod Wiring
