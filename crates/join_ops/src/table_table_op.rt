@@ -1,4 +1,4 @@
-ghost use Rattle.std.specs.Prelude.{◌≡◌, false, List, [], ◌∷◌, ◌++◌, All, IfOk, OnOk, OnErr, IsTrue};
+ghost use Rattle.std.specs.Prelude.{◌≡◌, ◌<◌, false, List, [], ◌∷◌, ◌++◌, All, IfOk, OnOk, OnErr, IsTrue};
 ghost use Rattle.ksql_nodes.specs.declared.node.Node.TheVariants as nodes;
 ghost use Rattle.ksql_nodes.specs.Entries.{Entry};
 ghost use Rattle.ksql_nodes.specs.Joins.{join_tables};
@@ -92,6 +92,7 @@ fn give(
     change: &Change,
     out: &mut Vec<Change>,
 ) -> Result<(), AllocError>
+    requires side { side < 2 }
     requires key { All IsShort change.now.key }
     requires row { HasShortRow change.now }
     ensures next { OnOk result ((es : List Entry) → HoldTables tables.old.left.map tables.old.right.map es →

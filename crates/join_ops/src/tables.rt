@@ -1,5 +1,5 @@
 //! The two tables of a join, each with its store.
-ghost use Rattle.std.specs.Prelude.{◌≡◌, ℕ, List, [], ◌∷◌, ◌++◌, All, IfOk, OnOk, OnErr, map};
+ghost use Rattle.std.specs.Prelude.{◌≡◌, ℕ, ◌<◌, List, [], ◌∷◌, ◌++◌, All, IfOk, OnOk, OnErr, map};
 ghost use Rattle.std.specs.FinMap as finite;
 ghost use Rattle.ksql_nodes.specs.Entries.{Entry, of_key, of_side};
 ghost use Rattle.ksql_nodes.specs.Joins.{other_side};
@@ -45,13 +45,14 @@ impl Tables {
     }
 
     /// Puts a change into the table of its side, and answers the changes that had set the rows of its key. Side 0 is the
-    /// left one and 1 the right one; no table has another side, and it gets an error.
+    /// left one and 1 the right one.
     pub(crate) fn turn(
         &mut self,
         alloc: Global,
         side: u32,
         change: &Change,
     ) -> Result<Latest, AllocError>
+        requires side { side < 2 }
         requires key { All IsShort change.now.key }
         requires row { HasShortRow change.now }
         ensures next { IfOk result (λ latest. (es : List Entry) → HoldTables self.old.left.map self.old.right.map es →
@@ -65,7 +66,7 @@ impl Tables {
         match side {
             0 => turned(&mut self.left, &self.right, alloc, change),
             1 => turned(&mut self.right, &self.left, alloc, change),
-            _ => Err(AllocError),
+            _ => unreachable!(),
         }
     }
 

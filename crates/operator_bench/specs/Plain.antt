@@ -1,5 +1,5 @@
 -- The entries of the benchmark, and the nodes that can take them.
-use Rattle.std.specs.Prelude.{ℕ, ◌≤◌, ◌^◌, List, [], ◌∷◌, length, All, None}
+use Rattle.std.specs.Prelude.{ℕ, ◌<◌, ◌≤◌, ◌^◌, List, [], ◌∷◌, length, All, None}
 use Rattle.ksql_place.specs.declared.change.Change.{Change}
 use Rattle.ksql_expr.specs.declared.typed.AggFun.TheVariants.{CountAll}
 use Rattle.ksql_program.specs.declared.query.Agg.{Agg}
@@ -14,9 +14,9 @@ pub record IsPlain (c : Change) : Type 0 where
   pub key : All IsShort c.key
   pub row : HasShortRow c
 
--- a node can take such changes on each side
+-- a node can take such changes on each of two sides
 abbrev pub TakesPlain : Node → Type 0
-TakesPlain node = (side : ℕ) (c : Change) → IsPlain c → IsStorable node side c
+TakesPlain node = (side : ℕ) (c : Change) → side < 2 → IsPlain c → IsStorable node side c
 
 -- COUNT(*)
 abbrev pub count_all : List Agg

@@ -1,4 +1,5 @@
 //! Operators, each driven over the entries.
+ghost use Rattle.std.specs.Prelude.{◌<◌};
 ghost use Rattle.operator_bench.specs.Plain.{TakesPlain};
 
 use crate::entries::entry;
@@ -12,6 +13,19 @@ struct Sides {
     are_two: bool,
     left_table: bool,
     right_table: bool,
+}
+
+impl Sides {
+    /// The side on which the entry of a number comes in, and whether that is a table's.
+    fn of_entry(self, number: u32) -> (u32, bool)
+        ensures { result.0 < 2 }
+    {
+        if self.are_two && number % 2 == 1 {
+            (1, self.right_table)
+        } else {
+            (0, self.left_table)
+        }
+    }
 }
 
 const STREAM: Sides = Sides {
@@ -105,11 +119,7 @@ fn driven<O: Operator>(
     let mut out = Vec::new(alloc);
     let mut given: u64 = 0;
     for number in 0..entries {
-        let (side, of_table) = if sides.are_two && number % 2 == 1 {
-            (1, sides.right_table)
-        } else {
-            (0, sides.left_table)
-        };
+        let (side, of_table) = sides.of_entry(number);
         let change = entry(alloc, number, of_table)?;
         op.step(alloc, side, &change, &mut out)?;
         given = given.wrapping_add(out.len() as u64);

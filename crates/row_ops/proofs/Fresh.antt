@@ -7,10 +7,10 @@ use Rattle.ksql_expr.specs.declared.typed.Typed.{Typed}
 use Rattle.ksql_nodes.specs.Entries.{Entry}
 use Rattle.ksql_nodes.specs.declared.node.Node.TheVariants.{Table, Filter, Having, Select}
 use Rattle.state_store.specs.Store.{Content, replay, numbered, changes_of}
-use Rattle.operator.specs.Holding.{Maps, maps_of, nothing, unwritten, replayed, IsBaseOf}
+use Rattle.operator.specs.Holding.{Maps, maps_of, nothing, unwritten, replayed, IsBaseOf, IsOwnLog}
 use Rattle.operator.specs.StandsFor.{StandsFor}
 use Rattle.operator.proofs.Fresh.{none, holds-none}
-use Rattle.operator.proofs.Numbered.{replay-changes}
+use Rattle.operator.proofs.Numbered.{replay-changes, own-changes}
 use Rattle.row_ops.specs.declared.rekey_op.Keying.{Keying}
 use Rattle.row_ops.specs.declared.rekey_op.Keying.TheVariants.{Join, Group}
 use Rattle.row_ops.specs.Keying.{node_of}
@@ -48,3 +48,8 @@ pub changes-replayed : {E : Type 0} (relation : ℕ) (rows : Content) (r : Resul
     IfOk r (λ log. (base : Maps) → IsBaseOf base (record nothing { left = rows }) → replayed (Table relation) base log ≡ maps_of (record nothing { left = rows }))
 changes-replayed relation rows (Ok log) is = λ base h. table-replayed relation rows log is base h
 changes-replayed relation rows (Err e) is = tt
+
+-- and they are all of its store
+pub changes-own : {E : Type 0} (relation : ℕ) (rows : Content) (r : Result (List StoreEntry) E) → IfOk r (λ log. log ≡ changes_of rows) → IfOk r (IsOwnLog (Table relation))
+changes-own relation rows (Ok log) is = subst (IsOwnLog (Table relation)) (sym is) (own-changes (Table relation) rows refl)
+changes-own relation rows (Err e) is = tt

@@ -6,4 +6,5 @@ use Rattle.operator_bench.proofs.drive.driven.Goals as goal
 pub step-requires : goal.step-requires
 step-requires g c =
     let change = c.in_ok-change.change in
-    subst (λ (node : Node). IsStorable node c.if-sides.side.0 change) (sym c.loop-number.invariant) (c.requires c.if-sides.side.0 change c.in_ok-change.ensures)
+    let side = c.of_entry-side.result.0 in
+    subst (λ (node : Node). IsStorable node side change) (sym c.loop-number.invariant) (c.requires side change c.of_entry-side.ensures c.in_ok-change.ensures)

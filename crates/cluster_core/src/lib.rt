@@ -1,0 +1,9 @@
+//! The cluster: a broker and the tasks of a topology, and what the steps of a schedule do to them.
+#![tactic(auto)]
+
+mod cluster;
+mod rounds;
+mod sources;
+
+pub use cluster::{Cluster, drive};
+pub use topology::{Lined, Schedule, Step, Topology};
