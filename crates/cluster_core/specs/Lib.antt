@@ -1,3 +1,2 @@
 pub mod Cluster
-pub mod Fitting
 pub mod Progress

@@ -1,16 +1,11 @@
 -- How far a run has come, in numbers alone: what each step of a schedule does to the last feed, to what the tasks are done with, and to
 -- what is left of the files.
 use Rattle.std.specs.Prelude.{ℕ, zero, suc, ◌+◌, ◌==◌, if◌then◌else◌, List, [], ◌∷◌, ◌++◌, length, map, flat_map, take, drop, Option, Some, None, option_map, slice_get, unwrap_or}
-use Rattle.ksql_types.specs.declared.relation.Relation.{Relation}
 use Rattle.ksql_types.specs.declared.relation.TaskName.{TaskName}
-use Rattle.ksql_place.specs.Ascending.{ascending}
-use Rattle.ksql_place.specs.Order.{record_cmp}
 use Rattle.ksql_place.specs.declared.change.SourceRecord.{SourceRecord}
 use Rattle.ksql_program.specs.declared.program.Item.{Item}
-use Rattle.ksql_program.specs.declared.program.Item.TheVariants.{Declared, Started}
-use Rattle.topic_files.specs.declared.topic.Fed.{Fed}
 use Rattle.topic_files.specs.declared.topic.TopicLines.{TopicLines}
-use Rattle.topic_feeds.specs.Feeding.{fed_from}
+use Rattle.feed_laws.specs.Feeds.{Source, after_feed, records_of, sources_of}
 use Rattle.topology.specs.Tasks.{chain_of, tasks_of}
 use Rattle.topology.specs.declared.schedule.Count.{Count}
 use Rattle.topology.specs.declared.schedule.Step.{Step}
@@ -21,12 +16,6 @@ use Rattle.core_state.specs.State.{lowest}
 use Rattle.core_state.specs.declared.journal.JournalEntry.{JournalEntry}
 use Rattle.core_state.specs.declared.journal.JournalEntry.TheVariants as entry
 use Rattle.task_core.specs.Core.{inputs_at}
-
--- a declared relation's topic: the records that were fed to it, and those of its file that are left
-pub record Source : Type 0 where
-  pub relation : Relation
-  pub before : List SourceRecord
-  pub left : List Fed
 
 -- the last feed, what each task is done with, the rounds, the sources, the order of consumption, and what happened
 pub record Progress : Type 0 where
@@ -39,28 +28,13 @@ pub record Progress : Type 0 where
 
 -- ---- the beginning
 
--- the sources of a program, one file for each
-abbrev pub sources_of : List Item → List TopicLines → List Source
-sources_of (Declared r ∷ items) (file ∷ files) = record { relation = r; before = []; left = file.feds } ∷ sources_of items files
-sources_of (Started q ∷ items) files = sources_of items files
-sources_of _ _ = []
-
+-- nothing was fed or done
 abbrev pub opening : List Item → List TopicLines → Progress
 opening items files = record { fed = 0; done = λ u. 0; rounds = 0; sources = sources_of items files; order = []; journal = [] }
 
 -- ---- a feed
 
--- what one feed brings of a source, of which it takes so many records, as far as there are any left
-abbrev pub fed_of : ℕ → (Source → ℕ) → Source → List SourceRecord
-fed_of feed count s = fed_from feed s.relation s.before (take (count s) s.left)
-
-abbrev pub after_feed : ℕ → (Source → ℕ) → Source → Source
-after_feed feed count s = record s { before = s.before ++ fed_of feed count s; left = drop (count s) s.left }
-
--- the records of one feed, in the order of consumption
-abbrev pub records_of : ℕ → (Source → ℕ) → List Source → List SourceRecord
-records_of feed count sources = ascending record_cmp (flat_map (fed_of feed count) sources)
-
+-- a feed that takes so many records of each source, as far as there are any left
 abbrev pub feed : (Source → ℕ) → Progress → Progress
 feed count p =
     let records = records_of (p.fed + 1) count p.sources in

@@ -1,4 +1,13 @@
 //! The cluster and its steps.
+ghost use Rattle.std.specs.Prelude.{◌≡◌, All, IfOk, List};
+ghost use Rattle.ksql_program.specs.Sound.{IsSound};
+ghost use Rattle.ksql_program.specs.declared.program.Item.{Item as OneItem};
+ghost use Rattle.meaning_laws.specs.Windows.{HaveNoWindow};
+ghost use Rattle.topology.specs.Topologies.{topology_of};
+ghost use Rattle.feed_laws.specs.Fitting.{AreFilesOf};
+ghost use Rattle.cluster_core.specs.Cluster.{HasCome, HasRoom, IsQuiet};
+ghost use Rattle.cluster_core.specs.Progress.{Progress, after_step, opening};
+
 use crate::rounds::{advance_all, commit_all};
 use crate::sources::{Amount, Source, feed_sources, sources_of};
 use core_state::JournalEntry;
@@ -24,13 +33,20 @@ pub struct Cluster {
 }
 
 impl Cluster {
-    /// A program's topology before its first step, with the records of the topic files of its declared relations.
+    /// A program's topology before its first step, with the records of the topic files of its declared relations, one file for
+    /// each. The program is sound and has no window.
     pub fn new(
         alloc: Global,
         program: &Program,
         topology: Topology,
         files: Vec<TopicLines>,
-    ) -> Result<Cluster, AllocError> {
+    ) -> Result<Cluster, AllocError>
+        requires sound { IsSound program.now.items }
+        requires windowless { HaveNoWindow program.now.items }
+        requires topology { topology ≡ topology_of program.now.items }
+        requires files { AreFilesOf program.now.items files.items }
+        ensures { IfOk result (HasCome program.now.items (opening program.now.items files.items)) }
+    {
         let broker = Broker::new(alloc, topology.topics.items())?;
         let tasks = fresh_tasks(alloc, topology.subs.items())?;
         let sources = sources_of(alloc, program.items.items(), files)?;
@@ -45,8 +61,13 @@ impl Cluster {
         })
     }
 
-    /// The cluster after a step.
-    pub fn step(self, alloc: Global, step: &Lined) -> Result<Cluster, AllocError> {
+    /// The cluster after a feed, a round without losses, or a drain.
+    pub fn step(self, alloc: Global, step: &Lined) -> Result<Cluster, AllocError>
+        requires quiet { IsQuiet step.now.step }
+        requires come { (items : List OneItem) × (p : Progress) × IsSound items × HaveNoWindow items × HasRoom p × HasCome items p self }
+        ensures { IfOk result (λ next. (items : List OneItem) (p : Progress) → IsSound items → HaveNoWindow items → HasRoom p → HasCome items p self →
+            HasCome items (after_step self.topology p step.now.step) next) }
+    {
         match &step.step {
             Step::FeedAll => self.fed(alloc, &Amount::All),
             Step::Feed(counts) => self.fed(alloc, &Amount::Counted(counts.items())),

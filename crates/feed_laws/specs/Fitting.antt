@@ -2,39 +2,32 @@
 use Rattle.std.specs.Prelude.{◌≡◌, ◌≢◌, ℕ, ◌≤◌, ◌^◌, List, [], ◌∷◌, length, All, Some}
 use Rattle.std.specs.List.{AllPairs}
 use Rattle.ksql_types.specs.declared.relation.Relation.{Relation}
-use Rattle.ksql_place.specs.declared.change.Decoded.{Decoded}
-use Rattle.ksql_place.specs.declared.change.Decoded.TheVariants.{Good}
 use Rattle.ksql_place.specs.declared.change.SourceRecord.{SourceRecord}
 use Rattle.ksql_program.specs.declared.program.Item.{Item}
 use Rattle.ksql_program.specs.declared.program.Item.TheVariants.{Declared, Started}
 use Rattle.ksql_program.specs.Program.{relation_at}
 use Rattle.meaning_laws.specs.Bounds.{IsDecodedOf, IsInTime, IsKeyOf}
 use Rattle.record_codec.specs.Spelling.{IsShort}
-use Rattle.storing_laws.specs.Short.{IsShortRecord}
+use Rattle.storing_laws.specs.Short.{HoldsInDecoded, IsProper, IsShortRecord, IsTextRecord}
 use Rattle.topic_files.specs.declared.topic.Fed.{Fed}
 use Rattle.topic_files.specs.declared.topic.TopicLines.{TopicLines}
 use Rattle.topology_laws.specs.Fed.{IsFed}
 use Rattle.core_state.specs.Wired.{AreCounted}
-use Rattle.cluster_core.specs.Progress.{Progress, Source}
+use Rattle.feed_laws.specs.Feeds.{Source}
 
 -- ---- files
-
--- a good row has short values
-abbrev pub IsShortDecoded : Decoded → Type 0
-IsShortDecoded (Good row) = All IsShort row
-IsShortDecoded _ = Unit {0}
 
 -- a record of a file has a key and a row of its relation's columns, with short values, and a time of at most 2^53
 pub record IsFedOf (r : Relation) (f : Fed) : Type 0 where
   pub key : IsKeyOf r.schema.keys f.key
   pub row : IsDecodedOf r.schema.values f.value
-  pub short_key : All IsShort f.key
-  pub short_row : IsShortDecoded f.value
+  pub proper_key : All IsProper f.key
+  pub proper_row : HoldsInDecoded IsProper f.value
   pub time : f.time ≤ 2 ^ 53
 
 -- there is one file for each declared relation, and its records fit
 abbrev pub AreFilesOf : List Item → List TopicLines → Type 0
-AreFilesOf (Declared r ∷ items) (file ∷ files) = All (IsFedOf r) file.feds × (length file.feds ≤ 2 ^ 32) × AreFilesOf items files
+AreFilesOf (Declared r ∷ items) (file ∷ files) = All (IsFedOf r) file.feds × AreFilesOf items files
 AreFilesOf (Started q ∷ items) files = AreFilesOf items files
 AreFilesOf [] [] = Unit {0}
 AreFilesOf _ _ = ⊥
@@ -47,18 +40,18 @@ pub record Fits (items : List Item) (order : List SourceRecord) : Type 0 where
   pub fed : IsFed items order
   pub in_time : All IsInTime order
   pub short : All IsShortRecord order
+  pub text : All IsTextRecord order
   pub counted : AreCounted order
 
 -- a source is a declared relation's; its records that are left fit, and those before are of feeds up to the last one
 pub record IsSourceOf (items : List Item) (fed : ℕ) (s : Source) : Type 0 where
   pub relation : relation_at items s.relation.number ≡ Some s.relation
-  pub partitions : (1 ≤ s.relation.partitions) × (s.relation.partitions ≤ 64)
+  pub some : 1 ≤ s.relation.partitions
+  pub few : s.relation.partitions ≤ 64
   pub left : All (IsFedOf s.relation) s.left
   pub before : All (λ r. r.stamp.feed ≤ fed) s.before
 
--- how far a run has come is as it should be: its sources differ and are those of the program, and the order of consumption fits
-pub record IsProgress (items : List Item) (p : Progress) : Type 0 where
-  pub sources : All (IsSourceOf items p.fed) p.sources
-  pub apart : AllPairs (λ a b. a.relation.number ≢ b.relation.number) p.sources
-  pub order : Fits items p.order
-  pub none_later : All (λ r. r.stamp.feed ≤ p.fed) p.order
+-- sources of a program after so many feeds; no two are of one relation
+pub record AreSourcesOf (items : List Item) (fed : ℕ) (sources : List Source) : Type 0 where
+  pub each : All (IsSourceOf items fed) sources
+  pub apart : AllPairs (λ a b. a.relation.number ≢ b.relation.number) sources
