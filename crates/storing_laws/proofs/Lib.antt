@@ -1,0 +1,12 @@
+pub mod Texts
+pub mod ShortValues
+pub mod ShortChanges
+pub mod Along
+pub mod StageForms
+pub mod StageTexts
+pub mod PlaceOrder
+pub mod RisingResults
+pub mod ProperContents
+pub mod Storing
+pub mod KeptShort
+pub mod StoredParts

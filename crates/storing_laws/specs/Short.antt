@@ -1,0 +1,132 @@
+-- What is short: values, records, changes, and the texts in the expressions of nodes and of programs.
+use Rattle.std.specs.Prelude.{◌≡◌, suc, ◌<◌, ◌^◌, Bool, false, not, List, length, All, None, Some, IfSome}
+use Rattle.std.specs.List.{AllByRecursion}
+use Rattle.std.specs.Str.{IsUtf8, is_utf8}
+use Rattle.ksql_types.specs.declared.value.Value.{Value}
+use Rattle.ksql_types.specs.declared.value.Value.TheVariants.{Txt}
+use Rattle.ksql_place.specs.declared.change.Body.{Body}
+use Rattle.ksql_place.specs.declared.change.Body.TheVariants.{Said, Turned}
+use Rattle.ksql_place.specs.declared.change.Change.{Change}
+use Rattle.ksql_place.specs.declared.change.Decoded.{Decoded}
+use Rattle.ksql_place.specs.declared.change.Decoded.TheVariants.{Good}
+use Rattle.ksql_place.specs.declared.change.SourceRecord.{SourceRecord}
+use Rattle.ksql_expr.specs.declared.typed.Typed.{Typed}
+use Rattle.ksql_expr.specs.declared.typed.TypedNode.TheOpen.{TypedNode-F}
+use Rattle.ksql_expr.specs.Aggregates.{HoldsShortTexts, holds}
+use Rattle.ksql_program.specs.declared.program.Item.{Item}
+use Rattle.ksql_program.specs.declared.program.Item.TheVariants.{Declared, Started}
+use Rattle.ksql_program.specs.declared.query.From.{From}
+use Rattle.ksql_program.specs.declared.query.From.TheVariants.{One, Join}
+use Rattle.ksql_program.specs.declared.query.Shape.{Shape}
+use Rattle.ksql_program.specs.declared.query.Shape.TheVariants as shape
+use Rattle.ksql_nodes.specs.declared.node.Node.{Node}
+use Rattle.ksql_nodes.specs.declared.node.Node.TheVariants as node
+use Rattle.record_codec.specs.Spelling.{IsShort}
+
+-- ---- values
+
+-- a text is of UTF-8
+abbrev pub IsText : Value → Type 0
+IsText (Txt t) = IsUtf8 t
+IsText v = Unit {0}
+
+-- a short value, of UTF-8 if it is a text: no function makes it long
+abbrev pub IsProper : Value → Type 0
+IsProper v = IsShort v × IsText v
+
+-- ---- records
+
+-- something holds of each value of a good row
+abbrev pub HoldsInDecoded : (Value → Type 0) → Decoded → Type 0
+HoldsInDecoded P (Good row) = All P row
+HoldsInDecoded P _ = Unit {0}
+
+-- a record whose key and row have short values
+abbrev pub IsShortRecord : SourceRecord → Type 0
+IsShortRecord r = All IsShort r.key × HoldsInDecoded IsShort r.value
+
+-- a record whose texts are of UTF-8
+abbrev pub IsTextRecord : SourceRecord → Type 0
+IsTextRecord r = All IsText r.key × HoldsInDecoded IsText r.value
+
+-- ---- changes
+
+-- something holds of each value of each row that a change holds
+abbrev pub HoldsInRows : (Value → Type 0) → Body → Type 0
+HoldsInRows P (Said row) = All P row
+HoldsInRows P (Turned old new) = IfSome old (All P) × IfSome new (All P)
+
+-- something holds of each value of a change, which has no window
+pub record HoldsIn (P : Value → Type 0) (c : Change) : Type 0 where
+  pub key : All P c.key
+  pub rows : HoldsInRows P c.body
+  pub span : c.span ≡ None
+
+-- a change with a short key, short rows, however many values they have, and no window
+abbrev pub IsShortChange : Change → Type 0
+IsShortChange c = HoldsIn IsShort c
+
+-- the same with texts of UTF-8
+abbrev pub IsProperChange : Change → Type 0
+IsProperChange c = HoldsIn IsProper c
+
+-- ---- expressions
+
+-- a text literal that isn't of UTF-8
+abbrev pub is_other_text : TypedNode-F Bool Bool Bool → Bool
+is_other_text (TypedNode-F.Literal (Txt t)) = not (is_utf8 t)
+is_other_text form = false
+
+-- whether an expression holds a text literal that isn't of UTF-8
+unfoldable pub holds_other_text : Typed → Bool
+holds_other_text = holds is_other_text
+
+-- each text literal of an expression is of UTF-8
+abbrev pub HoldsTexts : Typed → Type 0
+HoldsTexts e = holds_other_text e ≡ false
+
+-- each text literal of an expression is short and of UTF-8
+abbrev pub HoldsProperTexts : Typed → Type 0
+HoldsProperTexts e = HoldsShortTexts e × HoldsTexts e
+
+-- ---- nodes
+
+-- each text literal of a node's expressions is short and of UTF-8, and the node has no window
+abbrev pub KeepsProper : Node → Type 0
+KeepsProper (node.Rekey key) = HoldsProperTexts key
+KeepsProper (node.Table relation) = Unit {0}
+KeepsProper (node.JoinStreamTable kind on left right) = HoldsProperTexts on
+KeepsProper (node.JoinTables kind left right) = Unit {0}
+KeepsProper (node.Filter on) = HoldsProperTexts on
+KeepsProper (node.Group keys) = AllByRecursion HoldsProperTexts keys
+KeepsProper (node.Aggregate over aggs None) = AllByRecursion (λ a. IfSome a.arg HoldsProperTexts) aggs
+KeepsProper (node.Aggregate over aggs (Some w)) = ⊥
+KeepsProper (node.Having on) = HoldsProperTexts on
+KeepsProper (node.Select keys values) = AllByRecursion HoldsProperTexts keys × AllByRecursion HoldsProperTexts values
+
+-- an aggregate has fewer aggregates than four bytes can count
+abbrev pub HasFewAggregates : Node → Type 0
+HasFewAggregates (node.Aggregate over aggs window) = suc (length aggs) < 2 ^ 32
+HasFewAggregates _ = Unit {0}
+
+-- ---- programs
+
+-- something holds of the expression in what a query reads, where there is one
+abbrev pub HoldsInFrom : (Typed → Type 0) → From → Type 0
+HoldsInFrom P (One number) = Unit {0}
+HoldsInFrom P (Join kind left right on) = P on
+
+-- something holds of each expression of a shape
+abbrev pub HoldsInShape : (Typed → Type 0) → Shape → Type 0
+HoldsInShape P (shape.Plain keys values) = AllByRecursion P keys × AllByRecursion P values
+HoldsInShape P (shape.Group keys window aggs having values) =
+    AllByRecursion P keys × AllByRecursion (λ a. IfSome a.arg P) aggs × IfSome having P × AllByRecursion P values
+
+-- something holds of each expression of an item
+abbrev pub HoldsInItem : (Typed → Type 0) → Item → Type 0
+HoldsInItem P (Declared r) = Unit {0}
+HoldsInItem P (Started q) = HoldsInFrom P q.from × IfSome q.filter P × HoldsInShape P q.shape
+
+-- each text literal of a program is of UTF-8
+abbrev pub HoldTexts : List Item → Type 0
+HoldTexts items = AllByRecursion (HoldsInItem HoldsTexts) items
