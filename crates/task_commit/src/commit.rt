@@ -28,7 +28,7 @@ pub fn commit(broker: &mut Broker, prepared: Prepared) -> Verdict
         (result ≡ Fenced prepared.generation ((shelf_of broker.old).newest prepared.task)) × (broker.new ≡ broker.old) }
     ensures committed { prepared.generation ≡ (shelf_of broker.old).newest prepared.task →
         (result ≡ Committed) × ((p : OneProposal) → IsReady broker.old prepared p →
-            ShelfApplies (routes_in broker.old) p.task p (shelf_of broker.old) (shelf_of broker.new)) }
+        ShelfApplies (routes_in broker.old) p.task p (shelf_of broker.old) (shelf_of broker.new)) }
 {
     let held = prepared.generation;
     let newest = broker.newest(prepared.task);

@@ -1,5 +1,5 @@
 -- A commit that can be made without memory.
-use Rattle.std.specs.Prelude.{◌≡◌, ℕ, ◌+◌, ◌<◌, ◌≤◌, ◌⊎◌, List, [], length, map, sum, All, IfSome, slice_get, vec_capacity}
+use Rattle.std.specs.Prelude.{◌≡◌, ℕ, ◌+◌, ◌<◌, ◌≤◌, ◌⊎◌, [], length, map, sum, All, IfSome, slice_get, vec_capacity}
 use Rattle.std.specs.VecDeque.{deque_capacity}
 use Rattle.ksql_place.specs.Ascending.{Rises}
 use Rattle.ksql_place.specs.Routing.{change_cmp, partitions_of}

@@ -1,13 +1,11 @@
 -- What the data of a broker stand for, and what is kept of them.
 use Rattle.std.specs.Prelude.{◌≡◌, ℕ, ◌<◌, ◌≤◌, List, [], length, map, All, Option, IfSome, IsSome, option_and_then, option_map, unwrap_or, slice_get}
 use Rattle.std.specs.List.{AllPairs, AllZip}
-use Rattle.ksql_types.specs.declared.relation.StoreEntry.{StoreEntry}
 use Rattle.ksql_types.specs.declared.relation.TaskName.{TaskName}
 use Rattle.ksql_types.specs.declared.topic.TopicSpec.{TopicSpec}
 use Rattle.ksql_place.specs.Ascending.{Rises}
 use Rattle.ksql_place.specs.Routing.{change_cmp}
 use Rattle.ksql_place.specs.declared.change.Change.{Change}
-use Rattle.core_state.specs.declared.log.LogEntry.{LogEntry}
 use Rattle.core_state.specs.Routes.{Routes, routes_of, tasks_of_writer}
 use Rattle.core_state.specs.Shelf.{Shelf}
 use Rattle.core_state.specs.State.{feed_of, lowest}

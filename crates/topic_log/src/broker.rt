@@ -1,16 +1,21 @@
 //! The broker and its calls.
-ghost use Rattle.std.specs.Prelude.{◌≡◌, ◌+◌, ◌<◌, ◌^◌, All, IfErr, IfOk, IsSome, OnErr, OnOk, Some, length};
+ghost use Rattle.std.specs.Prelude.{◌≡◌, ℕ, ◌+◌, ◌<◌, ◌^◌, All, IfErr, IfOk, IsSome, OnErr, OnOk, Some, length};
 ghost use Rattle.ksql_place.specs.Ascending.{Rises};
 ghost use Rattle.ksql_place.specs.Order.{record_cmp};
+ghost use Rattle.ksql_place.specs.Routing.{partitions_of};
 ghost use Rattle.core_state.specs.declared.log.Proposal.{Proposal as OneProposal};
 ghost use Rattle.core_state.specs.Routes.{IsWriter};
 ghost use Rattle.core_state.specs.Shelf.{ShelfApplies, ShelfFeeds, ShelfOpens, ShelfRaises, ShelfStays, shelf_closed};
 ghost use Rattle.topic_log.specs.declared.prepared.Prepared.{Prepared as OnePrepared};
+ghost use Rattle.topic_log.specs.Order.{IsInPlaceOrder};
 ghost use Rattle.topic_log.specs.Ready.{IsProposal, IsReady};
 ghost use Rattle.topic_log.specs.Shelves.{AreTopics, IsSourcePart, part_at, routes_in, shelf_of, task_at, topics_of};
 
-use crate::prepared::Prepared;
-use crate::shelves::{Shelves, TaskShelf};
+use crate::commits::commit;
+use crate::feeds::feed;
+use crate::opening::{fresh_topics, written_topics};
+use crate::prepared::{Prepared, prepare};
+use crate::shelves::{Shelves, TaskShelf, closed_of};
 use core_state::{LogEntry, Proposal};
 use ksql_place::SourceRecord;
 use ksql_types::{StoreEntry, TaskName, TopicSpec};
@@ -50,7 +55,13 @@ impl Broker {
         ensures topics { IfOk result (λ broker. topics_of broker ≡ topics.now) }
         ensures opens { IfOk result (λ broker. ShelfOpens (routes_in broker) (shelf_of broker)) }
     {
-        unreachable!()
+        let written = written_topics(alloc, topics)?;
+        let fresh = fresh_topics(alloc, topics)?;
+        let inner = Shelves {
+            fed: 0,
+            topics: fresh,
+        };
+        Ok(Broker { inner, written })
     }
 
     /// Makes a feed of records visible, and answers its number. The stamps of the records ascend, are of the feed after the
@@ -65,7 +76,7 @@ impl Broker {
         ensures number { IfOk result (λ feed. feed ≡ self.new.fed) }
         ensures kept { OnErr result (ShelfStays (routes_in self.old) (shelf_of self.old) (shelf_of self.new)) }
     {
-        unreachable!()
+        feed(&mut self.inner, alloc, records)
     }
 
     /// The last feed.
@@ -75,22 +86,34 @@ impl Broker {
         self.inner.fed
     }
 
+    /// How many partitions a topic has. The topic is one of the broker's.
+    pub fn partitions(&self, topic: u32) -> u32
+        requires { topic < length (topics_of self.now) }
+        ensures number { result ≡ partitions_of (topics_of self.now) topic }
+        ensures parts { (part : ℕ) → part < result → IsSome (part_at self.now topic part) }
+    {
+        self.inner.topics[topic as usize].spec.partitions
+    }
+
     /// The feed up to which a topic is closed: the last one of a source, and the least that its writers committed of
     /// another. The topic is one of the broker's.
     pub fn closed(&self, topic: u32) -> u64
         requires { topic < length (topics_of self.now) }
         ensures { result ≡ shelf_closed (routes_in self.now) (shelf_of self.now) topic }
     {
-        unreachable!()
+        closed_of(&self.inner.topics[topic as usize].tasks, self.inner.fed)
     }
 
     /// The entries of a partition up to its topic's closed feed, in the order of their places. The topic is one of the
     /// broker's, and the partition one of its partitions.
     pub fn visible(&self, topic: u32, part: u32) -> &[LogEntry]
         requires { IsSome (part_at self.now topic part) }
-        ensures { result.now ≡ (shelf_of self.now).shown topic part }
+        ensures value { result.now ≡ (shelf_of self.now).shown topic part }
+        ensures in_order { IsInPlaceOrder result.now }
     {
-        unreachable!()
+        self.inner.topics[topic as usize].parts[part as usize]
+            .shown
+            .as_slice()
     }
 
     /// The last feed that a task committed.
@@ -127,7 +150,8 @@ impl Broker {
         ensures ready { IfOk result (λ made. IsReady self.new made proposal) }
         ensures back { IfErr result (λ back. back ≡ proposal) }
     {
-        unreachable!()
+        let number = self.output(proposal.task);
+        prepare(&mut self.inner, alloc, number, proposal)
     }
 
     /// Commits a proposal: what its task is done with, its outputs and its changelog entries become part of the broker at
@@ -140,7 +164,8 @@ impl Broker {
         ensures applies { (p : OneProposal) → IsReady self.old prepared p →
             ShelfApplies (routes_in self.old) p.task p (shelf_of self.old) (shelf_of self.new) }
     {
-        unreachable!()
+        let topic = self.output(prepared.task);
+        commit(&mut self.inner.topics[topic], self.inner.fed, prepared);
     }
 
     /// Raises a task's newest generation, and answers it. Takes no memory; what is ready to be committed stays so.
@@ -152,7 +177,10 @@ impl Broker {
         ensures number { result ≡ (shelf_of self.new).newest task }
         ensures ready { (made : OnePrepared) (p : OneProposal) → IsReady self.old made p → IsReady self.new made p }
     {
-        unreachable!()
+        let topic = self.output(task);
+        let kept = &mut self.inner.topics[topic].tasks[task.part as usize];
+        kept.newest += 1;
+        kept.newest
     }
 
     /// What is kept of a task.
@@ -160,6 +188,17 @@ impl Broker {
         requires { IsWriter (routes_in self.now) task }
         ensures { task_at self.now task ≡ Some result.now }
     {
-        unreachable!()
+        let topic = self.output(task);
+        &self.inner.topics[topic].tasks[task.part as usize]
+    }
+
+    /// The number of the topic that a task writes; the number of topics where it writes none.
+    fn output(&self, task: TaskName) -> usize
+        ensures { result ≡ (routes_in self.now).output task }
+    {
+        match self.written.get(&task.sub) {
+            Some(topic) => *topic as usize,
+            None => self.inner.topics.len(),
+        }
     }
 }

@@ -2,9 +2,15 @@
 #![tactic(auto)]
 
 mod broker;
+mod commits;
+mod feeds;
+mod opening;
 mod prepared;
 mod shelves;
 
 pub use broker::Broker;
 pub use core_state::{Journal, JournalEntry, LogEntry, Proposal};
 pub use prepared::Prepared;
+
+#[cfg(test)]
+mod tests;

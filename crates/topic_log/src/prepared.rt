@@ -1,5 +1,19 @@
+//! Commits for which all memory was taken.
+ghost use Rattle.std.specs.Prelude.{◌≡◌, ◌+◌, ◌≤◌, ◌⊎◌, [], IfErr, IfOk, IfSome, OnOk, filter, length, map, slice_get, slice_index, sum, vec_capacity};
+ghost use Rattle.std.specs.VecDeque.{deque_capacity};
+ghost use Rattle.ksql_place.specs.Routing.{is_to};
+ghost use Rattle.core_state.specs.Routes.{IsWriter};
+ghost use Rattle.topic_log.specs.Ready.{HasRoom, IsProposal, IsReady};
+ghost use Rattle.topic_log.specs.Shelves.{AreShelves, routes_in};
+ghost use Rattle.topic_log.specs.Taking.{count_to, HasRoomFor, IsEmptyRoom};
+ghost use Rattle.topic_log.specs.Views.{part_view, task_view, topic_view, topic_views, EachAt};
+
+use crate::shelves::{PartShelf, Shelves, TaskShelf, TopicShelf};
+use core_state::Proposal;
 use ksql_place::Change;
-use ksql_types::{StoreEntry, TaskName};
+use ksql_types::{StoreEntry, TaskName, lane};
+use std::alloc::{AllocError, Global};
+use std::collections::VecDeque;
 
 /// A commit for which all memory was taken: a proposal, with its outputs by the partitions that they go to.
 #[derive(Drop)]
@@ -10,4 +24,199 @@ pub struct Prepared {
     pub to: u64,
     pub(crate) sent: Vec<Vec<Change>>,
     pub(crate) entries: Vec<StoreEntry>,
+}
+
+/// Takes all memory of a proposal's commit in the topic of this number, which its task writes. What the topics have stays
+/// as it is. After an error it hands the proposal back.
+pub(crate) fn prepare(
+    shelves: &mut Shelves,
+    alloc: Global,
+    number: usize,
+    proposal: Proposal,
+) -> Result<Prepared, Proposal>
+    requires shelves { AreShelves shelves.old }
+    requires writer { IsWriter (routes_in shelves.old) proposal.task }
+    requires number { number ≡ (routes_in shelves.old).output proposal.task }
+    requires proposal { IsProposal proposal }
+    ensures shelves { AreShelves shelves.new }
+    ensures views { topic_views shelves.new ≡ topic_views shelves.old }
+    ensures fed { shelves.new.fed ≡ shelves.old.fed }
+    ensures ready { IfOk result (λ made. IsReady shelves.new made proposal) }
+    ensures back { IfErr result (λ back. back ≡ proposal) }
+{
+    let topic = &mut shelves.topics[number];
+    let parts = topic.spec.partitions;
+    match take_room(alloc, topic, &proposal) {
+        Ok(rooms) => Ok(sorted(rooms, proposal, parts)),
+        Err(_) => Err(proposal),
+    }
+}
+
+/// Takes the memory of a proposal's commit in its topic, and answers an empty list for each partition that has room for the
+/// outputs that go there.
+fn take_room(
+    alloc: Global,
+    topic: &mut TopicShelf,
+    proposal: &Proposal,
+) -> Result<Vec<Vec<Change>>, AllocError>
+    requires some { 1 ≤ topic.old.spec.partitions }
+    requires few { topic.old.spec.partitions ≤ 64 }
+    requires parts { length topic.old.parts.items ≡ topic.old.spec.partitions }
+    ensures view { topic_view topic.new ≡ topic_view topic.old }
+    ensures len { IfOk result (λ rooms. length rooms.items ≡ topic.old.spec.partitions) }
+    ensures rooms { IfOk result (λ rooms.
+        EachAt (λ q room. IsEmptyRoom (count_to topic.old.spec.partitions proposal.now.outputs q) room) rooms.items) }
+    ensures room { OnOk result (HasRoomFor proposal.now topic.new) }
+{
+    let writer = proposal.task.part as usize;
+    let counts = counts_of(alloc, proposal.outputs.items(), topic.spec.partitions)?;
+    let rooms = rooms_of(alloc, counts.as_slice())?;
+    reserve_parts(&mut topic.parts, writer, counts.as_slice())?;
+    reserve_logs(&mut topic.tasks, writer, proposal.entries.items().len())?;
+    Ok(rooms)
+}
+
+/// How many outputs go to each of so many partitions.
+fn counts_of(alloc: Global, outputs: &[Change], parts: u32) -> Result<Vec<usize>, AllocError>
+    requires some { 1 ≤ parts }
+    requires few { parts ≤ 64 }
+    ensures len { IfOk result (λ counts. length counts.items ≡ parts) }
+    ensures counts { IfOk result (λ counts. EachAt (λ q count. count ≡ count_to parts outputs.now q) counts.items) }
+{
+    let mut counts = vec![in alloc; 0usize; parts as usize]?;
+    for output in outputs {
+        let part = lane(&output.key, parts, output.place.stamp.part);
+        counts[part as usize] += 1;
+    }
+    Ok(counts)
+}
+
+/// An empty list with room for so many changes, for each of these numbers.
+fn rooms_of(alloc: Global, counts: &[usize]) -> Result<Vec<Vec<Change>>, AllocError>
+    ensures len { IfOk result (λ rooms. length rooms.items ≡ length counts.now) }
+    ensures rooms { IfOk result (λ rooms. EachAt (λ q room. IsEmptyRoom (slice_index counts.now q) room) rooms.items) }
+{
+    let mut rooms = Vec::new(alloc);
+    for count in counts {
+        rooms.push(Vec::with_capacity(alloc, *count)?)?;
+    }
+    Ok(rooms)
+}
+
+/// Makes room in each partition for what waits there and for so many changes of a task.
+fn reserve_parts(
+    parts: &mut Vec<PartShelf>,
+    writer: usize,
+    counts: &[usize],
+) -> Result<(), AllocError>
+    requires { length parts.old.items ≡ length counts.now }
+    ensures views { map part_view parts.new.items ≡ map part_view parts.old.items }
+    ensures rooms { OnOk result (EachAt (λ q part. HasRoom writer (slice_index counts.now q) part) parts.new.items) }
+{
+    for index in 0..counts.len() {
+        reserve_part(&mut parts[index], writer, counts[index])?;
+    }
+    Ok(())
+}
+
+/// Makes room in a partition for what waits there and for so many changes of a task.
+fn reserve_part(part: &mut PartShelf, writer: usize, more: usize) -> Result<(), AllocError>
+    ensures view { part_view part.new ≡ part_view part.old }
+    ensures room { OnOk result (HasRoom writer more part.new) }
+{
+    reserve_waiting(&mut part.waiting, writer, more)?;
+    let coming = room_for(part.waiting.as_slice(), more)?;
+    part.shown.reserve(coming)
+}
+
+/// Makes room for so many changes of a task beside those of it that wait, where any do.
+fn reserve_waiting(
+    waiting: &mut Vec<VecDeque<Change>>,
+    writer: usize,
+    more: usize,
+) -> Result<(), AllocError>
+    ensures items { map (λ w. w.items) waiting.new.items ≡ map (λ w. w.items) waiting.old.items }
+    ensures room { OnOk result (IfSome (slice_get waiting.new.items writer) (λ w.
+        (w.items ≡ []) ⊎ (length w.items + more ≤ deque_capacity w))) }
+{
+    if writer < waiting.len() {
+        let own = &mut waiting[writer];
+        if !own.is_empty() {
+            own.reserve(more)?;
+        }
+    }
+    Ok(())
+}
+
+/// How many changes wait, and so many more.
+fn room_for(waiting: &[VecDeque<Change>], more: usize) -> Result<usize, AllocError>
+    ensures { IfOk result (λ room. room ≡ sum (map (λ w. length w.items) waiting.now) + more) }
+{
+    let mut room = more;
+    for changes in waiting {
+        room = room.checked_add(changes.len()).ok_or(AllocError)?;
+    }
+    Ok(room)
+}
+
+/// Makes room for so many entries in a task's changelog.
+fn reserve_logs(tasks: &mut Vec<TaskShelf>, writer: usize, more: usize) -> Result<(), AllocError>
+    ensures views { map task_view tasks.new.items ≡ map task_view tasks.old.items }
+    ensures room { OnOk result (IfSome (slice_get tasks.new.items writer) (λ k.
+        length k.logs.items + more ≤ vec_capacity k.logs)) }
+{
+    if writer < tasks.len() {
+        let own = &mut tasks[writer];
+        own.logs.reserve(more)?;
+    }
+    Ok(())
+}
+
+/// The proposal with its outputs in the list of the partition that each goes to, among so many. Takes no memory.
+fn sorted(mut rooms: Vec<Vec<Change>>, proposal: Proposal, parts: u32) -> Prepared
+    requires some { 1 ≤ parts }
+    requires few { parts ≤ 64 }
+    requires len { length rooms.items ≡ parts }
+    requires rooms { EachAt (λ q room. IsEmptyRoom (count_to parts proposal.outputs q) room) rooms.items }
+    ensures task { result.task ≡ proposal.task }
+    ensures generation { result.generation ≡ proposal.generation }
+    ensures from { result.from ≡ proposal.from }
+    ensures to { result.to ≡ proposal.to }
+    ensures entries { result.entries.items ≡ proposal.entries }
+    ensures len { length result.sent.items ≡ parts }
+    ensures sent { EachAt (λ q xs. xs.items ≡ filter (is_to parts q) proposal.outputs) result.sent.items }
+{
+    let Proposal {
+        task,
+        generation,
+        from,
+        to,
+        outputs,
+        entries,
+    } = proposal;
+    sort_outputs(&mut rooms, outputs.into_items(), parts);
+    Prepared {
+        task,
+        generation,
+        from,
+        to,
+        sent: rooms,
+        entries: entries.into_items(),
+    }
+}
+
+/// Puts each output into the list of the partition that it goes to, among so many. Takes no memory.
+fn sort_outputs(rooms: &mut Vec<Vec<Change>>, outputs: Vec<Change>, parts: u32)
+    requires some { 1 ≤ parts }
+    requires few { parts ≤ 64 }
+    requires len { length rooms.old.items ≡ parts }
+    requires rooms { EachAt (λ q room. IsEmptyRoom (count_to parts outputs.items q) room) rooms.old.items }
+    ensures len { length rooms.new.items ≡ parts }
+    ensures sent { EachAt (λ q xs. xs.items ≡ filter (is_to parts q) outputs.items) rooms.new.items }
+{
+    for output in outputs {
+        let part = lane(&output.key, parts, output.place.stamp.part);
+        let room = &mut rooms[part as usize];
+        room.push_reserved(output);
+    }
 }

@@ -1,3 +1,6 @@
+ghost use Rattle.std.specs.Prelude.{◌≡◌};
+ghost use Rattle.core_state.specs.State.{lowest};
+
 use core_state::LogEntry;
 use ksql_place::Change;
 use ksql_types::{StoreEntry, TopicSpec};
@@ -31,4 +34,18 @@ pub struct TopicShelf {
 pub struct Shelves {
     pub fed: u64,
     pub topics: Vec<TopicShelf>,
+}
+
+/// The least feed that tasks are done with, and `fed` where there are none.
+pub(crate) fn closed_of(tasks: &[TaskShelf], fed: u64) -> u64
+    ensures { result ≡ lowest fed (λ k. k.done) tasks.now }
+{
+    let Some(first) = tasks.first() else {
+        return fed;
+    };
+    let mut least = first.done;
+    for task in tasks {
+        least = least.min(task.done);
+    }
+    least
 }

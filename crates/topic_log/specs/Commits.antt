@@ -1,0 +1,118 @@
+-- What of the changes that wait is due, and what a commit does to a partition.
+use Rattle.std.specs.Prelude.{◌≡◌, ℕ, ◌+◌, ◌<◌, ◌≤◌, Bool, true, false, List, [], ◌∷◌, ◌++◌, length, map, All, nat_le, if◌then◌else◌, Option, Some, None, IfSome, slice_get, slice_index_or, slice_set, vec_capacity}
+use Rattle.std.specs.Global.{Vec}
+use Rattle.std.specs.Ordering.{is_gt, is_lt}
+use Rattle.ksql_place.specs.Ascending.{Rises}
+use Rattle.ksql_place.specs.Routing.{change_cmp}
+use Rattle.ksql_place.specs.declared.change.Change.{Change}
+use Rattle.core_state.specs.Routes.{merged}
+use Rattle.core_state.specs.State.{after, feed_of, upto}
+use Rattle.core_state.specs.declared.log.LogEntry.TheVariants.{Said}
+use Rattle.topic_log.specs.declared.prepared.Prepared.{Prepared}
+use Rattle.topic_log.specs.declared.shelves.PartShelf.{PartShelf}
+use Rattle.topic_log.specs.declared.shelves.TaskShelf.{TaskShelf}
+use Rattle.topic_log.specs.declared.shelves.TopicShelf.{TopicShelf}
+use Rattle.topic_log.specs.Ready.{HasRoom}
+use Rattle.topic_log.specs.Shelves.{closed_in, waiting_in}
+
+-- ---- what is due
+
+-- whether a change is of a feed up to this one
+abbrev pub is_due : ℕ → Change → Bool
+is_due closed x = nat_le (feed_of x) closed
+
+-- the first member, where it passes a test
+abbrev pub first_if : {A : Type 0} → (A → Bool) → List A → Option A
+first_if p [] = None
+first_if p (x ∷ xs) = if p x then Some x else None
+
+-- the first of each list that waits, where it is due
+abbrev pub dues : ℕ → List (List Change) → List (Option Change)
+dues closed ls = map (first_if (is_due closed)) ls
+
+-- whether a change is there and goes before another, or there is no other
+abbrev pub goes_before : Option Change → Option Change → Bool
+goes_before None best = false
+goes_before (Some x) None = true
+goes_before (Some x) (Some y) = is_lt (change_cmp x y)
+
+-- the change of the i-th of n lists goes before those of the lists in front of it, and not after those of the lists behind it
+pub record GoesFirst (ds : List (Option Change)) (n i : ℕ) (x : Change) : Type 0 where
+  pub within : i < n
+  pub at : slice_index_or ds i None ≡ Some x
+  pub before : (j : ℕ) → j < i → IfSome (slice_index_or ds j None) (λ y. is_gt (change_cmp y x) ≡ true)
+  pub behind : (j : ℕ) → i < j → j < n → IfSome (slice_index_or ds j None) (λ y. is_gt (change_cmp x y) ≡ false)
+
+-- of the first n lists, the number of the one whose change goes first, and that change
+abbrev pub IsBest : List (Option Change) → ℕ → Option ℕ → Option Change → Type 0
+IsBest ds n None None = (j : ℕ) → j < n → slice_index_or ds j None ≡ None
+IsBest ds n None (Some x) = ⊥
+IsBest ds n (Some i) None = ⊥
+IsBest ds n (Some i) (Some x) = GoesFirst ds n i x
+
+-- of the first n lists, the number of the one whose change goes first, where one is due
+abbrev pub IsNext : List (Option Change) → ℕ → Option ℕ → Type 0
+IsNext ds n next = (best : Option Change) × IsBest ds n next best
+
+-- ---- partitions
+
+-- what waits in a partition, by the partitions of its writer's tasks
+abbrev pub waiting_lists : PartShelf → List (List Change)
+waiting_lists p = map (λ w. w.items) p.waiting.items
+
+-- the same, with what a writer sends
+abbrev pub gathered : ℕ → List Change → PartShelf → List (List Change)
+gathered writer sent p = slice_set (waiting_lists p) writer (waiting_in writer p ++ sent)
+
+-- a partition has room for what a writer sends, and what waits then ascends
+pub record PartFits (writer : ℕ) (sent : List Change) (p : PartShelf) : Type 0 where
+  pub writer_in : writer < length p.waiting.items
+  pub room : HasRoom writer (length sent) p
+  pub ascends : All (Rises change_cmp) (gathered writer sent p)
+
+-- what a writer sent is put to what waits, and what is due of it is shown
+pub record PartCommits (closed writer : ℕ) (sent : List Change) (old new : PartShelf) : Type 0 where
+  pub shown : new.shown.items ≡ old.shown.items ++ map Said (merged (map (upto closed) (gathered writer sent old)))
+  pub waiting : waiting_lists new ≡ map (after closed) (gathered writer sent old)
+
+-- each partition has room for what a writer sends there
+abbrev pub EachFits : ℕ → List (Vec Change) → List PartShelf → Type 0
+EachFits writer sent parts = (q : ℕ) (p : PartShelf) (xs : Vec Change) → slice_get parts q ≡ Some p → slice_get sent q ≡ Some xs → PartFits writer xs.items p
+
+-- to each partition is put what a writer sent there
+abbrev pub EachCommits : ℕ → ℕ → List (Vec Change) → List PartShelf → List PartShelf → Type 0
+EachCommits closed writer sent old new = (q : ℕ) (p : PartShelf) (xs : Vec Change) → slice_get old q ≡ Some p → slice_get sent q ≡ Some xs →
+    (next : PartShelf) × (slice_get new q ≡ Some next) × PartCommits closed writer xs.items p next
+
+-- ---- topics
+
+-- what a task sent to a partition ascends, is of the feeds of its commit, and has room there
+pub record IsSent (made : Prepared) (sent : List Change) (p : PartShelf) : Type 0 where
+  pub ascends : Rises change_cmp sent
+  pub within : All (λ x. (made.from < feed_of x) × (feed_of x ≤ made.to)) sent
+  pub room : HasRoom made.task.part (length sent) p
+
+-- a task begins where it is done, and its changelog has room
+pub record TaskFits (made : Prepared) (k : TaskShelf) : Type 0 where
+  pub begins : k.done ≡ made.from
+  pub room : length k.logs.items + length made.entries.items ≤ vec_capacity k.logs
+
+-- what was prepared fits a topic: the task is one of those that write it, and there is room
+pub record TopicFits (made : Prepared) (t : TopicShelf) : Type 0 where
+  pub rises : made.from < made.to
+  pub task : (k : TaskShelf) × (slice_get t.tasks.items made.task.part ≡ Some k) × TaskFits made k
+  pub parts : length made.sent.items ≡ length t.parts.items
+  pub each : (q : ℕ) (p : PartShelf) (xs : Vec Change) → slice_get t.parts.items q ≡ Some p → slice_get made.sent.items q ≡ Some xs → IsSent made xs.items p
+
+-- a task is done up to what was prepared, and has its changelog entries
+pub record TaskCommits (made : Prepared) (old new : TaskShelf) : Type 0 where
+  pub done : new.done ≡ made.to
+  pub newest : new.newest ≡ old.newest
+  pub logs : new.logs.items ≡ old.logs.items ++ made.entries.items
+
+-- what was prepared becomes part of a topic
+pub record TopicCommits (fed : ℕ) (made : Prepared) (old new : TopicShelf) : Type 0 where
+  pub spec : new.spec ≡ old.spec
+  pub task : (k next : TaskShelf) × (slice_get old.tasks.items made.task.part ≡ Some k) × (new.tasks.items ≡ slice_set old.tasks.items made.task.part next) × TaskCommits made k next
+  pub parts : length new.parts.items ≡ length old.parts.items
+  pub each : EachCommits (closed_in fed new) made.task.part made.sent.items old.parts.items new.parts.items

@@ -1,0 +1,44 @@
+-- What a feed of records puts into partitions.
+use Rattle.std.specs.Prelude.{◌≡◌, ℕ, ◌+◌, ◌≤◌, List, ◌++◌, length, map, filter, IfSome, IsSome, option_and_then, slice_get, vec_capacity}
+use Rattle.ksql_place.specs.declared.change.SourceRecord.{SourceRecord}
+use Rattle.core_state.specs.declared.log.LogEntry.TheVariants.{Fed}
+use Rattle.core_state.specs.State.{is_in}
+use Rattle.topic_log.specs.declared.shelves.PartShelf.{PartShelf}
+use Rattle.topic_log.specs.declared.shelves.TopicShelf.{TopicShelf}
+use Rattle.topic_log.specs.Views.{EachAt}
+
+-- how many of some records stand in a partition of a topic
+abbrev pub count_in : ℕ → ℕ → List SourceRecord → ℕ
+count_in topic q records = length (filter (is_in topic q) records)
+
+-- the partition in which a record stands is there
+abbrev pub IsThere : List TopicShelf → SourceRecord → Type 0
+IsThere topics r = IsSome (option_and_then (λ t. slice_get t.parts.items r.stamp.part) (slice_get topics r.stamp.topic))
+
+-- there is a number for each partition of a topic, that of the records that stand there
+pub record IsCounted (topic : ℕ) (records : List SourceRecord) (t : TopicShelf) (counts : List ℕ) : Type 0 where
+  pub len : length counts ≡ length t.parts.items
+  pub each : EachAt (λ q count. count ≡ count_in topic q records) counts
+
+-- a partition has room to show so many more records
+abbrev pub HasShownRoom : ℕ → PartShelf → Type 0
+HasShownRoom more part = length part.shown.items + more ≤ vec_capacity part.shown
+
+-- A partition shows with those records that are left what it was and all records that stand there, and has room for them. What
+-- waits stays.
+pub record WillShow (all rest : List SourceRecord) (topic q : ℕ) (was now : PartShelf) : Type 0 where
+  pub shown : now.shown.items ++ map Fed (filter (is_in topic q) rest) ≡ was.shown.items ++ map Fed (filter (is_in topic q) all)
+  pub waiting : now.waiting ≡ was.waiting
+  pub room : HasShownRoom (count_in topic q rest) now
+
+-- each partition of a topic does, and all else of the topic stays
+pub record TopicWillShow (all rest : List SourceRecord) (topic : ℕ) (was now : TopicShelf) : Type 0 where
+  pub spec : now.spec ≡ was.spec
+  pub tasks : now.tasks ≡ was.tasks
+  pub len : length now.parts.items ≡ length was.parts.items
+  pub parts : EachAt (λ q part. IfSome (slice_get was.parts.items q) (λ old. WillShow all rest topic q old part)) now.parts.items
+
+-- each topic does
+pub record WillShowAll (all rest : List SourceRecord) (was now : List TopicShelf) : Type 0 where
+  pub len : length now ≡ length was
+  pub topics : EachAt (λ topic t. IfSome (slice_get was topic) (λ old. TopicWillShow all rest topic old t)) now

@@ -1,0 +1,27 @@
+-- The memory that is taken before a commit.
+use Rattle.std.specs.Prelude.{◌≡◌, ℕ, ◌+◌, ◌≤◌, List, [], ◌++◌, length, filter, slice_get, IfSome, vec_capacity}
+use Rattle.std.specs.Global.{Vec}
+use Rattle.ksql_place.specs.Routing.{is_to}
+use Rattle.ksql_place.specs.declared.change.Change.{Change}
+use Rattle.core_state.specs.declared.log.Proposal.{Proposal}
+use Rattle.topic_log.specs.declared.shelves.TopicShelf.{TopicShelf}
+use Rattle.topic_log.specs.Ready.{HasRoom}
+use Rattle.topic_log.specs.Views.{EachAt}
+
+-- how many of some changes go to a partition among n
+abbrev pub count_to : ℕ → List Change → ℕ → ℕ
+count_to n xs part = length (filter (is_to n part) xs)
+
+-- an empty list with room for so many changes
+abbrev pub IsEmptyRoom : ℕ → Vec Change → Type 0
+IsEmptyRoom more xs = (xs.items ≡ []) × (more ≤ vec_capacity xs)
+
+-- a list becomes with those that are left what of all changes goes to its partition among n, and has room for them
+pub record WillHave (n : ℕ) (all rest : List Change) (part : ℕ) (xs : Vec Change) : Type 0 where
+  pub items : xs.items ++ filter (is_to n part) rest ≡ filter (is_to n part) all
+  pub room : length xs.items + count_to n rest part ≤ vec_capacity xs
+
+-- the topic that a proposal's task writes has room for its commit
+pub record HasRoomFor (p : Proposal) (t : TopicShelf) : Type 0 where
+  pub parts : EachAt (λ q part. HasRoom p.task.part (count_to t.spec.partitions p.outputs q) part) t.parts.items
+  pub logs : IfSome (slice_get t.tasks.items p.task.part) (λ k. length k.logs.items + length p.entries ≤ vec_capacity k.logs)

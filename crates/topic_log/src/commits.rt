@@ -1,0 +1,129 @@
+//! Commits to a topic: what a task sent is put to what waits, and what is due is shown in the order of places.
+ghost use Rattle.std.specs.Prelude.{◌≡◌, ◌+◌, ◌≤◌, ◌++◌, ◌⊎◌, [], All, length, map, option_map, vec_capacity};
+ghost use Rattle.std.specs.VecDeque.{deque_capacity};
+ghost use Rattle.ksql_place.specs.Ascending.{Rises};
+ghost use Rattle.ksql_place.specs.Routing.{change_cmp};
+ghost use Rattle.core_state.specs.Routes.{merged};
+ghost use Rattle.core_state.specs.State.{after, upto};
+ghost use Rattle.core_state.specs.declared.log.LogEntry.TheVariants.{Said};
+ghost use Rattle.topic_log.specs.Commits.{EachCommits, EachFits, IsNext, PartCommits, PartFits, TopicCommits, TopicFits, dues, first_if, goes_before, is_due, waiting_lists};
+ghost use Rattle.topic_log.specs.Ready.{waiting_len};
+ghost use Rattle.topic_log.specs.Shelves.{IsTopicShelf};
+
+use crate::prepared::Prepared;
+use crate::shelves::{PartShelf, TaskShelf, TopicShelf, closed_of};
+use core_state::LogEntry;
+use ksql_place::{Change, cmp_place};
+use ksql_types::StoreEntry;
+use std::cmp::Ordering;
+use std::collections::VecDeque;
+
+/// Commits what was prepared to the topic that its task writes.
+pub(crate) fn commit(topic: &mut TopicShelf, fed: u64, prepared: Prepared)
+    requires shelf { IsTopicShelf fed topic.old }
+    requires fits { TopicFits prepared topic.old }
+    ensures shelf { IsTopicShelf fed topic.new }
+    ensures commits { TopicCommits fed prepared topic.old topic.new }
+{
+    let writer = prepared.task.part as usize;
+    commit_task(&mut topic.tasks[writer], prepared.to, prepared.entries);
+    let closed = closed_of(&topic.tasks, fed);
+    commit_parts(topic.parts.as_mut_slice(), writer, prepared.sent, closed);
+}
+
+/// Notes what a task is done with, and its changelog entries, for which there is room.
+fn commit_task(task: &mut TaskShelf, to: u64, mut entries: Vec<StoreEntry>)
+    requires { length task.old.logs.items + length entries.items ≤ vec_capacity task.old.logs }
+    ensures done { task.new.done ≡ to }
+    ensures newest { task.new.newest ≡ task.old.newest }
+    ensures logs { task.new.logs.items ≡ task.old.logs.items ++ entries.items }
+{
+    task.done = to;
+    task.logs.append(&mut entries).unwrap();
+}
+
+/// Puts what a writer sent to each partition, the last one first.
+fn commit_parts(parts: &mut [PartShelf], writer: usize, mut sent: Vec<Vec<Change>>, closed: u64)
+    requires count { length sent.items ≡ length parts.old }
+    requires fits { EachFits writer sent.items parts.old }
+    ensures { EachCommits closed writer sent.items parts.old parts.new }
+{
+    while let Some(changes) = sent.pop() {
+        commit_part(&mut parts[sent.len()], writer, changes, closed);
+    }
+}
+
+/// Puts what a writer sent to a partition to what waits there, and shows what is due.
+fn commit_part(part: &mut PartShelf, writer: usize, sent: Vec<Change>, closed: u64)
+    requires { PartFits writer sent.items part.old }
+    ensures { PartCommits closed writer sent.items part.old part.new }
+{
+    gather(&mut part.waiting[writer], sent);
+    show_due(part, closed);
+}
+
+/// Puts what was sent to what waits, for which there is room, or in its place where nothing waits.
+fn gather(waiting: &mut VecDeque<Change>, sent: Vec<Change>)
+    requires { (waiting.old.items ≡ []) ⊎ (length waiting.old.items + length sent.items ≤ deque_capacity waiting.old) }
+    ensures { waiting.new.items ≡ waiting.old.items ++ sent.items }
+{
+    let mut sent = VecDeque::from_vec(sent);
+    if waiting.is_empty() {
+        *waiting = sent;
+    } else {
+        waiting.append(&mut sent).unwrap();
+    }
+}
+
+/// The first change that waits, where it is of a feed up to the closed one.
+fn due(changes: &VecDeque<Change>, closed: u64) -> Option<&Change>
+    ensures { option_map (λ x. x.now) result ≡ first_if (is_due closed) changes.now.items }
+{
+    let first = changes.front()?;
+    if first.place.stamp.feed <= closed {
+        Some(first)
+    } else {
+        None
+    }
+}
+
+/// Whether a change is there and goes before the best one so far, if there is one.
+fn goes_before(change: Option<&Change>, best: Option<&Change>) -> bool
+    ensures { result ≡ goes_before (option_map (λ x. x.now) change.entry) (option_map (λ x. x.now) best.entry) }
+{
+    match (change, best) {
+        (None, _) => false,
+        (Some(_), None) => true,
+        (Some(change), Some(best)) => cmp_place(&change.place, &best.place) == Ordering::Less,
+    }
+}
+
+/// The writer whose first change goes first of those that are due: the one with the smallest place, and of equal places
+/// that of the first writer.
+fn next_writer(waiting: &[VecDeque<Change>], closed: u64) -> Option<usize>
+    ensures { IsNext (dues closed (map (λ w. w.items) waiting.now)) (length waiting.now) result }
+{
+    let mut next = None;
+    let mut best = None;
+    for (writer, changes) in waiting.iter().enumerate() {
+        let first = due(changes, closed);
+        if goes_before(first, best) {
+            next = Some(writer);
+            best = first;
+        }
+    }
+    next
+}
+
+/// Shows what waits up to a closed feed, in the order of places. The partition has room for it.
+fn show_due(part: &mut PartShelf, closed: u64)
+    requires ascends { All (λ w. Rises change_cmp w.items) part.old.waiting.items }
+    requires room { length part.old.shown.items + waiting_len part.old ≤ vec_capacity part.old.shown }
+    ensures shown { part.new.shown.items ≡ part.old.shown.items ++ map Said (merged (map (upto closed) (waiting_lists part.old))) }
+    ensures waiting { waiting_lists part.new ≡ map (after closed) (waiting_lists part.old) }
+{
+    while let Some(writer) = next_writer(part.waiting.as_slice(), closed) {
+        let change = part.waiting[writer].pop_front().unwrap();
+        part.shown.push_reserved(LogEntry::Said(change));
+    }
+}
