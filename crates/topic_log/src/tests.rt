@@ -11,6 +11,8 @@ use ksql_types::{Changelog, Chars, Items, Key, StoreEntry, TaskName, TopicSpec, 
 use std::alloc::{AllocError, Global};
 use std::test::Fail;
 
+mod commits;
+
 /// A topic of two partitions.
 #[tactic(auto, unfolding(ksql_types::specs::Text::longest_text))]
 fn topic(alloc: Global, number: u32, writer: Option<Writer>) -> Result<TopicSpec, AllocError>
