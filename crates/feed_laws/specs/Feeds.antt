@@ -1,5 +1,5 @@
 -- What feeds take of topic files, one feed after another.
-use Rattle.std.specs.Prelude.{ℕ, ◌+◌, List, [], ◌∷◌, ◌++◌, flat_map, take, drop}
+use Rattle.std.specs.Prelude.{ℕ, List, [], ◌∷◌, ◌++◌, flat_map, take, drop}
 use Rattle.ksql_types.specs.declared.relation.Relation.{Relation}
 use Rattle.ksql_place.specs.Ascending.{ascending}
 use Rattle.ksql_place.specs.Order.{record_cmp}

@@ -1,5 +1,5 @@
 -- Files and records that fit a program.
-use Rattle.std.specs.Prelude.{◌≡◌, ◌≢◌, ℕ, ◌≤◌, ◌^◌, List, [], ◌∷◌, length, All, Some}
+use Rattle.std.specs.Prelude.{◌≡◌, ◌≢◌, ℕ, ◌≤◌, ◌^◌, List, [], ◌∷◌, All, Some}
 use Rattle.std.specs.List.{AllPairs}
 use Rattle.ksql_types.specs.declared.relation.Relation.{Relation}
 use Rattle.ksql_place.specs.declared.change.SourceRecord.{SourceRecord}
@@ -7,7 +7,6 @@ use Rattle.ksql_program.specs.declared.program.Item.{Item}
 use Rattle.ksql_program.specs.declared.program.Item.TheVariants.{Declared, Started}
 use Rattle.ksql_program.specs.Program.{relation_at}
 use Rattle.meaning_laws.specs.Bounds.{IsDecodedOf, IsInTime, IsKeyOf}
-use Rattle.record_codec.specs.Spelling.{IsShort}
 use Rattle.storing_laws.specs.Short.{HoldsInDecoded, IsProper, IsShortRecord, IsTextRecord}
 use Rattle.topic_files.specs.declared.topic.Fed.{Fed}
 use Rattle.topic_files.specs.declared.topic.TopicLines.{TopicLines}

@@ -29,8 +29,8 @@ fn topic(alloc: Global, number: u32, writer: Option<Writer>) -> Result<TopicSpec
     })
 }
 
-/// A source, and a topic that the two tasks of sub-topology 0 write.
-fn two_topics(alloc: Global) -> Result<Vec<TopicSpec>, AllocError>
+/// A source with the number 0, and a topic that the two tasks of sub-topology 0 write.
+fn source_and_topic(alloc: Global) -> Result<Vec<TopicSpec>, AllocError>
     ensures topics { IfOk result (λ topics. AreTopics topics.items) }
     ensures count { IfOk result (λ topics. length topics.items ≡ 2) }
     ensures source { IfOk result (λ topics. (routes_of topics.items).writers 0 ≡ []) }
@@ -43,6 +43,15 @@ fn two_topics(alloc: Global) -> Result<Vec<TopicSpec>, AllocError>
     let source = topic(alloc, 0, None)?;
     let written = topic(alloc, 1, Some(writer))?;
     Ok(vec![in alloc; source, written]?)
+}
+
+/// The same topics, for those who feed nothing.
+fn two_topics(alloc: Global) -> Result<Vec<TopicSpec>, AllocError>
+    ensures topics { IfOk result (λ topics. AreTopics topics.items) }
+    ensures count { IfOk result (λ topics. length topics.items ≡ 2) }
+    ensures written { IfOk result (λ topics. (part : ℕ) → part < 2 → IsWriter (routes_of topics.items) (record { sub = 0; part = part })) }
+{
+    source_and_topic(alloc)
 }
 
 /// Whether a task committed nothing and is of its first generation.
@@ -159,7 +168,7 @@ fn offsets(alloc: Global, shown: &[LogEntry]) -> Result<Vec<u64>, AllocError> {
 #[test]
 fn a_feed_is_visible(rt: HostRuntime) -> Result<(), Fail> {
     let alloc = rt.alloc();
-    let topics = two_topics(alloc)?;
+    let topics = source_and_topic(alloc)?;
     let mut broker = Broker::new(alloc, topics.as_slice())?;
     assert_eq!(rt; broker.partitions(0), 2);
     assert_eq!(rt; feed_three(alloc, &mut broker)?, 1);

@@ -5,7 +5,7 @@ use Rattle.ksql_types.specs.declared.topic.TopicSpec.{TopicSpec}
 use Rattle.ksql_types.specs.declared.topic.Writer.{Writer}
 use Rattle.core_state.specs.Routes.{IsWriter, is_written_by, routes_of, tasks_of_writer, topic_from}
 use Rattle.topic_log.proofs.OneTopic.{is-of_writer}
-use Rattle.topic_log.proofs.tests.two_topics.Goals as goal
+use Rattle.topic_log.proofs.tests.source_and_topic.Goals as goal
 
 -- the second of two topics is written by a sub-topology, and the first by none
 second-written : (a b : TopicSpec) (w : Writer) → a.writer ≡ None → b.writer ≡ Some w → w.sub ≡ 0 → (part : ℕ) → part < w.partitions →
