@@ -1,6 +1,6 @@
 -- Nodes in a row as one step of a task: what they give, what their stores stand for, and what they can store (Kafka Streams developer
 -- guide, "Architecture": a record goes through the nodes of its sub-topology).
-use Rattle.std.specs.Prelude.{◌≡◌, Bool, true, false, ◌||◌, ℕ, IsTrue, List, [], ◌∷◌, ◌++◌, map, All}
+use Rattle.std.specs.Prelude.{◌≡◌, Bool, false, ◌||◌, ℕ, IsTrue, List, [], ◌∷◌, ◌++◌, map, All}
 use Rattle.std.specs.List.{AllPairs, AllZip}
 use Rattle.ksql_types.specs.declared.relation.StoreEntry.{StoreEntry}
 use Rattle.ksql_place.specs.declared.change.Change.{Change}

@@ -1,1 +1,4 @@
+pub mod Along
 pub mod Chain
+pub mod Codes
+pub mod Plain

@@ -1,11 +1,12 @@
 //! Operators in a row.
-ghost use Rattle.std.specs.Prelude.{◌≡◌, ◌×◌, ◌++◌, false, true, List, [], map, All, IfOk, IsTrue, OnErr, OnOk};
+ghost use Rattle.std.specs.Prelude.{◌≡◌, ◌++◌, false, true, List, [], map, All, IfOk, IsTrue, OnErr, OnOk};
 ghost use Rattle.ksql_nodes.specs.Entries.{Entry as OneEntry};
-ghost use Rattle.operator.specs.Holding.{Maps};
+ghost use Rattle.operator.specs.Holding.{Maps, committed};
 ghost use Rattle.op_chain.specs.Chain.{AreBasesOf, AreStorable, HaveOwnStores, MayLoad, StandAlong, at_rest, entries_of, given, has_operator, maps_after, maps_in, replayed_along};
 
+use crate::along::{changes_along, load_along, run_along};
 use crate::op::Op;
-use ksql_nodes::{Node, Nodes};
+use ksql_nodes::Node;
 use ksql_place::Change;
 use ksql_types::StoreEntry;
 use operator::Operator;
@@ -23,19 +24,22 @@ pub struct Entry {
 #[derive(Drop)]
 pub struct Chain {
     ops: Vec<Op>,
+    failed: bool,
 }
 
 impl Model for Chain {
     ghost use Rattle.std.specs.Prelude.{map};
-    ghost use Rattle.std.specs.List.{list_any};
     ghost use Rattle.op_chain.specs.Chain.{ChainView};
+    ghost use Rattle.op_chain.specs.Codes.{chain_code};
 
     ghost Value = { ChainView };
 
+    ghost coded = { chain_code };
+
     ghost view = { λ c. record {
-        nodes = map ⟦<Op as Operator>⟧.node c.ops.items;
-        held = map ⟦<Op as Operator>⟧.held c.ops.items;
-        failed = list_any ⟦<Op as Operator>⟧.failed c.ops.items;
+      nodes = map ⟦<Op as Operator>⟧.node c.ops.items;
+      held = map ⟦<Op as Operator>⟧.held c.ops.items;
+      failed = c.failed;
     } };
 }
 
@@ -46,7 +50,10 @@ impl Chain {
         ensures fresh { IfOk result (λ chain. chain ≡ at_rest nodes.now (maps_after nodes.now [])) }
         ensures stands { IfOk result (λ chain. StandAlong nodes.now (maps_in chain) []) }
     {
-        unreachable!()
+        Ok(Chain {
+            ops: operators_of(alloc, nodes)?,
+            failed: false,
+        })
     }
 
     /// Takes further entries through all nodes, and adds what comes of them to `out`. Once memory ran out the chain gives no
@@ -66,7 +73,12 @@ impl Chain {
         ensures sound { OnOk result (self.new.failed ≡ self.old.failed) }
         ensures failed { OnErr result (self.new.failed ≡ true) }
     {
-        unreachable!()
+        if self.failed {
+            return Err(AllocError);
+        }
+        let ran = run_along(self.ops.as_mut_slice(), alloc, entries, out);
+        self.failed = ran.is_err();
+        ran
     }
 
     /// Commits, and answers what changed in all stores since the last commit. After an error the chain may have committed in
@@ -78,6 +90,31 @@ impl Chain {
             replayed_along self.old.nodes bases log.items ≡ maps_in self.old) }
         ensures loadable { IfOk result (λ log. All (MayLoad self.old.nodes) log.items) }
     {
-        unreachable!()
+        changes_along(self.ops.as_mut_slice(), alloc)
     }
+
+    /// Puts what a log makes of empty stores in place of all stores. After an error the chain may have loaded in part, and
+    /// is to be given up.
+    pub fn load(&mut self, alloc: Global, log: &[StoreEntry]) -> Result<(), AllocError>
+        requires { All (MayLoad self.old.nodes) log.now }
+        ensures { OnOk result (self.new ≡ at_rest self.old.nodes (maps_after self.old.nodes log.now)) }
+    {
+        if self.failed {
+            return Err(AllocError);
+        }
+        load_along(self.ops.as_mut_slice(), alloc, log)
+    }
+}
+
+/// The operators of some nodes, before any entry.
+fn operators_of(alloc: Global, nodes: &[Node]) -> Result<Vec<Op>, AllocError>
+    requires { All (λ n. IsTrue (has_operator n)) nodes.now }
+    ensures nodes { IfOk result (λ ops. map ⟦<Op as Operator>⟧.node ops.items ≡ nodes.now) }
+    ensures held { IfOk result (λ ops. map ⟦<Op as Operator>⟧.held ops.items ≡ map committed (maps_after nodes.now [])) }
+{
+    let mut ops = Vec::with_capacity(alloc, nodes.len())?;
+    for node in nodes {
+        ops.push(Op::new(alloc, node)?)?;
+    }
+    Ok(ops)
 }

@@ -1,0 +1,6 @@
+pub mod Filtered
+pub mod Laws
+pub mod Logs
+pub mod Ops
+pub mod RowSteps
+pub mod Sent

@@ -1,0 +1,61 @@
+use Rattle.std.proofs.Common.{◌≡◌, ◌∷◌, [], List, map, subst, sym}
+use Rattle.std.specs.List.{AllZip}
+use Rattle.std.proofs.lemmas.List.{nil_from_length}
+use Rattle.std.proofs.lemmas.Result.{on_ok_weaker}
+use Rattle.operator.specs.Holding.{IsBaseOf}
+use Rattle.op_chain.specs.declared.chain.Entry.{Entry as Taken}
+use Rattle.op_chain.specs.declared.op.Op.{Op}
+use Rattle.op_chain.specs.Along.{StepAlong, Steps}
+use Rattle.op_chain.specs.Chain.{entries_of}
+use Rattle.op_chain.proofs.Ops.{held_of, node_of}
+use Rattle.op_chain.proofs.RowSteps.{along-more, along-none, bases-more}
+use Rattle.op_chain.proofs.along.+run_along.Goals as goal
+
+pub returns-in_default-clause-next : goal.returns-in_default-clause-next
+returns-in_default-clause-next t c =
+    let none : c.args.ops.now ≡ [] = nil_from_length c.args.ops.now c.in_default.ensures.cases in
+    let entries = entries_of c.args.entries.items in
+    let old = c.args.out.now.items in
+    let new = c.give.new.out.items in
+    on_ok_weaker c.give.result
+    (λ is. subst (λ (ops : List Op). StepAlong (map node_of ops) (map held_of ops) (map held_of ops) entries old new) (sym none) (along-none entries old new is))
+    c.give.ensures
+
+pub returns-in_err-given-clause-bases : goal.returns-in_err-given-clause-bases
+returns-in_err-given-clause-bases t c = λ bases all.
+    let op = c.in-Some.op.now in
+    let later = c.in-Some.later.now in
+    bases-more bases (held_of op) (held_of c.stepped.new.op) (map held_of later) (map held_of later) c.in_err-given.ensures.base (λ bases all. all)
+    (subst (λ (ops : List Op). AllZip IsBaseOf bases (map held_of ops)) c.in-Some.ensures.cases.0 all)
+
+pub returns-in_err-entries-clause-bases : goal.returns-in_err-entries-clause-bases
+returns-in_err-entries-clause-bases t c = λ bases all.
+    let op = c.in-Some.op.now in
+    let later = c.in-Some.later.now in
+    bases-more bases (held_of op) (held_of c.stepped.new.op) (map held_of later) (map held_of later) c.in_ok-given.ensures.base (λ bases all. all)
+    (subst (λ (ops : List Op). AllZip IsBaseOf bases (map held_of ops)) c.in-Some.ensures.cases.0 all)
+
+pub returns-clause-next : goal.returns-clause-next
+returns-clause-next t c =
+    let op = c.in-Some.op.now in
+    let later = c.in-Some.later.now in
+    let split : c.args.ops.now ≡ op ∷ later = c.in-Some.ensures.cases.0 in
+    let entries = entries_of c.args.entries.items in
+    let came = entries_of c.in_ok-entries.entries.items in
+    let given = c.in_ok-given.given.items in
+    let next = held_of c.stepped.new.op in
+    let nexts = map held_of c.run_along.new.ops in
+    let old = c.args.out.now.items in
+    let new = c.run_along.new.out.items in
+    let steps = subst (λ (es : List Taken). Steps (node_of op) (held_of op) next (entries_of es) given) c.as_slice.ensures.value c.in_ok-given.ensures.next in
+    on_ok_weaker c.run_along.result
+    (λ on. subst (λ (ops : List Op). StepAlong (map node_of ops) (map held_of ops) (next ∷ nexts) entries old new) (sym split)
+    (along-more (node_of op) (map node_of later) (held_of op) next (map held_of later) nexts entries came given old new steps c.in_ok-entries.ensures on))
+    c.run_along.ensures.next
+
+pub returns-clause-bases : goal.returns-clause-bases
+returns-clause-bases t c = λ bases all.
+    let op = c.in-Some.op.now in
+    let later = c.in-Some.later.now in
+    bases-more bases (held_of op) (held_of c.stepped.new.op) (map held_of later) (map held_of c.run_along.new.ops) c.in_ok-given.ensures.base c.run_along.ensures.bases
+    (subst (λ (ops : List Op). AllZip IsBaseOf bases (map held_of ops)) c.in-Some.ensures.cases.0 all)

@@ -1,0 +1,103 @@
+//! The steps of one operator after another.
+ghost use Rattle.std.specs.Prelude.{◌≡◌, ◌++◌, List, map, All, IfOk, OnOk};
+ghost use Rattle.std.specs.List.{AllZip};
+ghost use Rattle.ksql_nodes.specs.Entries.{from_side};
+ghost use Rattle.operator.specs.Holding.{IsBaseOf, Maps, committed, maps_of};
+ghost use Rattle.op_chain.specs.Along.{CanStore, CanTake, IsLogOf, StepAlong, Steps};
+ghost use Rattle.op_chain.specs.Chain.{HaveOwnStores, MayLoad, entries_of, maps_after};
+
+use crate::chain::Entry;
+use crate::op::Op;
+use ksql_place::Change;
+use ksql_types::StoreEntry;
+use operator::{Operator, StoredOperator};
+use std::alloc::{AllocError, Global};
+
+/// Takes entries through operators in a row, and adds what the last one gives to `out`.
+pub(crate) fn run_along(
+    ops: &mut [Op],
+    alloc: Global,
+    entries: Vec<Entry>,
+    out: &mut Vec<Change>,
+) -> Result<(), AllocError>
+    requires { CanTake (map ⟦<Op as Operator>⟧.node ops.old) (map ⟦<Op as Operator>⟧.held ops.old) (entries_of entries.items) }
+    ensures nodes { map ⟦<Op as Operator>⟧.node ops.new ≡ map ⟦<Op as Operator>⟧.node ops.old }
+    ensures next { OnOk result (StepAlong (map ⟦<Op as Operator>⟧.node ops.old) (map ⟦<Op as Operator>⟧.held ops.old) (map ⟦<Op as Operator>⟧.held ops.new)
+        (entries_of entries.items) out.old.items out.new.items) }
+    ensures bases { (bases : List Maps) → AllZip IsBaseOf bases (map ⟦<Op as Operator>⟧.held ops.old) → AllZip IsBaseOf bases (map ⟦<Op as Operator>⟧.held ops.new) }
+{
+    let Some((op, later)) = ops.split_first_mut() else {
+        return give(entries, out);
+    };
+    let given = stepped(op, alloc, entries.as_slice())?;
+    let entries = from_left(alloc, given)?;
+    run_along(later, alloc, entries, out)
+}
+
+/// Takes entries through one operator.
+fn stepped(op: &mut Op, alloc: Global, entries: &[Entry]) -> Result<Vec<Change>, AllocError>
+    requires { CanStore (⟦<Op as Operator>⟧.node op.old) (entries_of entries.now) }
+    ensures node { ⟦<Op as Operator>⟧.node op.new ≡ ⟦<Op as Operator>⟧.node op.old }
+    ensures next { IfOk result (λ given. Steps (⟦<Op as Operator>⟧.node op.old) (⟦<Op as Operator>⟧.held op.old) (⟦<Op as Operator>⟧.held op.new) (entries_of entries.now) given.items) }
+    ensures base { (base : Maps) → IsBaseOf base (⟦<Op as Operator>⟧.held op.old) → IsBaseOf base (⟦<Op as Operator>⟧.held op.new) }
+{
+    let mut given = Vec::new(alloc);
+    for entry in entries {
+        op.step(alloc, entry.side, &entry.change, &mut given)?;
+    }
+    Ok(given)
+}
+
+/// Changes as they come in at the next operator.
+fn from_left(alloc: Global, changes: Vec<Change>) -> Result<Vec<Entry>, AllocError>
+    ensures { IfOk result (λ entries. entries_of entries.items ≡ from_side 0 changes.items) }
+{
+    let mut entries = Vec::with_capacity(alloc, changes.len())?;
+    for change in changes {
+        entries.push(Entry { side: 0, change })?;
+    }
+    Ok(entries)
+}
+
+/// Adds what comes in after the last operator.
+fn give(entries: Vec<Entry>, out: &mut Vec<Change>) -> Result<(), AllocError>
+    ensures { OnOk result (out.new.items ≡ out.old.items ++ map (λ e. e.change) (entries_of entries.items)) }
+{
+    for Entry { change, .. } in entries {
+        out.push(change)?;
+    }
+    Ok(())
+}
+
+/// Commits operators in a row, and answers what changed in their stores since the last commit.
+pub(crate) fn changes_along(ops: &mut [Op], alloc: Global) -> Result<Vec<StoreEntry>, AllocError>
+    requires { HaveOwnStores (map ⟦<Op as Operator>⟧.node ops.old) }
+    ensures nodes { OnOk result (map ⟦<Op as Operator>⟧.node ops.new ≡ map ⟦<Op as Operator>⟧.node ops.old) }
+    ensures committed { OnOk result (map ⟦<Op as Operator>⟧.held ops.new ≡ map committed (map maps_of (map ⟦<Op as Operator>⟧.held ops.old))) }
+    ensures log { IfOk result (λ log. IsLogOf (map ⟦<Op as Operator>⟧.node ops.old) (map ⟦<Op as Operator>⟧.held ops.old) log.items) }
+{
+    let Some((op, later)) = ops.split_first_mut() else {
+        return Ok(Vec::new(alloc));
+    };
+    let mut log = op.changes(alloc)?.into_items();
+    let mut more = changes_along(later, alloc)?;
+    log.append(&mut more)?;
+    Ok(log)
+}
+
+/// Puts what a log makes of empty stores in place of the stores of operators in a row.
+pub(crate) fn load_along(
+    ops: &mut [Op],
+    alloc: Global,
+    log: &[StoreEntry],
+) -> Result<(), AllocError>
+    requires { All (MayLoad (map ⟦<Op as Operator>⟧.node ops.old)) log.now }
+    ensures nodes { OnOk result (map ⟦<Op as Operator>⟧.node ops.new ≡ map ⟦<Op as Operator>⟧.node ops.old) }
+    ensures loaded { OnOk result (map ⟦<Op as Operator>⟧.held ops.new ≡ map committed (maps_after (map ⟦<Op as Operator>⟧.node ops.old) log.now)) }
+{
+    let Some((op, later)) = ops.split_first_mut() else {
+        return Ok(());
+    };
+    op.load(alloc, log)?;
+    load_along(later, alloc, log)
+}
