@@ -1,6 +1,6 @@
 //! The commit of a task's proposal: all at once, or fenced.
 #![tactic(auto)]
 
-mod commit;
+mod verdict;
 
-pub use commit::{Verdict, commit, fence};
+pub use verdict::{Verdict, commit, fence};

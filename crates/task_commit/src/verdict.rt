@@ -4,7 +4,7 @@ ghost use Rattle.core_state.specs.Routes.{IsWriter};
 ghost use Rattle.core_state.specs.Shelf.{ShelfApplies, ShelfRaises};
 ghost use Rattle.topic_log.specs.Ready.{IsReady};
 ghost use Rattle.topic_log.specs.Shelves.{routes_in, shelf_of, topics_of};
-ghost use Rattle.task_commit.specs.declared.commit.Verdict.TheVariants.{Committed, Fenced};
+ghost use Rattle.task_commit.specs.declared.verdict.Verdict.TheVariants.{Committed, Fenced};
 
 use ksql_types::TaskName;
 use topic_log::{Broker, Prepared};
