@@ -1,5 +1,5 @@
 -- The records that a feed brings: they rise, and fit the program.
-use Rattle.std.proofs.Common.{◌≡◌, ◌≢◌, ◌∙◌, ap, sym, refl, subst, ℕ, List, [], ◌∷◌, ◌++◌, ◌+◌, ◌<◌, ◌≤◌, length, take, Some, arith}
+use Rattle.std.proofs.Common.{◌≡◌, ◌≢◌, ◌∙◌, ap, sym, refl, subst, ℕ, List, [], ◌∷◌, ◌++◌, ◌+◌, ◌<◌, ◌≤◌, length, take, Some, true, arith}
 use Rattle.std.specs.Prelude.{◌==◌}
 use Rattle.std.specs.List.{All, AllByRecursion, AllPairs, flat_map}
 use Rattle.std.specs.Ordering.{nat_cmp, ordering_then}
@@ -33,7 +33,7 @@ use Rattle.topic_feeds.proofs.Partitions.{in_part-own}
 use Rattle.topology_laws.specs.Fed.{IsInItsPartition}
 use Rattle.storing_laws.specs.Short.{HoldsInDecoded, IsProper, IsShortRecord, IsText, IsTextRecord}
 use Rattle.feed_laws.specs.Feeds.{Source, fed_of, records_of}
-use Rattle.feed_laws.specs.Fitting.{AreSourcesOf, Fits, IsFedOf, IsSourceOf}
+use Rattle.feed_laws.specs.Fitting.{AreSourcesOf, Fits, IsFedOf, IsOfDeclared, IsSourceOf}
 use Rattle.feed_laws.proofs.Lists.{AllPairs-from_pairwise, Pairwise, each-ascending, each-flat_map, each-weaker, pairwise-append, pairwise-ascending, pairwise-from_AllPairs, pairwise-weaker}
 
 -- ---- no two stamps of a feed are the same
@@ -122,6 +122,7 @@ module _ (feed : ℕ) (count : Source → ℕ) where
 pub record IsGood (items : List Item) (feed : ℕ) (r : SourceRecord) : Type 0 where
   pub relation : Relation
   pub there : relation_at items r.stamp.topic ≡ Some relation
+  pub declared : relation.declared ≡ true
   pub of_feed : r.stamp.feed ≡ feed
   pub fits : IsFedOf relation (record { time = r.time; key = r.key; value = r.value })
   pub placed : r.stamp.part ≡ lane r.key relation.partitions r.stamp.part
@@ -131,12 +132,12 @@ lane-again [] n home = sym (mod-mod home n)
 lane-again (first ∷ more) n home = refl
 
 good-fed : (items : List Item) (feed : ℕ) (relation : Relation) (before : List SourceRecord) (feds : List Fed) → relation_at items relation.number ≡ Some relation →
-    AllByRecursion (IsFedOf relation) feds → AllByRecursion (IsGood items feed) (fed_from feed relation before feds)
+    relation.declared ≡ true → AllByRecursion (IsFedOf relation) feds → AllByRecursion (IsGood items feed) (fed_from feed relation before feds)
 unfolding fed_from
-good-fed items feed relation before [] there fits = tt
-good-fed items feed relation before (fed ∷ feds) there fits = (
-  record { relation = relation; there = there; of_feed = refl; fits = fits.0; placed = lane-again fed.key relation.partitions (length before) },
-  good-fed items feed relation (before ++ fed_after feed relation before fed ∷ []) feds there fits.1,
+good-fed items feed relation before [] there declared fits = tt
+good-fed items feed relation before (fed ∷ feds) there declared fits = (
+  record { relation = relation; there = there; declared = declared; of_feed = refl; fits = fits.0; placed = lane-again fed.key relation.partitions (length before) },
+  good-fed items feed relation (before ++ fed_after feed relation before fed ∷ []) feds there declared fits.1,
 )
 
 pub good-records : (items : List Item) (fed feed : ℕ) (count : Source → ℕ) (sources : List Source) → All (IsSourceOf items fed) sources →
@@ -145,7 +146,7 @@ good-records items fed feed count sources are =
     All-from_recursion (IsGood items feed) (records_of feed count sources)
     (each-ascending record_cmp (IsGood items feed) (flat_map (fed_of feed count) sources)
     (each-flat_map (IsGood items feed) (IsSourceOf items fed) (fed_of feed count)
-    (λ s is. good-fed items feed s.relation s.before (take (count s) s.left) is.relation
+    (λ s is. good-fed items feed s.relation s.before (take (count s) s.left) is.relation is.declared
     (recursion_from_All (IsFedOf s.relation) (take (count s) s.left) (All-take (IsFedOf s.relation) (count s) s.left is.left)))
     sources (recursion_from_All (IsSourceOf items fed) sources are)))
 
@@ -226,6 +227,7 @@ module _ (items : List Item) (fed : ℕ) (count : Source → ℕ) (sources : Lis
           All-append (IsInItsPartition items) order records fits.fed.placed
           (All-weaker (IsGood items (fed + 1)) (IsInItsPartition items) (λ r good. good-placed items (fed + 1) r good) records goods);
     };
+    declared = All-append (IsOfDeclared items) order records fits.declared (All-weaker (IsGood items (fed + 1)) (IsOfDeclared items) (λ r good. (good.relation, good.there, good.declared)) records goods);
     in_time = All-append IsInTime order records fits.in_time (All-weaker (IsGood items (fed + 1)) IsInTime (λ r good. good.fits.time) records goods);
     short = All-append IsShortRecord order records fits.short (All-weaker (IsGood items (fed + 1)) IsShortRecord (λ r good. good-short items (fed + 1) r good) records goods);
     text = All-append IsTextRecord order records fits.text (All-weaker (IsGood items (fed + 1)) IsTextRecord (λ r good. good-text items (fed + 1) r good) records goods);

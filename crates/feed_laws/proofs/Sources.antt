@@ -40,6 +40,7 @@ module _ (items : List Item) where
       let is : IsSoundRelation (length before) r = sound.0.0 in (
         record {
           relation = ap (relation_at items) is.numbered ∙ ap (λ (all : List Item). relation_at all (length before)) all ∙ item-there before (Declared r) later;
+          declared = sound.0.1.declared;
           some = is.some_partition;
           few = is.partitions_few;
           left = fit.0;
@@ -85,6 +86,7 @@ sources-begin items files sound fit = record {
 source-goes_on : (items : List Item) (fed : ℕ) (count : Source → ℕ) (s : Source) → IsSourceOf items fed s → IsSourceOf items (fed + 1) (after_feed (fed + 1) count s)
 source-goes_on items fed count s is = record {
   relation = is.relation;
+  declared = is.declared;
   some = is.some;
   few = is.few;
   left = All-drop (IsFedOf s.relation) (count s) s.left is.left;

@@ -1,5 +1,5 @@
 -- Files and records that fit a program.
-use Rattle.std.specs.Prelude.{◌≡◌, ◌≢◌, ℕ, ◌≤◌, ◌^◌, List, [], ◌∷◌, All, Some}
+use Rattle.std.specs.Prelude.{◌≡◌, ◌≢◌, ℕ, ◌≤◌, ◌^◌, List, [], ◌∷◌, All, Some, true}
 use Rattle.std.specs.List.{AllPairs}
 use Rattle.ksql_types.specs.declared.relation.Relation.{Relation}
 use Rattle.ksql_place.specs.declared.change.SourceRecord.{SourceRecord}
@@ -33,10 +33,15 @@ AreFilesOf _ _ = ⊥
 
 -- ---- records
 
--- records that a program can be fed: in the order of consumption, in their partitions, with keys and rows of their columns that are
--- short, with times of at most 2^53, and of feeds from 1 on
+-- a record stands in the topic of a declared relation
+abbrev pub IsOfDeclared : List Item → SourceRecord → Type 0
+IsOfDeclared items x = (r : Relation) × (relation_at items x.stamp.topic ≡ Some r) × (r.declared ≡ true)
+
+-- records that a program can be fed: in the order of consumption, in the topics of declared relations and there in their partitions,
+-- with keys and rows of their columns that are short, with times of at most 2^53, and of feeds from 1 on
 pub record Fits (items : List Item) (order : List SourceRecord) : Type 0 where
   pub fed : IsFed items order
+  pub declared : All (IsOfDeclared items) order
   pub in_time : All IsInTime order
   pub short : All IsShortRecord order
   pub text : All IsTextRecord order
@@ -45,6 +50,7 @@ pub record Fits (items : List Item) (order : List SourceRecord) : Type 0 where
 -- a source is a declared relation's; its records that are left fit, and those before are of feeds up to the last one
 pub record IsSourceOf (items : List Item) (fed : ℕ) (s : Source) : Type 0 where
   pub relation : relation_at items s.relation.number ≡ Some s.relation
+  pub declared : s.relation.declared ≡ true
   pub some : 1 ≤ s.relation.partitions
   pub few : s.relation.partitions ≤ 64
   pub left : All (IsFedOf s.relation) s.left

@@ -1,0 +1,4 @@
+pub mod Together
+pub mod ShownRecords
+pub mod ShownChanges
+pub mod Reporting

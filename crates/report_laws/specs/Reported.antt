@@ -1,0 +1,51 @@
+-- The report that a good broker shows: the report of what the program means.
+use Rattle.std.specs.Prelude.{◌≡◌, ℕ, List, map, Some, slice_get}
+use Rattle.ksql_types.specs.declared.relation.Relation.{Relation}
+use Rattle.ksql_place.specs.declared.change.SourceRecord.{SourceRecord}
+use Rattle.ksql_program.specs.Program.{relation_of, relations}
+use Rattle.ksql_program.specs.declared.program.Item.{Item}
+use Rattle.ksql_program.specs.declared.program.Item.TheVariants.{Declared}
+use Rattle.operator.specs.Holding.{Maps}
+use Rattle.query_meaning.specs.Meaning.{meaning, up_to}
+use Rattle.query_meaning.specs.Queries.{changes_at}
+use Rattle.topology.specs.Topologies.{topology_of}
+use Rattle.core_state.specs.Good.{Good}
+use Rattle.core_state.specs.Shelf.{Parts, shelf_closed, state_of}
+use Rattle.core_laws.specs.Core.{meaning_in_core}
+use Rattle.task_core.specs.Core.{core_of}
+use Rattle.topic_log.specs.Shelves.{routes_in, shelf_of, topics_of}
+use Rattle.topic_log.specs.declared.shelves.Shelves.{Shelves}
+use Rattle.run_text.specs.Report.{Section, meant, report, section_of}
+use Rattle.run_text.specs.Shown.{shown_report}
+
+-- ---- the records
+
+-- a record stands in the topic of a declared relation
+abbrev pub IsOfDeclared : List Item → SourceRecord → Type 0
+IsOfDeclared items source = (r : Relation) × (slice_get items source.stamp.topic ≡ Some (Declared r))
+
+-- ---- the broker
+
+-- A broker has the topics of a program, and is in a good state with whatever runs beside it, after the records of an order were fed.
+pub record IsGoodBroker (items : List Item) (order : List SourceRecord) (b : Shelves) : Type 0 where
+  pub topics : topics_of b ≡ (topology_of items).topics
+  pub parts : Parts (List Maps)
+  pub shelf : parts.shelf ≡ shelf_of b
+  pub good : Good (core_of (topology_of items)) (meaning_in_core items order) (state_of parts)
+
+-- the feed up to which a broker shows a relation
+abbrev pub shown_up_to : Shelves → Relation → ℕ
+shown_up_to b r = shelf_closed (routes_in b) (shelf_of b) r.number
+
+-- ---- the report
+
+-- what is shown of an item: its meaning on the records that were fed up to the feed up to which the broker shows it
+abbrev pub section_known : List Item → Shelves → List SourceRecord → Item → Section
+section_known items b order item =
+    let r = relation_of item in
+    let records = up_to (shown_up_to b r) order in
+    section_of (shown_up_to b r) r records (meant r (changes_at (meaning items records) r.number))
+
+-- the report that a broker shows has all records that were fed, and of each relation its meaning on them
+abbrev pub ReportsTheMeaning : List Item → List SourceRecord → Shelves → Type 0
+ReportsTheMeaning items order b = (trace : List ℕ) → shown_report items b trace ≡ report (relations items) order (map (section_known items b order) items) trace
