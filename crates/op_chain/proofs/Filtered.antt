@@ -1,7 +1,7 @@
 -- A filter and then a select list can take small changes.
-use Rattle.std.proofs.Common.{◌≡◌, ap, refl, subst, sym, ℕ, List, [], ◌∷◌, ◌++◌, All, Option, None, Some}
+use Rattle.std.proofs.Common.{subst, sym, ℕ, List, [], ◌∷◌, ◌++◌, All, Option, None, Some}
 use Rattle.std.specs.List.{AllByRecursion}
-use Rattle.std.proofs.lemmas.List.Elements.{All-from_recursion, recursion_from_All}
+use Rattle.std.proofs.lemmas.List.Elements.{All-from_recursion}
 use Rattle.ksql_place.specs.declared.change.Body.{Body}
 use Rattle.ksql_place.specs.declared.change.Change.{Change}
 use Rattle.ksql_expr.specs.declared.typed.Typed.{Typed}

@@ -3,4 +3,3 @@ pub mod Laws
 pub mod Logs
 pub mod Ops
 pub mod RowSteps
-pub mod Sent

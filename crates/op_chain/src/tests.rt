@@ -1,7 +1,7 @@
 ghost use Rattle.std.specs.Prelude.{IfOk};
 ghost use Rattle.op_chain.specs.Plain.{AreFiltered, IsPlain};
 
-use crate::{Chain, Entry, Op};
+use crate::{Chain, Entry};
 use ksql_expr::{Typed, TypedNode};
 use ksql_nodes::Node;
 use ksql_place::{Body, Change, Place, Stamp};
@@ -12,14 +12,7 @@ use std::test::Fail;
 fn crosses_threads<T: Send + Sync>() {}
 
 #[test]
-fn operators_cross_threads(_rt: HostRuntime) -> Result<(), Fail> {
-    crosses_threads::<Op>();
-    Ok(())
-}
-
-#[test]
-fn chains_cross_threads(_rt: HostRuntime) -> Result<(), Fail> {
-    crosses_threads::<Chain>();
+fn entries_cross_threads(_rt: HostRuntime) -> Result<(), Fail> {
     crosses_threads::<Entry>();
     Ok(())
 }
