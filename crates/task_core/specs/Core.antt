@@ -1,12 +1,11 @@
 -- A topology as the core sees it: its tasks, what they read and write, and what they make of entries.
-use Rattle.std.specs.Prelude.{ℕ, suc, ◌==◌, if◌then◌else◌, List, [], ◌∷◌, map, Option, Some, None, option_map, slice_get, unwrap_or}
+use Rattle.std.specs.Prelude.{ℕ, suc, ◌==◌, if◌then◌else◌, List, [], ◌∷◌, map, option_map, slice_get, unwrap_or}
 use Rattle.ksql_types.specs.declared.relation.TaskName.{TaskName}
 use Rattle.ksql_nodes.specs.declared.node.Node.{Node}
 use Rattle.ksql_nodes.specs.Entries.{Entry}
 use Rattle.operator.specs.Holding.{Maps}
 use Rattle.query_meaning.specs.Queries.{entry_cmp}
 use Rattle.topology.specs.Tasks.{tasks_of}
-use Rattle.topology.specs.declared.topology.Sub.{Sub}
 use Rattle.topology.specs.declared.topology.SubInput.{SubInput}
 use Rattle.topology.specs.declared.topology.Topology.{Topology}
 use Rattle.core_state.specs.declared.log.LogEntry.{LogEntry}

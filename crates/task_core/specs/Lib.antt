@@ -1,3 +1,5 @@
+pub mod Codes
 pub mod Core
+pub mod Readers
 pub mod Reading
 pub mod Tasks

@@ -1,6 +1,5 @@
 -- What a task takes of what its inputs show.
-use Rattle.std.specs.Prelude.{ℕ, zero, suc, Bool, List, [], ◌∷◌, ◌++◌, map, flat_map, Option, Some, None, option_map, slice_get, unwrap_or}
-use Rattle.std.specs.declared.cmp.Ordering.{Ordering}
+use Rattle.std.specs.Prelude.{ℕ, zero, suc, List, [], ◌∷◌, ◌++◌, map, flat_map, option_map, slice_get, unwrap_or}
 use Rattle.ksql_types.specs.declared.relation.Kind.{Kind}
 use Rattle.ksql_types.specs.declared.relation.Kind.TheVariants as kind
 use Rattle.ksql_place.specs.Ascending.{ascending}

@@ -1,5 +1,5 @@
 -- What a task is, and what it proposes.
-use Rattle.std.specs.Prelude.{◌≡◌, ℕ, ◌≤◌, List, map, All, IsSome, length, refl}
+use Rattle.std.specs.Prelude.{◌≡◌, ℕ, ◌≤◌, List, map, All, IsSome, length}
 use Rattle.ksql_types.specs.declared.relation.TaskName.{TaskName}
 use Rattle.ksql_nodes.specs.declared.node.Node.{Node}
 use Rattle.ksql_nodes.specs.Entries.{Entry}

@@ -1,10 +1,12 @@
 //! A task and its step.
-ghost use Rattle.std.specs.Prelude.{◌≡◌, ◌≤◌, ◌==◌, All, IfOk, IfSome, IsTrue, OnNone, is_none};
+ghost use Rattle.std.specs.Prelude.{◌≡◌, [], ◌≤◌, ◌==◌, All, IfOk, IfNone, IfSome, IsSome, IsTrue, is_none};
 ghost use Rattle.op_chain.specs.Chain.{HaveOwnStores, StandAlong, has_operator, maps_after};
 ghost use Rattle.task_core.specs.Tasks.{CanRead, CanStore, IsProposedBy, IsSameTask, bound_of};
 
+use crate::inputs::{Feeds, Kinds, bound_of, kind_read, reader_of};
+use crate::running::made_of;
 use core_state::Proposal;
-use ksql_types::TaskName;
+use ksql_types::{CopyOf, Items, TaskName};
 use op_chain::Chain;
 use std::alloc::{AllocError, Global};
 use std::marker::Model;
@@ -18,26 +20,32 @@ pub struct Task {
     generation: u64,
     done: u64,
     inputs: SubInputs,
+    kinds: Kinds,
     chain: Chain,
 }
 
 impl Model for Task {
     ghost use Rattle.std.specs.Prelude.{◌≡◌};
     ghost use Rattle.op_chain.specs.Chain.{at_rest, maps_in};
+    ghost use Rattle.task_core.specs.Codes.{task_code};
+    ghost use Rattle.task_core.specs.Reading.{kind_read};
     ghost use Rattle.task_core.specs.Tasks.{TaskView};
 
     ghost Value = { TaskView };
 
+    ghost coded = { task_code };
+
     ghost view = { λ t. record {
-        name = t.name;
-        generation = t.generation;
-        done = t.done;
-        inputs = t.inputs;
-        nodes = t.chain.nodes;
-        maps = maps_in t.chain;
+      name = t.name;
+      generation = t.generation;
+      done = t.done;
+      inputs = t.inputs;
+      nodes = t.chain.nodes;
+      maps = maps_in t.chain;
     } };
 
-    ghost invariant = { λ t. t.chain ≡ at_rest t.chain.nodes (maps_in t.chain) };
+    ghost invariant = { λ t. (t.chain ≡ at_rest t.chain.nodes (maps_in t.chain))
+        × (t.kinds.left ≡ kind_read t.chain.nodes 0) × (t.kinds.right ≡ kind_read t.chain.nodes 1) };
 }
 
 /// A task after a step, and what it proposes to commit.
@@ -57,10 +65,30 @@ impl Task {
     ) -> Result<Task, AllocError>
         requires { All (λ n. IsTrue (has_operator n)) sub.now.nodes }
         ensures task { IfOk result (λ task. task ≡ record {
-            name = name; generation = generation; done = 0; inputs = sub.now.inputs; nodes = sub.now.nodes; maps = maps_after sub.now.nodes [] }) }
+          name = name;
+          generation = generation;
+          done = 0;
+          inputs = sub.now.inputs;
+          nodes = sub.now.nodes;
+          maps = maps_after sub.now.nodes [];
+        }) }
         ensures stands { IfOk result (λ task. StandAlong task.nodes task.maps []) }
     {
-        unreachable!()
+        let nodes = sub.nodes.items();
+        let kinds = Kinds {
+            left: kind_read(nodes, 0),
+            right: kind_read(nodes, 1),
+        };
+        let inputs = sub.inputs.copy(alloc)?;
+        let chain = Chain::new(alloc, nodes)?;
+        Ok(Task {
+            name,
+            generation,
+            done: 0,
+            inputs,
+            kinds,
+            chain,
+        })
     }
 
     /// The task after all entries of its inputs up to the feed up to which they are closed, and what it then proposes to
@@ -73,10 +101,67 @@ impl Task {
         ensures same { IfOk result (λ moved. IsSameTask self moved.task) }
         ensures done { IfOk result (λ moved. moved.task.done ≡ bound_of broker.now self) }
         ensures none { IfOk result (λ moved. is_none moved.proposal ≡ (bound_of broker.now self == self.done)) }
-        ensures still { IfOk result (λ moved. OnNone moved.proposal (moved.task ≡ self)) }
+        ensures still { IfOk result (λ moved. IfNone moved.proposal (moved.task ≡ self)) }
         ensures proposal { IfOk result (λ moved. IfSome moved.proposal (IsProposedBy broker.now self moved.task)) }
     {
-        unreachable!()
+        let bound = bound_of(self.inputs.items(), broker);
+        if bound == self.done {
+            return Ok(Moved {
+                task: self,
+                proposal: None,
+            });
+        }
+        self.moved(alloc, broker, bound)
+    }
+
+    /// The task after all entries of its inputs up to the feed up to which they are closed, and what it then proposes to
+    /// commit.
+    fn moved(self, alloc: Global, broker: &Broker, bound: u64) -> Result<Moved, AllocError>
+        requires readable { CanRead broker.now self }
+        requires within { self.done ≤ bound }
+        requires bound { bound ≡ bound_of broker.now self }
+        requires stores { HaveOwnStores self.nodes }
+        requires storable { CanStore broker.now self }
+        ensures same { IfOk result (λ moved. IsSameTask self moved.task) }
+        ensures done { IfOk result (λ moved. moved.task.done ≡ bound) }
+        ensures some { IfOk result (λ moved. IsSome moved.proposal) }
+        ensures proposal { IfOk result (λ moved. IfSome moved.proposal (IsProposedBy broker.now self moved.task)) }
+    {
+        let Task {
+            name,
+            generation,
+            done,
+            inputs,
+            kinds,
+            mut chain,
+        } = self;
+        let feeds = Feeds {
+            part: name.part,
+            from: done,
+            to: bound,
+        };
+        let reader = reader_of(broker, feeds, kinds, inputs.items());
+        let made = made_of(&mut chain, alloc, reader)?;
+        let proposal = Proposal {
+            task: name,
+            generation,
+            from: done,
+            to: bound,
+            outputs: Items::of(made.outputs),
+            entries: Items::of(made.entries),
+        };
+        let task = Task {
+            name,
+            generation,
+            done: bound,
+            inputs,
+            kinds,
+            chain,
+        };
+        Ok(Moved {
+            task,
+            proposal: Some(proposal),
+        })
     }
 
     /// The task's name.

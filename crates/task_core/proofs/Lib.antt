@@ -1,0 +1,6 @@
+pub mod Cuts
+pub mod Merging
+pub mod Modest
+pub mod Stepping
+pub mod Takes
+pub mod Underway

@@ -1,0 +1,38 @@
+-- A reader after one entry more.
+use Rattle.std.proofs.Common.{◌≡◌, ◌∙◌, sym, subst, List, ◌++◌, Bool, true, false, take, drop}
+use Rattle.std.specs.Prelude.{flat_map}
+use Rattle.ksql_nodes.specs.Entries.{Entry}
+use Rattle.topic_log.specs.Order.{IsInPlaceOrder}
+use Rattle.task_core.specs.Readers.{IsOrdered, goes_left, pending, taken_as}
+use Rattle.task_core.specs.declared.reader.Reader.{Reader}
+use Rattle.task_core.specs.declared.reader.Rest.{Rest}
+use Rattle.task_core.proofs.Merging.{both, order-drop, step-left, step-right}
+
+-- what is left of an input without its first entry
+pub record IsRestOf (old next : Rest) : Type 0 where
+  pub kind : next.kind ≡ old.kind
+  pub input : next.input ≡ old.input
+  pub rest : next.entries.now ≡ drop 1 old.entries.now
+
+abbrev next_is_left : Reader → Bool
+next_is_left r = goes_left r.left.input.relation r.right.input.relation r.left.entries.now r.right.entries.now
+
+pub left-taken : (r : Reader) (next : Rest) (made : List Entry) → IsOrdered r → next_is_left r ≡ true → IsRestOf r.left next →
+    made ≡ flat_map (taken_as r.left.kind 0 r.left.input) (take 1 r.left.entries.now) → made ++ pending (record { left = next; right = r.right }) ≡ pending r
+left-taken r next made order goes is taken =
+    let moved : pending (record { left = next; right = r.right }) ≡ both r.left.kind r.right.kind r.left.input r.right.input (drop 1 r.left.entries.now) r.right.entries.now
+    = λ i. both (is.kind i) r.right.kind (is.input i) r.right.input (is.rest i) r.right.entries.now in
+    (λ i. taken i ++ moved i) ∙ sym (step-left r.left.kind r.right.kind r.left.input r.right.input r.left.entries.now r.right.entries.now order.left order.right goes)
+
+pub right-taken : (r : Reader) (next : Rest) (made : List Entry) → IsOrdered r → next_is_left r ≡ false → IsRestOf r.right next →
+    made ≡ flat_map (taken_as r.right.kind 1 r.right.input) (take 1 r.right.entries.now) → made ++ pending (record { left = r.left; right = next }) ≡ pending r
+right-taken r next made order goes is taken =
+    let moved : pending (record { left = r.left; right = next }) ≡ both r.left.kind r.right.kind r.left.input r.right.input r.left.entries.now (drop 1 r.right.entries.now)
+    = λ i. both r.left.kind (is.kind i) r.left.input (is.input i) r.left.entries.now (is.rest i) in
+    (λ i. taken i ++ moved i) ∙ sym (step-right r.left.kind r.right.kind r.left.input r.right.input r.left.entries.now r.right.entries.now order.left order.right goes)
+
+pub left-ordered : (r : Reader) (next : Rest) → IsOrdered r → IsRestOf r.left next → IsOrdered (record { left = next; right = r.right })
+left-ordered r next order is = record { left = subst IsInPlaceOrder (sym is.rest) (order-drop r.left.entries.now order.left); right = order.right }
+
+pub right-ordered : (r : Reader) (next : Rest) → IsOrdered r → IsRestOf r.right next → IsOrdered (record { left = r.left; right = next })
+right-ordered r next order is = record { left = order.left; right = subst IsInPlaceOrder (sym is.rest) (order-drop r.right.entries.now order.right) }

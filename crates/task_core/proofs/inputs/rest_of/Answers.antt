@@ -1,0 +1,13 @@
+use Rattle.std.proofs.Common.{◌≡◌, false, sym, subst}
+use Rattle.std.specs.Ordering.{is_gt}
+use Rattle.std.proofs.lemmas.List.Kept.{AllPairs-filter}
+use Rattle.ksql_place.specs.Order.{place_cmp}
+use Rattle.core_state.specs.Wired.{is_between, log_feed}
+use Rattle.topic_log.specs.Order.{IsInPlaceOrder, place_of}
+use Rattle.task_core.proofs.inputs.rest_of.Goals as goal
+
+pub returns-clause-order : goal.returns-clause-order
+returns-clause-order c =
+    subst IsInPlaceOrder (sym c.fed_between.ensures)
+    (AllPairs-filter (λ x y. is_gt (place_cmp (place_of x) (place_of y)) ≡ false) (is_between log_feed c.args.feeds.from c.args.feeds.to) c.visible-shown.result.now
+    c.visible-shown.ensures.in_order)

@@ -1,0 +1,59 @@
+-- What is left of the entries that a task takes.
+use Rattle.std.specs.Prelude.{ℕ, zero, suc, ◌+◌, Bool, true, false, not, List, [], ◌∷◌, ◌++◌, length, map, flat_map}
+use Rattle.std.specs.Ordering.{is_gt}
+use Rattle.ksql_types.specs.declared.relation.Kind.{Kind}
+use Rattle.ksql_types.specs.declared.value.Value.{Value}
+use Rattle.ksql_place.specs.Ascending.{ascending}
+use Rattle.ksql_place.specs.Order.{between_cmp}
+use Rattle.ksql_place.specs.Said.{saying}
+use Rattle.ksql_nodes.specs.Entries.{Entry, from_side}
+use Rattle.query_meaning.specs.Queries.{entry_cmp, key_cells}
+use Rattle.topology.specs.Contents.{with_cells}
+use Rattle.topology.specs.declared.topology.SubInput.{SubInput}
+use Rattle.core_state.specs.declared.log.LogEntry.{LogEntry}
+use Rattle.core_state.specs.declared.log.LogEntry.TheVariants.{Fed, Said}
+use Rattle.topic_log.specs.Order.{IsInPlaceOrder, place_of}
+use Rattle.op_chain.specs.declared.chain.Entry.{Entry as Taken}
+use Rattle.task_core.specs.declared.reader.Reader.{Reader}
+use Rattle.task_core.specs.declared.reader.Rest.{Rest}
+
+-- ---- rows
+
+-- a row as a task reads it: after so many key columns; it is whole already where that is none
+abbrev pub whole_row : ℕ → List Value → List Value → List Value
+whole_row zero key row = row
+whole_row (suc columns) key row = key_cells (suc columns) key ++ row
+
+-- ---- entries
+
+-- what a task takes of an entry on a side, where it reads the records as those of a kind
+abbrev pub taken_as : Kind → ℕ → SubInput → LogEntry → List Entry
+taken_as kind side input (Fed r) = from_side side (map (with_cells input.keys) (saying kind r))
+taken_as kind side input (Said c) = from_side side (with_cells input.keys c ∷ [])
+
+-- the same of what is left of an input
+abbrev pub rest_on : ℕ → Rest → List Entry
+rest_on side r = flat_map (taken_as r.kind side r.input) r.entries.now
+
+-- what is left of all that a reader gives
+abbrev pub pending : Reader → List Entry
+pending r = ascending (entry_cmp r.left.input.relation r.right.input.relation) (rest_on 0 r.left ++ rest_on 1 r.right)
+
+-- how many entries are left
+abbrev pub left_len : Reader → ℕ
+left_len r = length r.left.entries.now + length r.right.entries.now
+
+-- what is left of both inputs stands in the order of places
+pub record IsOrdered (r : Reader) : Type 0 where
+  pub left : IsInPlaceOrder r.left.entries.now
+  pub right : IsInPlaceOrder r.right.entries.now
+
+-- whether the first of the left entries goes next: it isn't after the first of the right ones
+abbrev pub goes_left : ℕ → ℕ → List LogEntry → List LogEntry → Bool
+goes_left left right [] ys = false
+goes_left left right (x ∷ xs) [] = true
+goes_left left right (x ∷ xs) (y ∷ ys) = not (is_gt (between_cmp (place_of x) left (place_of y) right))
+
+-- an entry as it is taken
+abbrev pub entry_of : Taken → Entry
+entry_of e = record { side = e.side; change = e.change }

@@ -1,0 +1,126 @@
+//! What a task takes of what its inputs show, in the order of the places.
+ghost use Rattle.std.specs.Prelude.{◌≡◌, ◌∷◌, ◌++◌, [], ◌+◌, ◌<◌, ◌≤◌, ◌==◌, IfOk, OnOk, drop, flat_map, length, map, option_map, take};
+ghost use Rattle.std.specs.Option.{option_to_list};
+ghost use Rattle.op_chain.specs.Chain.{entries_of};
+ghost use Rattle.task_core.specs.Readers.{IsOrdered, entry_of, goes_left, left_len, pending, taken_as};
+
+use crate::places::cmp_entries;
+use crate::whole::{said_whole, whole_change};
+use core_state::LogEntry;
+use ksql_types::Kind;
+use op_chain::Entry;
+use std::alloc::{AllocError, Global};
+use std::cmp::Ordering;
+use topology::SubInput;
+
+/// The most entries that a reader gives at once.
+const MOST: usize = 256;
+
+/// What is left of what an input of a task shows, and the kind of relation to which its records speak.
+#[derive(Drop)]
+pub struct Rest<'a> {
+    pub kind: Kind,
+    pub input: SubInput,
+    pub entries: &'a [LogEntry],
+}
+
+/// What is left of the inputs of a task. One that has no second input has nothing on the right.
+#[derive(Drop)]
+pub struct Reader<'a> {
+    pub left: Rest<'a>,
+    pub right: Rest<'a>,
+}
+
+impl Reader<'_> {
+    /// Whether nothing is left.
+    pub fn is_done(&self) -> bool
+        ensures { result ≡ (left_len self.now == 0) }
+    {
+        self.left.entries.is_empty() && self.right.entries.is_empty()
+    }
+
+    /// Takes the next entries of those that are left, some of them at once.
+    pub fn next(&mut self, alloc: Global) -> Result<Vec<Entry>, AllocError>
+        requires order { IsOrdered self.old }
+        ensures taken { IfOk result (λ made. entries_of made.items ++ pending self.new ≡ pending self.old) }
+        ensures order { IsOrdered self.new }
+        ensures less { OnOk result (0 < left_len self.old → left_len self.new < left_len self.old) }
+    {
+        let mut taken = Vec::new(alloc);
+        while taken.len() < MOST && !self.is_done() {
+            if let Some(entry) = self.step(alloc)? {
+                taken.push(entry)?;
+            }
+        }
+        Ok(taken)
+    }
+
+    /// Takes the entry whose place is next off those that are left, and answers what the task takes of it. On equal
+    /// places of one relation the left one goes first.
+    fn step(&mut self, alloc: Global) -> Result<Option<Entry>, AllocError>
+        requires some { 0 < left_len self.old }
+        requires order { IsOrdered self.old }
+        ensures taken { IfOk result (λ made. option_to_list (option_map entry_of made) ++ pending self.new ≡ pending self.old) }
+        ensures order { IsOrdered self.new }
+        ensures less { left_len self.new + 1 ≡ left_len self.old }
+    {
+        if self.is_left_next() {
+            self.left.take_first(alloc, 0)
+        } else {
+            self.right.take_first(alloc, 1)
+        }
+    }
+
+    /// Whether the first of the left entries goes next.
+    fn is_left_next(&self) -> bool
+        ensures { let r = self.now in result ≡ goes_left r.left.input.relation r.right.input.relation r.left.entries.now r.right.entries.now }
+    {
+        match (self.left.entries, self.right.entries) {
+            ([], _) => false,
+            (_, []) => true,
+            ([left, ..], [right, ..]) => self.is_in_front(left, right),
+        }
+    }
+
+    /// Whether an entry of the left input isn't after one of the right input.
+    fn is_in_front(&self, left: &LogEntry, right: &LogEntry) -> bool
+        ensures { let r = self.now in result ≡ goes_left r.left.input.relation r.right.input.relation (left.now ∷ []) (right.now ∷ []) }
+    {
+        let first = self.left.input.relation;
+        let second = self.right.input.relation;
+        cmp_entries(left, first, right, second) != Ordering::Greater
+    }
+}
+
+impl Rest<'_> {
+    /// Takes the first entry off, and answers what a task takes of it on a side.
+    fn take_first(&mut self, alloc: Global, side: u32) -> Result<Option<Entry>, AllocError>
+        requires { 0 < length self.old.entries.now }
+        ensures kind { self.new.kind ≡ self.old.kind }
+        ensures input { self.new.input ≡ self.old.input }
+        ensures rest { self.new.entries.now ≡ drop 1 self.old.entries.now }
+        ensures taken { IfOk result (λ made. option_to_list (option_map entry_of made)
+            ≡ flat_map (taken_as self.old.kind side self.old.input) (take 1 self.old.entries.now)) }
+    {
+        let first = &self.entries[0];
+        self.entries = &self.entries[1..];
+        self.taken(alloc, side, first)
+    }
+
+    /// What a task takes of an entry on a side.
+    fn taken(&self, alloc: Global, side: u32, entry: &LogEntry) -> Result<Option<Entry>, AllocError>
+        ensures { IfOk result (λ made. option_to_list (option_map entry_of made) ≡ taken_as self.now.kind side self.now.input entry.now) }
+    {
+        let columns = self.input.keys;
+        match entry {
+            LogEntry::Fed(record) => {
+                let said = said_whole(alloc, self.kind, columns, record)?;
+                Ok(said.map(|change| Entry { side, change }))
+            }
+            LogEntry::Said(change) => {
+                let change = whole_change(alloc, columns, change)?;
+                Ok(Some(Entry { side, change }))
+            }
+        }
+    }
+}

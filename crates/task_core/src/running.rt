@@ -1,0 +1,57 @@
+//! What the operators of a task make of all that its inputs show.
+ghost use Rattle.std.specs.Prelude.{◌≡◌, ◌++◌, List, IfOk, OnOk};
+ghost use Rattle.ksql_nodes.specs.Entries.{Entry as OneEntry};
+ghost use Rattle.operator.specs.Holding.{Maps};
+ghost use Rattle.op_chain.specs.Chain.{AreBasesOf, AreStorable, HaveOwnStores, Runs, StandAlong, at_rest, given, maps_in};
+ghost use Rattle.task_core.specs.Readers.{IsOrdered, pending};
+
+use crate::reader::Reader;
+use ksql_place::Change;
+use ksql_types::StoreEntry;
+use op_chain::Chain;
+use std::alloc::{AllocError, Global};
+
+/// What became of a task's entries: its results, and what changed in its stores.
+#[derive(Drop)]
+pub struct Made {
+    pub outputs: Vec<Change>,
+    pub entries: Vec<StoreEntry>,
+}
+
+/// What operators make of all that a reader gives. After an error they are to be given up.
+pub fn made_of(chain: &mut Chain, alloc: Global, reader: Reader) -> Result<Made, AllocError>
+    requires rest { chain.old ≡ at_rest chain.old.nodes (maps_in chain.old) }
+    requires order { IsOrdered reader }
+    requires stores { HaveOwnStores chain.old.nodes }
+    requires storable { (earlier : List OneEntry) × StandAlong chain.old.nodes (maps_in chain.old) earlier × AreStorable chain.old.nodes earlier (pending reader) }
+    ensures rest { OnOk result (chain.new ≡ at_rest chain.old.nodes (maps_in chain.new)) }
+    ensures runs { IfOk result (λ made. Runs chain.old.nodes (maps_in chain.old) (pending reader.entry) made.outputs.items made.entries.items (maps_in chain.new)) }
+{
+    let mut outputs = Vec::new(alloc);
+    run_all(chain, alloc, reader, &mut outputs)?;
+    let entries = chain.changes(alloc)?;
+    Ok(Made { outputs, entries })
+}
+
+/// Takes all that a reader gives through operators, some of it at once.
+fn run_all(
+    chain: &mut Chain,
+    alloc: Global,
+    mut reader: Reader,
+    out: &mut Vec<Change>,
+) -> Result<(), AllocError>
+    requires order { IsOrdered reader }
+    requires storable { (earlier : List OneEntry) × StandAlong chain.old.nodes (maps_in chain.old) earlier × AreStorable chain.old.nodes earlier (pending reader) }
+    ensures nodes { chain.new.nodes ≡ chain.old.nodes }
+    ensures next { OnOk result ((earlier : List OneEntry) → StandAlong chain.old.nodes (maps_in chain.old) earlier →
+        (out.new.items ≡ out.old.items ++ given chain.old.nodes earlier (pending reader.entry))
+        × StandAlong chain.old.nodes (maps_in chain.new) (earlier ++ pending reader.entry)) }
+    ensures bases { (bases : List Maps) → AreBasesOf bases chain.old → AreBasesOf bases chain.new }
+    ensures sound { OnOk result (chain.new.failed ≡ chain.old.failed) }
+{
+    while !reader.is_done() {
+        let entries = reader.next(alloc)?;
+        chain.run(alloc, entries, out)?;
+    }
+    Ok(())
+}
