@@ -1,9 +1,14 @@
 //! The text of a report: the records that were fed, and the changes of each relation.
 #![tactic(auto)]
 
+mod broker_text;
+mod declared;
 mod printed;
 mod program_report;
+mod row_keys;
 mod rows;
 mod section;
+mod visible;
 
+pub use broker_text::broker_report;
 pub use program_report::report;

@@ -35,18 +35,33 @@ pub fn report(
 {
     let items = program.items.items();
     let mut out = String::new(alloc);
-    push_order(&mut out, items, order)?;
+    push_order(&mut out, items, lent(alloc, order)?.as_slice())?;
     push_items(&mut out, alloc, closed, items, order, lists)?;
     out.push_str(trace)?;
     out.push_str("end\n")?;
     Ok(out)
 }
 
+/// The records, each lent.
+fn lent<'a>(alloc: Global, order: &'a [SourceRecord]) -> Result<Vec<&'a SourceRecord>, AllocError>
+    ensures { IfOk result (λ records. map (λ r. r.now) records.items ≡ order.now) }
+{
+    let mut records = Vec::with_capacity(alloc, order.len())?;
+    for fed in order {
+        records.push(fed)?;
+    }
+    Ok(records)
+}
+
 /// Appends the order of consumption: its length and a line per record.
 #[tactic(auto, unfolding(crate::specs::Report::order_text, crate::specs::Report::fed_line))]
-fn push_order(out: &mut String, items: &[Item], order: &[SourceRecord]) -> Result<(), AllocError>
+pub fn push_order(
+    out: &mut String,
+    items: &[Item],
+    order: &[&SourceRecord],
+) -> Result<(), AllocError>
     ensures { OnOk result (string_bytes out.new
-        ≡ string_bytes out.old ++ order_text (relations items.now) order.now) }
+        ≡ string_bytes out.old ++ order_text (relations items.now) (map (λ r. r.now) order.now)) }
 {
     writeln!(out, "order {}", order.len())?;
     for fed in order {

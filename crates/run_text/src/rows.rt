@@ -85,7 +85,7 @@ fn cmp_row(a: &Line, b: &Line) -> Ordering
 }
 
 /// How two keys compare: the first values that differ decide, and else the shorter one comes first.
-fn cmp_cells(a: &[Value], b: &[Value]) -> Ordering
+pub fn cmp_cells(a: &[Value], b: &[Value]) -> Ordering
     ensures { result ≡ slice_cmp cell_cmp a.now b.now }
 {
     for (first, second) in a.iter().zip(b) {

@@ -5,14 +5,14 @@ ghost use Rattle.ksql_types.specs.declared.relation.Column.{Column as OneColumn}
 ghost use Rattle.ksql_place.specs.Said.{row_in};
 ghost use Rattle.query_meaning.specs.Plain.{changes_of, rows_said};
 ghost use Rattle.run_text.specs.Lines.{shown_of};
-ghost use Rattle.run_text.specs.Printed.{change_line, row_line, Shown};
+ghost use Rattle.run_text.specs.Printed.{change_line, row_line, shown_in, Shown};
 ghost use Rattle.run_text.specs.Report.{count_text, head_line, kind_text, meant, origin_text, section_text, table_rows, IsPrintable};
 ghost use Rattle.topic_files.specs.Printed.{labels_of};
 
 use crate::printed::{Line, push_change, push_row_line};
 use crate::rows::table_rows;
 use ksql_place::{Body, Change, SourceRecord, said_by};
-use ksql_types::{Kind, Relation, Value, lane};
+use ksql_types::{Kind, Relation, Row, Value, lane};
 use query_meaning::{Listed, partition_of};
 use std::alloc::{AllocError, Global};
 use topic_files::labels;
@@ -66,13 +66,8 @@ fn push_record<'a>(
     }
     match said_by(Kind::Stream, &fed.key, &fed.value) {
         Some(Some(row)) => {
-            lines.push(Line {
-                part: lane(&fed.key, relation.partitions, fed.stamp.part),
-                time: fed.time,
-                key: fed.key.items(),
-                span: None,
-                row: Some(row.items()),
-            })?;
+            let part = lane(&fed.key, relation.partitions, fed.stamp.part);
+            lines.push(line_of_record(part, fed, Some(row)))?;
             Ok(())
         }
         _ => Ok(()),
@@ -90,15 +85,41 @@ fn lines_of_changes<'a>(
 {
     let mut lines = Vec::new(alloc);
     for change in changes {
-        lines.push(Line {
-            part: partition_of(relation, change),
-            time: change.time,
-            key: change.key.items(),
-            span: change.span,
-            row: row_in(&change.body),
-        })?;
+        lines.push(line_of_change(partition_of(relation, change), change))?;
     }
     Ok(lines)
+}
+
+/// The line of what a record says, in this partition.
+pub fn line_of_record<'a>(part: u32, fed: &'a SourceRecord, row: Option<&'a Row>) -> Line<'a>
+    ensures { shown_of result ≡ record {
+      part = part;
+      time = fed.now.time;
+      key = fed.now.key;
+      span = None;
+      row = option_map (λ r. r.now) row.entry;
+    } }
+{
+    Line {
+        part,
+        time: fed.time,
+        key: fed.key.items(),
+        span: None,
+        row: row.map(|row| row.items()),
+    }
+}
+
+/// The line of a change, in this partition.
+pub fn line_of_change<'a>(part: u32, change: &'a Change) -> Line<'a>
+    ensures { shown_of result ≡ shown_in part change.now }
+{
+    Line {
+        part,
+        time: change.time,
+        key: change.key.items(),
+        span: change.span,
+        row: row_in(&change.body),
+    }
 }
 
 /// The row that a change brings, where there is one.

@@ -1,0 +1,85 @@
+-- What partitions show, one entry or one partition later, and the order in which changes stand.
+use Rattle.std.proofs.Common.{subst, ◌≡◌, ◌∙◌, ap, refl, sym, ℕ, zero, suc, ◌+◌, add-one, add-zero, List, [], ◌∷◌, ◌++◌, ◌<◌, arith, get_or, length, take}
+use Rattle.std.specs.Prelude.{flat_map, option_map, slice_get, unwrap_or, All, Option, None, Some}
+use Rattle.std.specs.Option.{IsSomeAnd}
+use Rattle.std.proofs.lemmas.Option.{slice_get_within}
+use Rattle.std.specs.List.{range_with_len}
+use Rattle.std.proofs.lemmas.List.{append-nil, get_or-map, length-map, take_more}
+use Rattle.std.proofs.lemmas.List.Concat.{flat_map-append}
+use Rattle.std.specs.Cmp.{IsTotalOrder, nat_cmp_total, on_total, then_total}
+use Rattle.ksql_types.specs.declared.relation.Relation.{Relation}
+use Rattle.ksql_types.specs.declared.topic.TopicSpec.{TopicSpec}
+use Rattle.ksql_place.specs.Routing.{partitions_of}
+use Rattle.ksql_place.specs.declared.change.Change.{Change}
+use Rattle.ksql_place.specs.declared.change.SourceRecord.{SourceRecord}
+use Rattle.ksql_place.proofs.Orders.{place_total}
+use Rattle.core_state.specs.declared.log.LogEntry.{LogEntry}
+use Rattle.core_state.specs.declared.log.LogEntry.TheVariants.{Fed, Said}
+use Rattle.ksql_program.specs.Program.{relation_of, relations}
+use Rattle.ksql_program.specs.declared.program.Item.{Item}
+use Rattle.topic_log.specs.Shelves.{topics_of}
+use Rattle.topic_log.specs.declared.shelves.Shelves.{Shelves}
+use Rattle.run_text.specs.Shown.{changes_in, records_in, standing_cmp, HasTopicOf, Standing}
+
+pub records_in-append : (xs ys : List LogEntry) → records_in (xs ++ ys) ≡ records_in xs ++ records_in ys
+records_in-append [] ys = refl
+records_in-append (Fed r ∷ xs) ys = ap (λ (rs : List SourceRecord). r ∷ rs) (records_in-append xs ys)
+records_in-append (Said x ∷ xs) ys = records_in-append xs ys
+
+pub changes_in-append : (xs ys : List LogEntry) → changes_in (xs ++ ys) ≡ changes_in xs ++ changes_in ys
+changes_in-append [] ys = refl
+changes_in-append (Fed r ∷ xs) ys = changes_in-append xs ys
+changes_in-append (Said x ∷ xs) ys = ap (λ (cs : List Change). x ∷ cs) (changes_in-append xs ys)
+
+-- one entry more
+pub records_in-more : (xs : List LogEntry) (i : ℕ) (x : LogEntry) → i < length xs → x ≡ get_or xs i x →
+    records_in (take (i + 1) xs) ≡ records_in (take i xs) ++ records_in (x ∷ [])
+records_in-more xs i x inside is =
+    ap records_in (take_more xs i x inside) ∙ records_in-append (take i xs) (get_or xs i x ∷ []) ∙ ap (λ (y : LogEntry). records_in (take i xs) ++ records_in (y ∷ [])) (sym is)
+
+pub changes_in-more : (xs : List LogEntry) (i : ℕ) (x : LogEntry) → i < length xs → x ≡ get_or xs i x →
+    changes_in (take (i + 1) xs) ≡ changes_in (take i xs) ++ changes_in (x ∷ [])
+changes_in-more xs i x inside is =
+    ap changes_in (take_more xs i x inside) ∙ changes_in-append (take i xs) (get_or xs i x ∷ []) ∙ ap (λ (y : LogEntry). changes_in (take i xs) ++ changes_in (y ∷ [])) (sym is)
+
+pub standing_total : IsTotalOrder standing_cmp
+standing_total = then_total (on_total (λ (s : Standing). s.change.place) place_total) (on_total (λ (s : Standing). s.part) nat_cmp_total)
+
+range-more : (a n : ℕ) → range_with_len a (suc n) ≡ range_with_len a n ++ (a + n) ∷ []
+range-more a zero = ap (λ (k : ℕ). k ∷ []) (sym (add-zero a))
+range-more a (suc n) =
+    let last : (a + 1) + n ≡ a + suc n = omega arith in
+    ap (λ (ks : List ℕ). a ∷ ks) (range-more (a + 1) n ∙ ap (λ (k : ℕ). range_with_len (a + 1) n ++ k ∷ []) last)
+
+-- what one partition more has
+pub parts-more : {A : Type 0} (f : ℕ → List A) (n : ℕ) → flat_map f (range_with_len 0 (n + 1)) ≡ flat_map f (range_with_len 0 n) ++ f n
+parts-more {A} f n =
+    let last : 0 + n ≡ n = omega arith in
+    ap (λ (k : ℕ). flat_map f (range_with_len 0 k)) (add-one n)
+    ∙ ap (flat_map f) (range-more 0 n)
+    ∙ flat_map-append f (range_with_len 0 n) ((0 + n) ∷ [])
+    ∙ ap (λ (xs : List A). flat_map f (range_with_len 0 n) ++ xs) (append-nil (f (0 + n)) ∙ ap f last)
+
+-- ---- the topics of a broker
+
+spec-at : (o : Option TopicSpec) (n : ℕ) → IsSomeAnd o (λ t. t.partitions ≡ n) → unwrap_or (option_map (λ (t : TopicSpec). t.partitions) o) 1 ≡ n
+spec-at None n has = absurd has
+spec-at (Some t) n has = has
+
+pub topic-partitions : (s : Shelves) (r : Relation) → HasTopicOf s r → partitions_of (topics_of s) r.number ≡ r.partitions
+topic-partitions s r has = spec-at (slice_get (topics_of s) r.number) r.partitions has
+
+-- a relation's topic is one of the broker's, with as many partitions
+pub topic-inside : (s : Shelves) (r : Relation) → HasTopicOf s r → r.number < length (topics_of s)
+topic-inside s r has = by (slice_get (topics_of s) r.number) refl has
+  where
+    by : (o : Option TopicSpec) → slice_get (topics_of s) r.number ≡ o → IsSomeAnd o (λ t. t.partitions ≡ r.partitions) → r.number < length (topics_of s)
+    by None is has = absurd has
+    by (Some t) is has = slice_get_within (topics_of s) r.number t is
+
+-- the topic of one of a program's relations
+pub topic-at : (s : Shelves) (items : List Item) (i : ℕ) (item : Item) → All (HasTopicOf s) (relations items) → i < length items → item ≡ get_or items i item →
+    HasTopicOf s (relation_of item)
+topic-at s items i item all inside is =
+    let relation = get_or-map relation_of items i item (relation_of item) inside ∙ ap relation_of (sym is) in
+    subst (HasTopicOf s) relation (all i (relation_of item) (simp length-map inside))

@@ -1,0 +1,13 @@
+-- Changes that are lent, as they stand in partitions.
+use Rattle.std.specs.Prelude.{ℕ, List, map}
+use Rattle.ksql_place.specs.declared.change.Change.{Change}
+use Rattle.run_text.specs.Shown.{Standing}
+use Rattle.run_text.specs.declared.visible.LentChange.{LentChange}
+
+-- a change that is lent, as it stands in its partition
+abbrev pub standing_of : LentChange → Standing
+standing_of lent = record { part = lent.part; change = lent.change.now }
+
+-- changes that stand in one partition
+abbrev pub standing_in : ℕ → List Change → List Standing
+standing_in part changes = map (λ c. record { part = part; change = c }) changes

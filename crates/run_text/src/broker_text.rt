@@ -1,0 +1,198 @@
+//! The report of a program as a broker shows it.
+
+ghost use Rattle.std.specs.Prelude.{◌≡◌, ◌++◌, [], All, IfOk, OnOk, flat_map, map, string_bytes};
+ghost use Rattle.std.specs.List.{range_with_len};
+ghost use Rattle.ksql_place.specs.Ascending.{ascending};
+ghost use Rattle.ksql_program.specs.declared.program.Item.TheVariants.{Declared};
+ghost use Rattle.ksql_program.specs.Program.{relation_of, relations};
+ghost use Rattle.topic_log.specs.Shelves.{routes_in, shelf_of};
+ghost use Rattle.core_state.specs.Shelf.{shelf_closed};
+ghost use Rattle.run_text.specs.Report.{section_of, section_text, skipped_of, IsPrintable};
+ghost use Rattle.run_text.specs.Shown.{declared_records, order_shown, query_shown, records_shown, section_shown, shown_report, standing_at, standing_cmp, HasTopicOf};
+ghost use Rattle.run_text.specs.Standings.{standing_of};
+
+use crate::declared::declared_lines;
+use crate::program_report::push_order;
+use crate::section::push_section;
+use crate::visible::{LentChange, by_place, by_stamp, push_changes, push_records, standing_lines};
+use ksql_place::{SourceRecord, is_skipped};
+use ksql_program::{Item, Program, relation_of};
+use ksql_types::Relation;
+use std::alloc::{AllocError, Global};
+use topic_log::Broker;
+
+/// The report of a program as a broker shows it, whatever that is: the records of its declared relations in their order,
+/// a head line and the changes of each relation and, of a table, its rows, the trace, and a last line. The broker has the
+/// topic of each relation. What it shows is lent, not copied. Takes of the order of n log n steps for n entries.
+#[tactic(auto, using(crate::proofs::ReportLemmas::appends), unfolding(crate::specs::Report::report, crate::specs::Shown::shown_report))]
+pub fn broker_report(
+    alloc: Global,
+    program: &Program,
+    broker: &Broker,
+    trace: &str,
+) -> Result<String, AllocError>
+    requires printable { All IsPrintable (relations program.now.items) }
+    requires topics { All (HasTopicOf broker.now) (relations program.now.items) }
+    ensures { IfOk result (λ text. string_bytes text ≡ shown_report program.now.items broker.now trace.now) }
+{
+    let items = program.items.items();
+    let order = order_shown(alloc, broker, items)?;
+    let mut out = String::new(alloc);
+    push_order(&mut out, items, order.as_slice())?;
+    push_sections(&mut out, alloc, broker, items)?;
+    out.push_str(trace)?;
+    out.push_str("end\n")?;
+    Ok(out)
+}
+
+/// Appends what is shown of each item.
+fn push_sections(
+    out: &mut String,
+    alloc: Global,
+    broker: &Broker,
+    items: &[Item],
+) -> Result<(), AllocError>
+    requires { All (HasTopicOf broker.now) (relations items.now) }
+    ensures { OnOk result (string_bytes out.new
+        ≡ string_bytes out.old ++ flat_map section_text (map (section_shown broker.now) items.now)) }
+{
+    for item in items {
+        push_item_section(out, alloc, broker, item)?;
+    }
+    Ok(())
+}
+
+/// Appends what is shown of an item.
+fn push_item_section(
+    out: &mut String,
+    alloc: Global,
+    broker: &Broker,
+    item: &Item,
+) -> Result<(), AllocError>
+    requires { HasTopicOf broker.now (relation_of item.now) }
+    ensures { OnOk result (string_bytes out.new
+        ≡ string_bytes out.old ++ section_text (section_shown broker.now item.now)) }
+{
+    match item {
+        Item::Declared(relation) => push_declared_section(out, alloc, broker, relation),
+        Item::Started(query) => push_query_section(out, alloc, broker, &query.out),
+    }
+}
+
+/// Appends what is shown of a declared relation.
+fn push_declared_section(
+    out: &mut String,
+    alloc: Global,
+    broker: &Broker,
+    relation: &Relation,
+) -> Result<(), AllocError>
+    requires { HasTopicOf broker.now relation.now }
+    ensures { OnOk result (string_bytes out.new
+        ≡ string_bytes out.old ++ section_text (section_shown broker.now (Declared relation.now))) }
+{
+    let records = records_shown(alloc, broker, relation)?;
+    let lines = declared_lines(alloc, relation, records.as_slice())?;
+    let skipped = skipped_among(relation, records.as_slice());
+    let closed = broker.closed(relation.number);
+    push_section(out, alloc, relation, closed, skipped, lines.as_slice())
+}
+
+/// Appends what is shown of a query's relation.
+fn push_query_section(
+    out: &mut String,
+    alloc: Global,
+    broker: &Broker,
+    relation: &Relation,
+) -> Result<(), AllocError>
+    requires { HasTopicOf broker.now relation.now }
+    ensures { let closed = shelf_closed (routes_in broker.now) (shelf_of broker.now) relation.now.number in
+        OnOk result (string_bytes out.new
+        ≡ string_bytes out.old ++ section_text (section_of closed relation.now [] (query_shown broker.now relation.now))) }
+{
+    let changes = changes_shown(alloc, broker, relation)?;
+    let lines = standing_lines(alloc, changes.as_slice())?;
+    let closed = broker.closed(relation.number);
+    push_section(out, alloc, relation, closed, 0, lines.as_slice())
+}
+
+/// How many of some records are skipped ones of a relation's topic.
+fn skipped_among(relation: &Relation, records: &[&SourceRecord]) -> usize
+    ensures { result ≡ skipped_of relation.now (map (λ r. r.now) records.now) }
+{
+    records
+        .iter()
+        .filter(|fed| is_skipped(relation, fed))
+        .count()
+}
+
+/// The order of consumption: the records of the topics of all declared relations, by their stamps.
+fn order_shown<'a>(
+    alloc: Global,
+    broker: &'a Broker,
+    items: &[Item],
+) -> Result<Vec<&'a SourceRecord>, AllocError>
+    requires { All (HasTopicOf broker.now) (relations items.now) }
+    ensures { IfOk result (λ order. map (λ r. r.now) order.items ≡ order_shown broker.now items.now) }
+{
+    let mut order = Vec::new(alloc);
+    for item in items {
+        push_declared(&mut order, alloc, broker, item)?;
+    }
+    by_stamp(order)
+}
+
+/// Adds the records of an item's topic, where it is declared.
+fn push_declared<'a>(
+    order: &mut Vec<&'a SourceRecord>,
+    alloc: Global,
+    broker: &'a Broker,
+    item: &Item,
+) -> Result<(), AllocError>
+    requires { HasTopicOf broker.now (relation_of item.now) }
+    ensures { OnOk result (map (λ r. r.now) order.new.items
+        ≡ map (λ r. r.now) order.old.items ++ declared_records broker.now item.now) }
+{
+    match item {
+        Item::Declared(relation) => {
+            let records = records_shown(alloc, broker, relation)?;
+            order.extend_from_slice(records.as_slice())
+        }
+        Item::Started(_) => Ok(()),
+    }
+}
+
+/// The records of a declared relation's topic, all partitions together, by their stamps.
+fn records_shown<'a>(
+    alloc: Global,
+    broker: &'a Broker,
+    relation: &Relation,
+) -> Result<Vec<&'a SourceRecord>, AllocError>
+    requires { HasTopicOf broker.now relation.now }
+    ensures { IfOk result (λ records. map (λ r. r.now) records.items ≡ records_shown broker.now relation.now) }
+{
+    let mut records = Vec::new(alloc);
+    for part in 0..broker.partitions(relation.number) {
+        push_records(&mut records, broker.visible(relation.number, part))?;
+    }
+    by_stamp(records)
+}
+
+/// The changes of a query's topic, all partitions together, by their places.
+fn changes_shown<'a>(
+    alloc: Global,
+    broker: &'a Broker,
+    relation: &Relation,
+) -> Result<Vec<LentChange<'a>>, AllocError>
+    requires { HasTopicOf broker.now relation.now }
+    ensures { IfOk result (λ changes. map standing_of changes.items
+        ≡ ascending standing_cmp (flat_map (standing_at broker.now relation.now) (range_with_len 0 relation.now.partitions))) }
+{
+    let mut changes = Vec::new(alloc);
+    for part in 0..broker.partitions(relation.number) {
+        push_changes(&mut changes, part, broker.visible(relation.number, part))?;
+    }
+    by_place(changes)
+}
+
+#[cfg(test)]
+mod tests;
