@@ -71,7 +71,7 @@ given-feeds nodes earlier (u ∷ us) a b all =
     (given nodes earlier (u ∷ [])) (given-feed nodes earlier u))
     (given-feeds nodes (earlier ++ u ∷ []) us a b (All-tail (λ (e : Entry). (a < e.change.place.stamp.feed) × (e.change.place.stamp.feed ≤ b)) u us all)))
 
-gives-well : (t : Topology) → GivesWell (wiring_of t)
+pub gives-well : (t : Topology) → GivesWell (wiring_of t)
 gives-well t =
     let steps = steps-well t in
     record {
@@ -131,7 +131,7 @@ module _ (items : List Item) (order : List SourceRecord) (sound : IsSound items)
   abbrev AgreeWhereWritten : List ℕ → Type 0
   AgreeWhereWritten topics = (i : ℕ) → Contains topics i → Contains (written_topics items) i → Agrees i
 
-  inputs-agree : (nodes : List Node) (inputs : List SubInput) (part : ℕ) → ReadsIn items sound nodes inputs → AgreeWhereWritten (map (λ (x : SubInput). x.topic) inputs) →
+  pub inputs-agree : (nodes : List Node) (inputs : List SubInput) (part : ℕ) → ReadsIn items sound nodes inputs → AgreeWhereWritten (map (λ (x : SubInput). x.topic) inputs) →
       entries_read nodes inputs (λ topic. in_core topic part) ≡ topology.task_entries inputs in_topology part
   inputs-agree nodes [] part reads agree = absurd reads
   inputs-agree nodes (a ∷ []) part reads agree =
