@@ -12,7 +12,7 @@ ghost use Rattle.topic_log.specs.Shelves.{AreTopics, part_at, routes_in, shelf_o
 use crate::{Moved, Task};
 use core_state::Proposal;
 use ksql_expr::{Typed, TypedNode};
-use ksql_nodes::{Node, Nodes};
+use ksql_nodes::Node;
 use ksql_place::{Body, Decoded, SourceRecord, Stamp};
 use ksql_types::{Chars, Items, Key, SqlType, TaskName, TopicSpec, Value, Writer};
 use std::alloc::{AllocError, Global};
@@ -58,24 +58,24 @@ fn column(ty: SqlType, index: u32) -> Typed {
     }
 }
 
-/// The nodes that keep the rows whose third cell is true, and select the second one under the key of the first.
-fn filtered(alloc: Global) -> Result<Nodes, AllocError>
-    ensures { IfOk result AreFiltered }
+/// The nodes that keep the rows whose third cell is true, and select the second one.
+fn filtered(alloc: Global) -> Result<Vec<Node>, AllocError>
+    ensures { IfOk result (λ nodes. AreFiltered nodes.items) }
 {
     let filter = Node::Filter {
         on: column(SqlType::Bool, 2),
     };
     let select = Node::Select {
-        keys: Items::of(vec![in alloc; column(SqlType::Int, 0)]?),
+        keys: Items::of(Vec::new(alloc)),
         values: Items::of(vec![in alloc; column(SqlType::Int, 1)]?),
     };
     let nodes = vec![in alloc; filter, select]?;
-    Ok(Items::of(nodes))
+    Ok(nodes)
 }
 
 /// A sub-topology that reads topic 0, whose rows have one key column, and writes topic 1.
-fn reading(alloc: Global, nodes: Nodes) -> Result<Sub, AllocError>
-    ensures nodes { IfOk result (λ sub. sub.nodes ≡ nodes) }
+fn reading(alloc: Global, nodes: Vec<Node>) -> Result<Sub, AllocError>
+    ensures nodes { IfOk result (λ sub. sub.nodes ≡ nodes.items) }
     ensures inputs { IfOk result (λ sub. sub.inputs ≡ record { topic = 0; relation = 0; keys = 1 } ∷ []) }
 {
     let input = SubInput {
@@ -83,12 +83,13 @@ fn reading(alloc: Global, nodes: Nodes) -> Result<Sub, AllocError>
         relation: 0,
         keys: 1,
     };
+    let inputs = vec![in alloc; input]?;
     Ok(Sub {
         number: 0,
         query: 1,
         partitions: 1,
-        inputs: Items::of(vec![in alloc; input]?),
-        nodes,
+        inputs: Items::of(inputs),
+        nodes: Items::of(nodes),
         output: 1,
     })
 }

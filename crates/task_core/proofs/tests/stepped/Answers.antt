@@ -1,4 +1,4 @@
-use Rattle.std.proofs.Common.{◌≡◌, ◌∙◌, ap, subst, sym, List, [], ◌∷◌}
+use Rattle.std.proofs.Common.{◌≡◌, ◌∙◌, ap, subst, sym}
 use Rattle.std.specs.Prelude.{IsSome, map}
 use Rattle.ksql_types.specs.declared.relation.TaskName.{TaskName}
 use Rattle.core_state.specs.declared.log.LogEntry.TheVariants.{Fed}
@@ -8,8 +8,8 @@ use Rattle.task_core.specs.Tasks.{TaskView}
 use Rattle.task_core.proofs.Modest.{filtered-operators, filtered-own, readable-one, storable-one}
 use Rattle.task_core.proofs.tests.stepped.Goals as goal
 
-pub fresh-task-requires : goal.fresh-task-requires
-fresh-task-requires c = filtered-operators c.in_ok-sub.sub.nodes (subst AreFiltered (sym c.in_ok-sub.ensures.nodes) c.in_ok-nodes.ensures)
+pub fresh-requires : goal.fresh-requires
+fresh-requires c = filtered-operators c.in_ok-sub.sub.nodes (subst AreFiltered (sym c.in_ok-sub.ensures.nodes) c.in_ok-nodes.ensures)
 
 pub advance-requires-clause-readable : goal.advance-requires-clause-readable
 advance-requires-clause-readable c =
