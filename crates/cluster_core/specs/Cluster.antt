@@ -1,10 +1,10 @@
 -- A cluster that has come so far: its numbers are those of the steps taken, and its state is good.
-use Rattle.std.specs.Prelude.{◌≡◌, ℕ, ◌+◌, ◌≤◌, ◌^◌, ◌&&◌, ◌==◌, Bool, if◌then◌else◌, List, [], ◌∷◌, length, map, All, Option, Some, None}
+use Rattle.std.specs.Prelude.{◌≡◌, ◌+◌, ◌<◌, ◌≤◌, ◌^◌, ◌&&◌, ◌==◌, Bool, if◌then◌else◌, List, [], ◌∷◌, length, map, All, Option, Some, None}
 use Rattle.std.specs.List.{AllZip}
 use Rattle.ksql_types.specs.declared.relation.TaskName.{TaskName}
 use Rattle.ksql_program.specs.declared.program.Item.{Item}
 use Rattle.operator.specs.Holding.{Maps}
-use Rattle.storing_laws.specs.Short.{HasFewAggregates}
+use Rattle.storing_laws.specs.Short.{HasFewAggregates, HoldTexts}
 use Rattle.topic_feeds.specs.Reaching.{Reaches}
 use Rattle.topology.specs.Tasks.{chain_of, tasks_of}
 use Rattle.topology.specs.Topologies.{topology_of}
@@ -13,7 +13,7 @@ use Rattle.topology.specs.declared.schedule.Step.{Step}
 use Rattle.topology.specs.declared.schedule.Step.TheVariants as step
 use Rattle.topology.specs.declared.topology.Topology.{Topology}
 use Rattle.core_state.specs.Good.{Good}
-use Rattle.core_state.specs.Shelf.{Parts, state_of}
+use Rattle.core_state.specs.Shelf.{state_of}
 use Rattle.core_state.specs.State.{Instance, State}
 use Rattle.core_laws.specs.Core.{meaning_in_core}
 use Rattle.topic_log.specs.Shelves.{shelf_of, topics_of}
@@ -58,11 +58,12 @@ pub record IsTaskIn (t : Topology) (task : TaskView) : Type 0 where
   pub inputs : task.inputs ≡ inputs_at t task.name
   pub few : All HasFewAggregates task.nodes
 
--- a source is kept as it stands in a run
+-- a source is kept as it stands in a run; the records of its file fit into memory
 pub record IsKept (kept : Kept) (s : Source) : Type 0 where
   pub relation : kept.relation ≡ s.relation
   pub reached : Reaches s.relation s.before kept.reached
   pub left : kept.left.items ≡ s.left
+  pub few : length s.before + length s.left ≤ 2 ^ 63
 
 -- How far a run has come is as it should be: its sources are those of the program, and the order of consumption fits it
 pub record IsProgress (items : List Item) (p : Progress) : Type 0 where
@@ -72,12 +73,14 @@ pub record IsProgress (items : List Item) (p : Progress) : Type 0 where
 
 -- a cluster of a program has come so far
 pub record HasCome (items : List Item) (p : Progress) (c : Cluster) : Type 0 where
+  pub texts : HoldTexts items
   pub progress : IsProgress items p
   pub topology : c.topology ≡ topology_of items
   pub chain : c.chain ≡ chain_of c.topology.subs
   pub topics : topics_of c.broker ≡ c.topology.topics
   pub names : map (λ t. t.name) c.tasks.items ≡ tasks_of c.topology.subs
   pub tasks : All (IsTaskIn c.topology) c.tasks.items
+  pub newest : All (λ t. t.generation ≡ (shelf_of c.broker).newest t.name) c.tasks.items
   pub good : Good (core_of c.topology) (meaning_in_core items p.order) (core_state_of c.broker (map idle c.tasks.items))
   pub fed : c.broker.fed ≡ p.fed
   pub done : AllZip (λ u t. t.done ≡ p.done u) (tasks_of c.topology.subs) c.tasks.items

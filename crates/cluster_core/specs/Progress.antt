@@ -1,6 +1,6 @@
 -- How far a run has come, in numbers alone: what each step of a schedule does to the last feed, to what the tasks are done with, and to
 -- what is left of the files.
-use Rattle.std.specs.Prelude.{ℕ, zero, suc, ◌+◌, ◌==◌, if◌then◌else◌, List, [], ◌∷◌, ◌++◌, length, map, flat_map, take, drop, Option, Some, None, option_map, slice_get, unwrap_or}
+use Rattle.std.specs.Prelude.{ℕ, zero, suc, ◌+◌, ◌==◌, if◌then◌else◌, List, [], ◌∷◌, ◌++◌, length, map, flat_map}
 use Rattle.ksql_types.specs.declared.relation.TaskName.{TaskName}
 use Rattle.ksql_place.specs.declared.change.SourceRecord.{SourceRecord}
 use Rattle.ksql_program.specs.declared.program.Item.{Item}
@@ -53,6 +53,12 @@ whole s = length s.left
 abbrev pub counted : List Count → Source → ℕ
 counted [] s = 0
 counted (c ∷ cs) s = if c.topic == s.relation.number then c.n else counted cs s
+
+-- how many records the feed of a step takes of a source
+abbrev pub taken : Step → Source → ℕ
+taken step.FeedAll = whole
+taken (step.Feed counts) = counted counts
+taken _ = λ s. 0
 
 -- ---- a round
 

@@ -2,8 +2,10 @@
 #![tactic(auto)]
 
 mod cluster;
+mod fresh;
 mod rounds;
 mod sources;
+mod texts;
 
 pub use cluster::{Cluster, drive};
 pub use topology::{Lined, Schedule, Step, Topology};

@@ -1,12 +1,22 @@
 //! The topics of declared relations, and what is left of their files.
+ghost use Rattle.std.specs.Prelude.{◌≡◌, ◌≤◌, ◌++◌, ◌∷◌, All, IfOk, List, OnOk, [], drop, length, map, min, take};
+ghost use Rattle.std.specs.List.{AllZip};
+ghost use Rattle.ksql_program.specs.declared.program.Item.{Item as OneItem};
+ghost use Rattle.topic_files.specs.declared.topic.TopicLines.{TopicLines as OneFile};
+ghost use Rattle.feed_laws.specs.Feeds.{Source as OneSource, after_feed, fed_of, records_of, sources_of};
+ghost use Rattle.feed_laws.specs.Fitting.{AreFilesOf};
+ghost use Rattle.cluster_core.specs.Cluster.{IsKept};
+ghost use Rattle.cluster_core.specs.Progress.{counted, taken};
+ghost use Rattle.cluster_core.specs.Sourcing.{AreBuilt, CanFeed};
+
 use ksql_place::{SourceRecord, order_of};
 use ksql_program::Item;
 use ksql_types::{CopyOf, Items, Relation};
 use std::alloc::{AllocError, Global};
 use std::collections::VecDeque;
 use topic_feeds::Reached;
-use topic_files::{Fed, TopicLines};
-use topology::Count;
+use topic_files::{Fed, Feds, TopicLines};
+use topology::{Count, Step};
 
 /// The topic of a declared relation: how far it was fed, and the records of its file that are left.
 #[derive(Drop)]
@@ -16,80 +26,141 @@ pub struct Source {
     left: VecDeque<Fed>,
 }
 
-/// How many records a feed takes of each source: all that are left, or so many.
-pub enum Amount<'a> {
-    All,
-    Counted(&'a [Count]),
-}
-
-/// The sources of the declared relations among some items, one file for each, in their order.
+/// The sources of the declared relations of a program, one file for each, in their order.
 pub fn sources_of(
     alloc: Global,
     items: &[Item],
     files: Vec<TopicLines>,
-) -> Result<Vec<Source>, AllocError> {
+) -> Result<Vec<Source>, AllocError>
+    requires files { AreFilesOf items.now files.items }
+    ensures { IfOk result (λ sources. AllZip IsKept sources.items (sources_of items.now files.items)) }
+{
     let mut left = VecDeque::from_vec(files);
     let mut sources = Vec::new(alloc);
     for item in items {
-        let Item::Declared(relation) = item else {
-            continue;
-        };
-        let Some(file) = left.pop_front() else {
-            continue;
-        };
-        sources.push(Source {
-            relation: relation.copy(alloc)?,
-            reached: Reached::new(alloc, relation)?,
-            left: VecDeque::from_vec(file.feds.into_items()),
-        })?;
+        push_source(alloc, &mut sources, item, &mut left)?;
     }
     Ok(sources)
 }
 
-/// The records of the feed of this number, in the order of consumption.
+/// Appends the source of an item, where it is declared: its file is the first one that is left.
+fn push_source(
+    alloc: Global,
+    sources: &mut Vec<Source>,
+    item: &Item,
+    left: &mut VecDeque<TopicLines>,
+) -> Result<(), AllocError>
+    ensures { OnOk result ((items : List OneItem) (files : List OneFile) (rest : List OneItem) →
+        AreBuilt items files sources.old.items (item.now ∷ rest) left.old.items → AreBuilt items files sources.new.items rest left.new.items) }
+{
+    let Item::Declared(relation) = item else {
+        return Ok(());
+    };
+    let Some(file) = left.pop_front() else {
+        return Ok(());
+    };
+    sources.push(source_of(alloc, relation, file)?)?;
+    Ok(())
+}
+
+/// The source of a declared relation with this file, before any feed. A file of more than 2^63 records is out of memory.
+fn source_of(alloc: Global, relation: &Relation, file: TopicLines) -> Result<Source, AllocError>
+    ensures { IfOk result (λ source. IsKept source (record { relation = relation.now; before = []; left = file.feds })) }
+{
+    let feds = file.feds.into_items();
+    if feds.len() as u64 > 1 << 63 {
+        return Err(AllocError);
+    }
+    Ok(Source {
+        relation: relation.copy(alloc)?,
+        reached: Reached::new(alloc, relation)?,
+        left: VecDeque::from_vec(feds),
+    })
+}
+
+/// The records of the feed of this number, in the order of consumption, where the step says how many it takes of each source;
+/// and the sources after it.
 pub fn feed_sources(
     alloc: Global,
-    sources: &mut [Source],
+    sources: Vec<Source>,
     feed: u64,
-    amount: &Amount,
-) -> Result<Vec<SourceRecord>, AllocError> {
+    step: &Step,
+) -> Result<(Vec<Source>, Vec<SourceRecord>), AllocError>
+    requires ready { (ss : List OneSource) × AllZip IsKept sources.items ss × All (CanFeed feed) ss }
+    ensures sources { IfOk result (λ fed. (ss : List OneSource) → AllZip IsKept sources.items ss → All (CanFeed feed) ss →
+        AllZip IsKept fed.0.items (map (after_feed feed (taken step.now)) ss)) }
+    ensures records { IfOk result (λ fed. (ss : List OneSource) → AllZip IsKept sources.items ss → All (CanFeed feed) ss →
+        fed.1.items ≡ records_of feed (taken step.now) ss) }
+{
+    let mut after = Vec::with_capacity(alloc, sources.len())?;
     let mut records = Vec::new(alloc);
-    for source in sources.iter_mut() {
-        let count = amount_of(source, amount);
-        feed_source(alloc, &mut records, source, feed, count)?;
+    for mut source in sources {
+        feed_source(alloc, &mut records, &mut source, feed, step)?;
+        after.push(source)?;
     }
-    order_of(records)
+    Ok((after, order_of(records)?))
 }
 
-/// How many records a feed takes of a source, as far as there are any left.
-fn amount_of(source: &Source, amount: &Amount) -> usize {
-    let all = source.left.len();
-    match amount {
-        Amount::All => all,
-        Amount::Counted(counts) => {
-            let count = counts
-                .iter()
-                .find(|count| count.topic == source.relation.number);
-            count.map_or(0, |count| count.n.min(all as u64) as usize)
-        }
-    }
-}
-
-/// Adds the next records of a source.
+/// Adds the records that a feed takes of a source.
 fn feed_source(
     alloc: Global,
     records: &mut Vec<SourceRecord>,
     source: &mut Source,
     feed: u64,
-    count: usize,
-) -> Result<(), AllocError> {
+    step: &Step,
+) -> Result<(), AllocError>
+    requires ready { (s : OneSource) × IsKept source.old s × CanFeed feed s }
+    ensures source { OnOk result ((s : OneSource) → IsKept source.old s → CanFeed feed s → IsKept source.new (after_feed feed (taken step.now) s)) }
+    ensures records { OnOk result ((s : OneSource) → IsKept source.old s → CanFeed feed s →
+        records.new.items ≡ records.old.items ++ fed_of feed (taken step.now) s) }
+{
+    let count = taken_of(source, step);
+    let feds = take_feds(alloc, &mut source.left, count)?;
+    source
+        .reached
+        .feed(alloc, records, feed, &source.relation, feds)?;
+    Ok(())
+}
+
+/// How many records the feed of a step takes of a source, as far as there are any left.
+fn taken_of(source: &Source, step: &Step) -> usize
+    ensures within { result ≤ length source.now.left.items }
+    ensures value { (s : OneSource) → IsKept source.now s → result ≡ min (taken step.now s) (length s.left) }
+{
+    let all = source.left.len();
+    match step {
+        Step::FeedAll => all,
+        Step::Feed(counts) => {
+            let count = count_of(counts.items(), source.relation.number);
+            count.min(all as u64) as usize
+        }
+        _ => 0,
+    }
+}
+
+/// How many records these counts say of a topic, and none where they say nothing.
+fn count_of(counts: &[Count], topic: u32) -> u64
+    ensures { (s : OneSource) → s.relation.number ≡ topic → result ≡ counted counts.now s }
+{
+    for count in counts {
+        if count.topic == topic {
+            return count.n;
+        }
+    }
+    0
+}
+
+/// Takes the first records that are left, so many.
+fn take_feds(alloc: Global, left: &mut VecDeque<Fed>, count: usize) -> Result<Feds, AllocError>
+    requires { count ≤ length left.old.items }
+    ensures taken { IfOk result (λ feds. feds ≡ take count left.old.items) }
+    ensures left { OnOk result (left.new.items ≡ drop count left.old.items) }
+{
     let mut feds = Vec::with_capacity(alloc, count)?;
     for _ in 0..count {
-        if let Some(fed) = source.left.pop_front() {
+        if let Some(fed) = left.pop_front() {
             feds.push(fed)?;
         }
     }
-    source
-        .reached
-        .feed(alloc, records, feed, &source.relation, Items::of(feds))
+    Ok(Items::of(feds))
 }
