@@ -1,13 +1,13 @@
 -- The causes of statuses: how the steps give them, and that what the words and the files decide is one answer.
 use Rattle.std.proofs.Common.{◌≡◌, ◌∙◌, ap, ap₂, sym, refl, subst, ℕ, List, [], ◌∷◌, ◌++◌, append_assoc, inl, inr, length, arith, length-append}
-use Rattle.std.specs.Prelude.{codes, ◌⊎◌, Option, None, Some, IfSome, ◌≤◌}
+use Rattle.std.specs.Prelude.{codes, ◌⊎◌, Option, None, Some, IfSome, Result, Ok, Err, OnOk, OnErr, ◌≤◌}
 use Rattle.std.specs.List.{AllByRecursion}
 use Rattle.std.proofs.lemmas.Option.{same_Some}
-use Rattle.std.proofs.lemmas.List.{append-nil}
+use Rattle.std.proofs.lemmas.List.{append-nil, take_all}
 use Rattle.ksql_types.specs.Text.{longest_text}
 use Rattle.ksql_types.specs.declared.code.Code.{Code}
 use Rattle.ksql_types.specs.declared.relation.Relation.{Relation}
-use Rattle.ksql_outside.specs.Outside.{read_bytes, JoinedLast}
+use Rattle.ksql_outside.specs.Outside.{followed_by, read_bytes, JoinedLast, WrotePrefix}
 use Rattle.ksql_program.specs.declared.program.Program.{Program}
 use Rattle.ksql_script.specs.Script.{IsAccepted, IsRefused}
 use Rattle.ksql_script.proofs.OneScript.{one_program, one_refusal, not_both}
@@ -260,3 +260,20 @@ exact_refusal (Some all) words old new Calm answer refusal cause =
 pub due_short : (topic name : List ℕ) → name ≡ codes "./" ++ (topic ++ codes ".jsonl") → length topic ≤ 249 → length name ≤ longest_text
 unfolding longest_text
 due_short topic name is short = omega (arith, ap length is, length-append topic (codes ".jsonl"))
+
+-- ---- what is written
+
+-- a piece that was written, as a whole or else in front
+pub wrote_either : {A E : Type 0} (result : Result A E) (old new : Option (List ℕ)) (piece : List ℕ) →
+    OnOk result (new ≡ followed_by old piece) → OnErr result (WrotePrefix old new piece) → WrotePrefix old new piece
+wrote_either (Ok a) old new piece whole front =
+    (length piece, omega arith, whole ∙ ap (followed_by old) (sym (take_all (length piece) piece (omega arith))))
+wrote_either (Err e) old new piece whole front = front
+
+-- a front of the text is one of the report
+pub front_written : (known : Option Files) (words : List (List ℕ)) (old new : Option (List ℕ)) (text piece : List ℕ) → piece ≡ text →
+    WrotePrefix old new piece → IfSome known (IsRun words text) →
+    IfSome known (λ all. (run : Run) × Runs words all run × WrotePrefix old new (report_of run))
+front_written None words old new text piece same front found = tt
+front_written (Some all) words old new text piece same front found =
+    (found.0, found.1, subst (WrotePrefix old new) (same ∙ found.2) front)

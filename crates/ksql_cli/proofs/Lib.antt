@@ -1,4 +1,5 @@
 pub mod Causes
+pub mod Closed
 pub mod Pieces
 pub mod Reports
 pub mod SomeStatus

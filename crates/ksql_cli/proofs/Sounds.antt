@@ -14,6 +14,7 @@ use Rattle.ksql_program.specs.Program.{relation_of, relations}
 use Rattle.ksql_program.specs.Sound.{AreSoundItems, IsSound, IsSoundRelation}
 use Rattle.query_meaning.specs.Built.{is_built, is_built_relation, is_built_shape, is_json, is_windowed, AreBuilt}
 use Rattle.query_meaning.proofs.EachBuilt.{each-built}
+use Rattle.meaning_laws.specs.Windows.{is_windowless, HaveNoWindow}
 use Rattle.run_text.specs.Report.{IsPrintable}
 use Rattle.ksql_cli.specs.Run.{declared_of}
 use Rattle.ksql_cli.specs.Steps.{IsFeedable}
@@ -26,6 +27,11 @@ legal_short topic legal = grind (arith, nat_tests)
 both_second : (a b : Bool) → IsTrue (a && b) → IsTrue b
 both_second true b is = is
 both_second false b is = absurd (cc (is))
+
+-- and the first
+both_first : (a b : Bool) → IsTrue (a && b) → IsTrue a
+both_first true b is = refl
+both_first false b is = absurd (cc (is))
 
 json_of : (format : Format) → IsTrue (is_json format) → format ≡ Json
 json_of Json is = refl
@@ -73,12 +79,14 @@ each_printable before (Started q ∷ is) sound built =
 pub printable : (items : List Item) → IsSound items → AreBuilt items → All IsPrintable (relations items)
 printable items sound built = each_printable [] items sound.sound (each-built 1 items built)
 
--- each of some items, alone
-pub feedable-at : (items : List Item) (i : ℕ) (d : Item) → i < length items → All IsFeedable (declared_of items) →
-    All IsFeedable (declared_of (get_or items i d ∷ []))
-feedable-at [] i d low each = absurd (omega (arith, low))
-feedable-at (Declared r ∷ is) zero d low each =
-    All-cons IsFeedable r [] (All-head IsFeedable r (declared_of is) each) (All-nil IsFeedable)
-feedable-at (Started q ∷ is) zero d low each = All-nil IsFeedable
-feedable-at (Declared r ∷ is) (suc i) d low each = feedable-at is i d (omega (arith, low)) (All-tail IsFeedable r (declared_of is) each)
-feedable-at (Started q ∷ is) (suc i) d low each = feedable-at is i d (omega (arith, low)) each
+-- a program whose forms are run has no windows
+windowless_one : (i : Item) → IsTrue (is_built i) → IsTrue (is_windowless i)
+windowless_one (Declared r) is = refl
+windowless_one (Started q) is = both_first (is_built_shape q.shape) (is_built_relation q.out) is
+
+each_windowless : (is : List Item) → AllByRecursion (λ i. IsTrue (is_built i)) is → HaveNoWindow is
+each_windowless [] built = tt
+each_windowless (i ∷ is) built = (windowless_one i built.0, each_windowless is built.1)
+
+pub windowless : (items : List Item) → AreBuilt items → HaveNoWindow items
+windowless items built = each_windowless items (each-built 1 items built)

@@ -3,3 +3,4 @@ pub mod Command
 pub mod Fault
 pub mod Status
 pub mod Steps
+pub mod Ran

@@ -4,9 +4,10 @@ use Rattle.std.specs.List.{AllByRecursion}
 use Rattle.ksql_types.specs.declared.relation.Format.TheVariants.{Json}
 use Rattle.ksql_types.specs.declared.relation.Relation.{Relation}
 use Rattle.ksql_outside.specs.Outside.{read_bytes, JoinedLast}
-use Rattle.topic_files.specs.declared.topic.Fed.{Fed}
 use Rattle.topic_files.specs.declared.topic.Room.{Room}
 use Rattle.topic_files.specs.File.{first_fault}
+use Rattle.topology.specs.declared.schedule.Lined.{Lined}
+use Rattle.topology.specs.declared.schedule.Step.TheVariants as taken
 use Rattle.ksql_cli.specs.declared.status.Status.{Status}
 use Rattle.ksql_cli.specs.declared.status.Status.TheVariants as ended
 use Rattle.ksql_cli.specs.Command.{Files, script_name, topic_file, IsFirstBad, IsTopicDue}
@@ -61,6 +62,6 @@ IsTopicRefusal _ = ⊥
 abbrev pub AreTopicsDue : Files → Room → List Relation → List (List ℕ) → List (List ℕ) → Type 0
 AreTopicsDue all room relations old new = (names : List (List ℕ)) × (new ≡ old ++ names) × AllByRecursion (IsTopicDue all room relations) names
 
--- one feed takes all records of a file
-abbrev pub at_once : Relation → List Fed → List ℕ
-at_once relation feds = length feds ∷ []
+-- a schedule of one feed of all records and a drain
+abbrev pub fed_once : List Lined
+fed_once = record { line = 1; step = taken.FeedAll } ∷ record { line = 2; step = taken.Drain } ∷ []

@@ -16,7 +16,7 @@ pub fn run_command<R: AllocGlobal + Env + Files + Print>(rt: &R) -> ExitCode {
     let mut folder = DirFolder::new(rt, alloc);
     let mut out = StdSink::new(rt);
     let status = match words(rt) {
-        Ok(words) => ksql(rt, alloc, &words, &mut folder, &mut out, &NoGate),
+        Ok(words) => ksql(rt, alloc, &words, &mut folder, &mut out, &NoGate, &mut None),
         Err(status) => {
             let _ = write_fault(&mut out, &status);
             status

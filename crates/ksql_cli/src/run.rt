@@ -1,32 +1,37 @@
-ghost use Rattle.std.specs.Prelude.{◌≡◌, ◌↔◌, ◌⊎◌, ◌≤◌, ◌∷◌, ◌++◌, [], None, Some, All, option_map, string_bytes, nat_le, length, ℕ, List, IfOk, IfErr, IfSome, IsErrOf, OnOk};
+ghost use Rattle.std.specs.Prelude.{◌≡◌, ◌↔◌, ◌⊎◌, ◌≤◌, ◌∷◌, [], None, option_map, string_bytes, nat_le, length, ℕ, List, IfOk, IfErr, IfSome, IsErrOf};
 ghost use Rattle.ksql_outside.specs.Outside.{followed_by, JoinedLast, Rose, WrotePrefix};
-ghost use Rattle.ksql_program.specs.declared.program.Item.{Item as OneItem};
 ghost use Rattle.ksql_program.specs.Sound.{IsSound};
 ghost use Rattle.query_meaning.specs.Built.{AreBuilt};
-ghost use Rattle.topic_feeds.specs.Feeding.{all_fed, fed_in};
+ghost use Rattle.feed_laws.specs.Fitting.{AreFilesOf};
 ghost use Rattle.ksql_cli.specs.declared.status.Status.{Status as OneStatus};
-ghost use Rattle.ksql_cli.specs.Command.{AreDue, AreFed, HasCause, HasAnswer, IsDecided, IsProgramRead, IsRefusal, longest_word, NoDueFails, Runs, script_name, whole_room};
+ghost use Rattle.ksql_cli.specs.Command.{AreDue, HasCause, HasAnswer, IsDecided, IsProgramRead, IsRefusal, longest_word, NoDueFails, Runs, script_name};
 ghost use Rattle.ksql_cli.specs.Fault.{fault_line};
-ghost use Rattle.ksql_cli.specs.Run.{declared_of, drain, feed_all, report_of, Run};
-ghost use Rattle.ksql_cli.specs.Steps.{at_once, IsFeedable, IsJoined, MayJoinScript};
+ghost use Rattle.ksql_cli.specs.Ran.{HasRun, Leaves};
+ghost use Rattle.ksql_cli.specs.Run.{drain, feed_all, report_of, Run};
+ghost use Rattle.ksql_cli.specs.Steps.{fed_once, IsJoined, MayJoinScript};
 
 use crate::fault::write_fault;
 use crate::status::Status;
 use crate::topics::{Reading, due_file, read_topics, whole_room};
+use cluster_core::{Cluster, Lined, Schedule, Step, drive};
 use ksql_outside::{Failed, Folder, Gate, Sink, write_whole};
-use ksql_place::{SourceRecord, order_of};
-use ksql_program::{Item, Program};
+use ksql_program::Program;
 use ksql_script::{ScriptFault, program_of_script};
-use ksql_types::{Relation, Word, Words};
-use query_meaning::slow_meaning;
-use run_text::report;
+use ksql_types::{Items, Word, Words};
+use run_text::broker_report;
 use std::alloc::{AllocError, Global};
-use std::collections::VecDeque;
-use topic_feeds::Reached;
-use topic_files::{Feds, TopicLines};
+use topic_files::TopicLines;
+use topology_build::build;
 
-/// Runs the command that the words say: reads the script and its topic files from the folder, and writes the report, or
-/// else the line that says why there is none.
+/// The text of a run and the cluster that ran.
+#[derive(Drop)]
+struct Finished {
+    text: String,
+    cluster: Cluster,
+}
+
+/// Runs the command that the words say: reads the script and its topic files from the folder, runs a cluster of the script's
+/// program on their records, and writes the report of what its broker shows, or else the line that says why there is none.
 pub fn ksql<R, F: Folder, K: Sink, G: Gate + Sync>(
     _rt: &R,
     alloc: Global,
@@ -34,6 +39,7 @@ pub fn ksql<R, F: Folder, K: Sink, G: Gate + Sync>(
     folder: &mut F,
     out: &mut K,
     _gate: &G,
+    ran: &mut Option<Cluster>,
 ) -> Status
     // The report of the script's program on its topic files is written, and nothing else.
     ensures done { result ≡ Status.Done → IfSome (F.files folder.old) (λ all. (run : Run) × Runs words.now all run
@@ -61,22 +67,31 @@ pub fn ksql<R, F: Folder, K: Sink, G: Gate + Sync>(
         → NoDueFails words.now all (F.failed folder.old) (F.failed folder.new) → ¬ Rose (K.faults out.old) (K.faults out.new)
         → (result ≡ Status.Done) ⊎ (result ≡ Status.OutOfMemory)) }
     ensures same_files { F.files folder.new ≡ F.files folder.old }
+    // The cluster that ran is handed back where the text was begun, and else none.
+    ensures ran { IfSome (F.files folder.old) (λ all. Leaves words.now all result ran.new) }
 {
     match whole_text(alloc, words, folder) {
-        Ok(text) => match write_whole(out, text.as_bytes()) {
-            Ok(()) => Status::Done,
-            Err(Failed) => Status::WriteFault,
-        },
+        Ok(finished) => {
+            *ran = Some(finished.cluster);
+            match write_whole(out, finished.text.as_bytes()) {
+                Ok(()) => Status::Done,
+                Err(Failed) => Status::WriteFault,
+            }
+        }
         Err(status) => {
+            *ran = None;
             let _ = write_fault(out, &status);
             status
         }
     }
 }
 
-/// The command's whole text.
-fn whole_text<F: Folder>(alloc: Global, words: &Words, folder: &mut F) -> Result<String, Status>
-    ensures found { IfOk result (λ text. IfSome (F.files folder.old) (λ all. (run : Run) × Runs words.now all run × (string_bytes text ≡ report_of run))) }
+/// The command's whole text, and the cluster whose broker shows it.
+fn whole_text<F: Folder>(alloc: Global, words: &Words, folder: &mut F) -> Result<Finished, Status>
+    ensures found { IfOk result (λ finished. IfSome (F.files folder.old)
+        (λ all. (run : Run) × Runs words.now all run × (string_bytes finished.text ≡ report_of run))) }
+    ensures ran { IfOk result (λ finished. IfSome (F.files folder.old)
+        (λ all. (run : Run) × Runs words.now all run × HasRun run finished.cluster)) }
     ensures cause { IfErr result (λ status. IfSome (F.files folder.old)
         (λ all. HasCause words.now all (F.failed folder.old) (F.failed folder.new) status)) }
     ensures joined { IfErr result (IsJoined (F.failed folder.old) (F.failed folder.new)) }
@@ -98,7 +113,7 @@ fn whole_text<F: Folder>(alloc: Global, words: &Words, folder: &mut F) -> Result
         Err(status) => return Err(status),
     };
     match report_of(alloc, &program, files) {
-        Ok(text) => Ok(text),
+        Ok(finished) => Ok(finished),
         Err(_) => Err(Status::OutOfMemory),
     }
 }
@@ -135,78 +150,41 @@ fn accepted_program<F: Folder>(
     }
 }
 
-/// The report of a program on its topic files, one for each declared relation: all records are fed at once, and a drain
-/// follows.
-fn report_of(alloc: Global, program: &Program, files: Vec<TopicLines>) -> Result<String, AllocError>
+/// The report of a program on its topic files, one for each declared relation: a cluster is fed all records at once, and drained.
+fn report_of(
+    alloc: Global,
+    program: &Program,
+    files: Vec<TopicLines>,
+) -> Result<Finished, AllocError>
     requires sound { IsSound program.now.items }
     requires built { AreBuilt program.now.items }
-    ensures { (run : Run) → run.program ≡ program.now → run.files ≡ files.items → run.steps ≡ feed_all ∷ drain ∷ []
-        → IfOk result (λ text. string_bytes text ≡ report_of run) }
+    requires files { AreFilesOf program.now.items files.items }
+    ensures text { (run : Run) → run.program ≡ program.now → run.files ≡ files.items → run.steps ≡ feed_all ∷ drain ∷ []
+        → IfOk result (λ finished. string_bytes finished.text ≡ report_of run) }
+    ensures ran { (run : Run) → run.program ≡ program.now → run.files ≡ files.items → run.steps ≡ feed_all ∷ drain ∷ []
+        → IfOk result (λ finished. HasRun run finished.cluster) }
 {
-    let order = order_of(feed_files(alloc, program.items.items(), files)?)?;
-    let lists = slow_meaning(alloc, program, order.as_slice())?;
-    let closed = vec![in alloc; 1; program.items.items().len()]?;
-    report(
-        alloc,
-        program,
-        closed.as_slice(),
-        order.as_slice(),
-        lists.as_slice(),
-        "",
-    )
+    let topology = build(alloc, program)?;
+    let cluster = drive(alloc, program, topology, files, &fed_once(alloc)?)?;
+    let text = broker_report(alloc, program, cluster.broker(), "")?;
+    Ok(Finished { text, cluster })
 }
 
-/// The records of the topic files of the declared relations among these items, one file for each, all in the first feed.
-fn feed_files(
-    alloc: Global,
-    items: &[Item],
-    files: Vec<TopicLines>,
-) -> Result<Vec<SourceRecord>, AllocError>
-    requires { All IsFeedable (declared_of items.now) }
-    ensures { IfOk result (λ records. records.items ≡ all_fed at_once (declared_of items.now) files.items) }
+/// The schedule of one feed of all records and a drain.
+fn fed_once(alloc: Global) -> Result<Schedule, AllocError>
+    ensures { IfOk result (λ schedule. schedule.steps ≡ fed_once) }
 {
-    let mut left = VecDeque::from_vec(files);
-    let mut records = Vec::new(alloc);
-    for item in items {
-        feed_item(alloc, &mut records, item, &mut left)?;
-    }
-    Ok(records)
-}
-
-/// Adds the records of the next of the files that are left, where the item is a declared relation.
-fn feed_item(
-    alloc: Global,
-    records: &mut Vec<SourceRecord>,
-    item: &Item,
-    left: &mut VecDeque<TopicLines>,
-) -> Result<(), AllocError>
-    requires { All IsFeedable (declared_of (item.now ∷ [])) }
-    ensures { OnOk result ((items : List OneItem) →
-        records.new.items ++ all_fed at_once (declared_of items) left.new.items
-        ≡ records.old.items ++ all_fed at_once (declared_of (item.now ∷ items)) left.old.items) }
-{
-    let Item::Declared(relation) = item else {
-        return Ok(());
+    let feed = Lined {
+        line: 1,
+        step: Step::FeedAll,
     };
-    match left.pop_front() {
-        Some(file) => feed_file(alloc, records, relation, file.feds),
-        None => Ok(()),
-    }
-}
-
-/// Adds the records of a topic file, all in the first feed.
-fn feed_file(
-    alloc: Global,
-    records: &mut Vec<SourceRecord>,
-    relation: &Relation,
-    feds: Feds,
-) -> Result<(), AllocError>
-    requires { IsFeedable relation.now }
-    ensures { OnOk result (records.new.items ≡ records.old.items ++ fed_in relation.now [] 1 (length feds ∷ []) feds) }
-{
-    let mut reached = Reached::new(alloc, relation)?;
-    reached.feed(alloc, records, 1, relation, feds)?;
-    Ok(())
+    let drain = Lined {
+        line: 2,
+        step: Step::Drain,
+    };
+    Ok(Schedule {
+        steps: Items::of(vec![in alloc; feed, drain]?),
+    })
 }
 
 /// The script's name, where the words are the program's name, `run`, `--script` and that name, each of at most 4,096

@@ -5,6 +5,7 @@ ghost use Rattle.ksql_types.specs.Text.{longest_text};
 ghost use Rattle.ksql_outside.specs.Outside.{MayJoin, read_bytes};
 ghost use Rattle.topic_files.specs.declared.topic.TopicLines.{TopicLines as OneFile};
 ghost use Rattle.topic_files.specs.File.{topic_lines};
+ghost use Rattle.feed_laws.specs.Fitting.{AreFilesOf, IsFedOf};
 ghost use Rattle.ksql_cli.specs.Command.{AreFed, room_after, IsGood, topic_file};
 ghost use Rattle.ksql_cli.specs.Run.{declared_of};
 ghost use Rattle.ksql_cli.specs.Command as spec;
@@ -41,6 +42,7 @@ pub(crate) fn read_topics<F: Folder>(
     requires short { reading.room.bytes ≤ 67108864 }
     ensures found { IfOk result (λ read. IfSome (F.files folder.old) (λ all. (files : List OneFile)
         × AreFed all reading.room (declared_of items.now) files × (read.items ≡ reading.files.items ++ files))) }
+    ensures fit { IfOk result (λ read. (files : List OneFile) × AreFilesOf items.now files × (read.items ≡ reading.files.items ++ files)) }
     ensures cause { IfErr result (λ status. IfSome (F.files folder.old)
         (λ all. IsTopicFailure all reading.room (declared_of items.now) (F.failed folder.old) (F.failed folder.new) status)) }
     ensures refusal { IfErr result IsTopicRefusal }
@@ -82,6 +84,7 @@ fn with_topic<F: Folder>(
     ensures found { IfOk result (λ read. IfSome (F.files folder.old) (λ all. (file : List ℕ) × IsGood all reading.room relation.now file
         × (read.room ≡ room_after reading.room relation.now file)
         × (read.files.items ≡ reading.files.items ++ topic_lines relation.now file ∷ []))) }
+    ensures fits { IfOk result (λ read. (file : OneFile) × All (IsFedOf relation.now) file.feds × (read.files.items ≡ reading.files.items ++ file ∷ [])) }
     ensures few { IfOk result (λ read. read.room.records ≤ 200000) }
     ensures short { IfOk result (λ read. read.room.bytes ≤ 67108864) }
     ensures cause { IfErr result (λ status. IfSome (F.files folder.old)

@@ -89,7 +89,8 @@ fn ended<R>(
     mut out: MemSink,
 ) -> Result<(Status, Vec<u8>), AllocError> {
     let words = words(alloc, line)?;
-    let status = ksql(rt, alloc, &words, &mut files, &mut out, &NoGate);
+    let mut ran = None;
+    let status = ksql(rt, alloc, &words, &mut files, &mut out, &NoGate, &mut ran);
     Ok((status, Vec::from_slice(alloc, out.written())?))
 }
 

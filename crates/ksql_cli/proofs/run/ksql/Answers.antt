@@ -1,19 +1,20 @@
 use Rattle.std.specs.String.{string_bytes}
 use Rattle.ksql_outside.specs.Outside.{Rose}
 use Rattle.ksql_cli.specs.declared.status.Status.TheVariants as ended
-use Rattle.ksql_cli.proofs.Causes.{complete_of, exact_done, exact_fault, exact_refusal}
+use Rattle.ksql_cli.specs.Fault.{fault_line}
+use Rattle.ksql_cli.proofs.Causes.{complete_of, exact_done, exact_fault, exact_refusal, front_written, wrote_either}
 use Rattle.ksql_cli.proofs.SomeStatus.{told_status}
 use Rattle.ksql_cli.proofs.run.ksql.Goals as goal
 
 pub returns-in-Ok-write_whole-clause-exact : goal.returns-in-Ok-write_whole-clause-exact
 returns-in-Ok-write_whole-clause-exact g c =
     exact_done (g.F.Folder.files c.args.folder.now) c.args.words.now (g.F.Folder.failed c.args.folder.now) (g.F.Folder.failed c.whole_text.new.folder)
-    (¬ Rose (g.K.Sink.faults c.args.out.now) (g.K.Sink.faults c.write_whole.new.out)) (string_bytes c.in-Ok.text) c.in-Ok.ensures.found
+    (¬ Rose (g.K.Sink.faults c.args.out.now) (g.K.Sink.faults c.write_whole.new.out)) (string_bytes c.in-Ok.finished.text) c.in-Ok.ensures.found
 
 pub returns-in-Ok-clause-exact : goal.returns-in-Ok-clause-exact
 returns-in-Ok-clause-exact g c =
     exact_fault (g.F.Folder.files c.args.folder.now) c.args.words.now (g.F.Folder.failed c.args.folder.now) (g.F.Folder.failed c.whole_text.new.folder)
-    (Rose (g.K.Sink.faults c.args.out.now) (g.K.Sink.faults c.write_whole.new.out)) (string_bytes c.in-Ok.text) c.in-Err-write_whole.ensures.cause c.in-Ok.ensures.found
+    (Rose (g.K.Sink.faults c.args.out.now) (g.K.Sink.faults c.write_whole.new.out)) (string_bytes c.in-Ok.finished.text) c.in-Err-write_whole.ensures.cause c.in-Ok.ensures.found
 
 pub returns-in-Ok-clause-complete : goal.returns-in-Ok-clause-complete
 returns-in-Ok-clause-complete g c =
@@ -41,3 +42,13 @@ returns-in-Ok-clause-decided g c =
 pub returns-clause-decided : goal.returns-clause-decided
 returns-clause-decided g c =
     told_status (g.F.Folder.files c.args.folder.now) c.args.words.now
+
+pub returns-in-Ok-clause-prefix : goal.returns-in-Ok-clause-prefix
+returns-in-Ok-clause-prefix g c = λ is.
+    front_written (g.F.Folder.files c.args.folder.now) c.args.words.now (g.K.Sink.written c.args.out.now) (g.K.Sink.written c.write_whole.new.out)
+    (string_bytes c.in-Ok.finished.text) c.as_bytes.result.now c.as_bytes.ensures.value c.in-Err-write_whole.ensures.prefix c.in-Ok.ensures.found
+
+pub returns-clause-fault : goal.returns-clause-fault
+returns-clause-fault g c = λ refusal.
+    wrote_either c.write_fault.result (g.K.Sink.written c.args.out.now) (g.K.Sink.written c.write_fault.new.out) (fault_line c.in-Err.status)
+    c.write_fault.ensures.whole c.write_fault.ensures.prefix

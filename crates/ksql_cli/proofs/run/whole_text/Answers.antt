@@ -68,7 +68,30 @@ returns-in-Ok-report_of-clause-found g c =
         one_worker = refl;
         fed_once = refl;
       },
-      c.in-Ok-report_of.ensures run refl refl refl,
+      c.in-Ok-report_of.ensures.text run refl refl refl,
+    ))
+    c.in-Ok.ensures.found
+    (as_before (λ all room items. (read : List TopicLines) × AreFed all room (declared_of items) read × (files ≡ c.new.result.items ++ read))
+    (g.F.Folder.files c.args.folder.now) (g.F.Folder.files c.accepted_program.new.folder) c.whole_room.result whole_room c.items.result.now items
+    c.in-Ok.ensures.same_files c.whole_room.ensures c.items.ensures c.in-Ok-read_topics.ensures.found)
+
+pub returns-in-Ok-report_of-clause-ran : goal.returns-in-Ok-report_of-clause-ran
+returns-in-Ok-report_of-clause-ran g c =
+    let items = c.in-Ok.program.items in
+    let files = c.in-Ok-read_topics.files.items in
+    let run : Run = record { program = c.in-Ok.program; files = files; workers = 1; steps = feed_all ∷ drain ∷ [] } in
+    of_both (λ all. IsProgramRead c.args.words.now all c.in-Ok.program)
+    (λ all. (read : List TopicLines) × AreFed all whole_room (declared_of items) read × (files ≡ c.new.result.items ++ read))
+    _ (g.F.Folder.files c.args.folder.now)
+    (λ all is_read is_fed. (
+      run,
+      record {
+        read = is_read;
+        fed = subst (AreFed all whole_room (declared_of items)) (sym (is_fed.2 ∙ ap (λ (before : List TopicLines). before ++ is_fed.0) c.new.ensures.items)) is_fed.1;
+        one_worker = refl;
+        fed_once = refl;
+      },
+      c.in-Ok-report_of.ensures.ran run refl refl refl,
     ))
     c.in-Ok.ensures.found
     (as_before (λ all room items. (read : List TopicLines) × AreFed all room (declared_of items) read × (files ≡ c.new.result.items ++ read))

@@ -1,4 +1,9 @@
-use Rattle.std.proofs.Common.{◌∙◌, ◌++◌, ap, List, ℕ, codes}
+use Rattle.std.proofs.Common.{◌≡◌, ◌∙◌, ◌++◌, ◌∷◌, [], ap, subst, sym, List, ℕ, codes}
+use Rattle.std.specs.Prelude.{All}
+use Rattle.std.proofs.lemmas.Result.{IfOk-weaker}
+use Rattle.topic_files.specs.declared.topic.TopicLines.{TopicLines}
+use Rattle.feed_laws.specs.Fitting.{IsFedOf}
+use Rattle.feed_laws.proofs.FileRecords.{fits-file}
 use Rattle.ksql_cli.proofs.Causes.{due_short}
 use Rattle.ksql_cli.proofs.topics.with_topic.Goals as goal
 
@@ -7,3 +12,11 @@ due_file-requires g c =
     due_short c.args.relation.now.topic c.as_str.result.now
     (c.as_str.ensures.value ∙ c.in-Ok.ensures.ok ∙ ap (λ (topic : List ℕ). codes "./" ++ (topic ++ codes ".jsonl")) c.items-topic.ensures.value)
     c.requires.feedable.short
+
+pub returns-in-Ok-read_topic-clause-fits : goal.returns-in-Ok-read_topic-clause-fits
+returns-in-Ok-read_topic-clause-fits g c =
+    let lines : TopicLines = c.in-Ok-read_topic.lines in
+    let fits : All (IsFedOf c.args.relation.now) lines.feds =
+    subst (λ (file : TopicLines). All (IsFedOf c.args.relation.now) file.feds) (sym c.in-Ok-read_topic.ensures.records)
+    (fits-file c.args.relation.now c.as_slice.result.now) in
+    IfOk-weaker c.with_lines.result _ _ (λ read is. (lines, fits, is)) c.with_lines.ensures.files
