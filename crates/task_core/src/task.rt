@@ -1,12 +1,12 @@
 //! A task and its step.
 ghost use Rattle.std.specs.Prelude.{◌≡◌, [], ◌≤◌, ◌==◌, All, IfOk, IfNone, IfSome, IsSome, IsTrue, is_none};
-ghost use Rattle.op_chain.specs.Chain.{HaveOwnStores, StandAlong, has_operator, maps_after};
+ghost use Rattle.op_chain.specs.Chain.{HaveOwnStores, MayLoad, StandAlong, has_operator, maps_after};
 ghost use Rattle.task_core.specs.Tasks.{CanRead, CanStore, IsProposedBy, IsSameTask, bound_of};
 
 use crate::inputs::{Feeds, Kinds, bound_of, kind_read, reader_of};
 use crate::running::made_of;
 use core_state::Proposal;
-use ksql_types::{CopyOf, Items, TaskName};
+use ksql_types::{CopyOf, Items, StoreEntry, TaskName};
 use op_chain::Chain;
 use std::alloc::{AllocError, Global};
 use std::marker::Model;
@@ -85,6 +85,30 @@ impl Task {
             name,
             generation,
             done: 0,
+            inputs,
+            kinds,
+            chain,
+        })
+    }
+
+    /// The task with the stores that a changelog makes of empty ones, done with this feed. After an error the task is given up.
+    pub fn load(self, alloc: Global, logs: &[StoreEntry], done: u64) -> Result<Task, AllocError>
+        requires { All (MayLoad self.nodes) logs.now }
+        ensures { IfOk result (λ task. task ≡ record self { done = done; maps = maps_after self.nodes logs.now }) }
+    {
+        let Task {
+            name,
+            generation,
+            inputs,
+            kinds,
+            mut chain,
+            ..
+        } = self;
+        chain.load(alloc, logs)?;
+        Ok(Task {
+            name,
+            generation,
+            done,
             inputs,
             kinds,
             chain,

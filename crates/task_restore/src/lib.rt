@@ -1,0 +1,6 @@
+//! Tasks made anew from their changelogs.
+#![tactic(auto)]
+
+mod restoring;
+
+pub use restoring::restore;
