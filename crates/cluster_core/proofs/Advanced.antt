@@ -1,13 +1,15 @@
 -- What comes of a task that went over what the broker has keeps a good state.
 use Rattle.std.proofs.Common.{◌≡◌, ◌∙◌, ap, ap₂, refl, sym, subst, ℕ, ◌<◌, ◌≤◌, List, ◌∷◌, ◌++◌, false, true≢false, eq-eqb, arith}
-use Rattle.std.specs.Prelude.{All, IfNone, IfSome, Option, Some, None, ◌==◌, is_none}
+use Rattle.std.specs.Prelude.{All, Contains, IfNone, IfSome, Option, Some, None, ◌==◌, is_none}
 use Rattle.ksql_place.specs.declared.change.SourceRecord.{SourceRecord}
 use Rattle.ksql_program.specs.Sound.{IsSound}
 use Rattle.ksql_program.specs.declared.program.Item.{Item}
 use Rattle.ksql_nodes.specs.declared.node.Node.{Node}
 use Rattle.ksql_nodes.specs.Entries.{Entry}
 use Rattle.meaning_laws.specs.Windows.{HaveNoWindow}
-use Rattle.topology.specs.Topologies.{topology_of}
+use Rattle.meaning_laws.proofs.Lists.{Pairwise}
+use Rattle.topology.specs.Tasks.{tasks_of}
+use Rattle.topology.specs.Topologies.{subs, topology_of}
 use Rattle.core_state.specs.Events.{Runs}
 use Rattle.core_state.specs.Good.{Good}
 use Rattle.core_state.specs.declared.log.Proposal.{Proposal}
@@ -25,6 +27,7 @@ use Rattle.cluster_core.specs.Cluster.{IsTaskIn, idle, instance_in, instance_of}
 use Rattle.cluster_core.specs.Rounds.{IsAdvanced}
 use Rattle.cluster_core.proofs.Advancing.{bound-same, in-topology, is, shown, takes-same, within}
 use Rattle.cluster_core.proofs.Lists.{all-instead, map-instead}
+use Rattle.cluster_core.proofs.Names.{AreApart}
 use Rattle.cluster_core.proofs.Running.{on_shelf, parts_of}
 use Rattle.cluster_core.proofs.Tasks.{AreRunning, IsNamed, IsNewest, d, here, means, newest, next-here, same-else, top}
 
@@ -102,7 +105,9 @@ module _ (items : List Item) (order : List SourceRecord) (sound : IsSound items)
     -- the task in its place, with what it proposes
     pub advanced-task : AreRunning items order (shelf_of b) (front ++ next ∷ back)
     advanced-task = record {
-      names = map-instead (λ (x : Moved). x.task.name) front (idle task) next back has.same.name ∙ run.names;
+      apart = subst (Pairwise AreApart) (sym (map-instead (λ (x : Moved). x.task.name) front (idle task) next back has.same.name)) run.apart;
+      among = all-instead (λ (x : Moved). Contains (tasks_of (subs items)) x.task.name) front (idle task) next back
+          (subst (Contains (tasks_of (subs items))) (sym has.same.name) (is items order sound windowless fits b topics front task back run)) run.among;
       tasks = all-instead (λ (x : Moved). IsTaskIn (topology_of items) x.task) front (idle task) next back in-next run.tasks;
       named = all-instead IsNamed front (idle task) next back named-next run.named;
       newest = all-instead (IsNewest (shelf_of b)) front (idle task) next back

@@ -1,6 +1,6 @@
 -- All tasks of a round, one after another.
-use Rattle.std.proofs.Common.{◌≡◌, ◌∙◌, refl, sym, subst, List, [], ◌∷◌, ◌++◌, map, append_assoc}
-use Rattle.std.specs.Prelude.{IfSome, Option, Some, None}
+use Rattle.std.proofs.Common.{◌≡◌, ◌∙◌, refl, sym, subst, ℕ, Bool, true, false, List, [], ◌∷◌, ◌++◌, map, append_assoc}
+use Rattle.std.specs.Prelude.{if◌then◌else◌, IfSome, Option, Some, None}
 use Rattle.std.specs.List.{AllByRecursion, AllZip}
 use Rattle.ksql_place.specs.declared.change.SourceRecord.{SourceRecord}
 use Rattle.ksql_program.specs.Sound.{IsSound}
@@ -14,83 +14,119 @@ use Rattle.core_state.specs.declared.log.Proposal.{Proposal}
 use Rattle.storing_laws.specs.Stored.{CanBeStored, ResultsRise}
 use Rattle.topic_log.specs.Shelves.{shelf_of, topics_of}
 use Rattle.topic_log.specs.declared.shelves.Shelves.{Shelves}
-use Rattle.task_core.specs.Tasks.{TaskView}
+use Rattle.assignor.specs.Rule.{is_with}
 use Rattle.task_core.specs.declared.task.Moved.{Moved}
 use Rattle.feed_laws.specs.Fitting.{Fits}
 use Rattle.cluster_core.specs.Cluster.{idle}
-use Rattle.cluster_core.specs.Rounds.{AllSettle, CanAdvance, CanCommit, HasParts, IsAdvanced, ProposeApart, Settles}
+use Rattle.cluster_core.specs.Rounds.{AllSettle, CanAdvance, CanCommit, HasParts, HasRun, ProposeApart, Settles, offered}
+use Rattle.cluster_core.specs.declared.rounds.Ran.{Ran}
+use Rattle.cluster_core.specs.declared.seats.Seat.{Seat}
 use Rattle.cluster_core.proofs.Advanced.{advanced-task}
 use Rattle.cluster_core.proofs.Advancing.{can-advance}
-use Rattle.cluster_core.proofs.Names.{AreApart, tasks-apart}
+use Rattle.cluster_core.proofs.Lists.{all-mapped}
+use Rattle.cluster_core.proofs.Names.{AreApart}
 use Rattle.cluster_core.proofs.Settling.{settled}
 use Rattle.cluster_core.proofs.Tasks.{AreRunning, IsNamed, can-commit, top}
 
--- tasks of different names propose for different tasks
-apart-one : (m : Moved) (ms : List Moved) → IsNamed m → AllByRecursion IsNamed ms → AllByRecursion (AreApart m.task.name) (map (λ (x : Moved). x.task.name) ms) → AllByRecursion (ProposeApart m) ms
-apart-one m [] named all apart = tt
-apart-one m (x ∷ ms) named all apart = (both m.proposal x.proposal named all.0, apart-one m ms named all.1 apart.1)
+-- a task after the commits of a round: it waits with no proposal, unless its owner is lost
+abbrev pub after_offer : Option ℕ → Ran → Moved
+after_offer lost r = if is_with r.worker lost then r.moved else idle r.moved.task
+
+-- what is offered of a task has its name
+pub named-offer : (lost : Option ℕ) (r : Ran) → IsNamed r.moved → IfSome (offered lost r) (λ p. p.task ≡ r.moved.task.name)
+named-offer lost r named = by (is_with r.worker lost)
   where
-    both : (o q : Option Proposal) → IfSome o (λ p. p.task ≡ m.task.name) → IfSome q (λ p. p.task ≡ x.task.name) → IfSome o (λ a. IfSome q (λ b. a.task ≡ b.task → ⊥))
+    by : (c : Bool) → IfSome (if c then None else r.moved.proposal) (λ p. p.task ≡ r.moved.task.name)
+    by true = tt
+    by false = named
+
+-- tasks of different names offer for different tasks
+apart-one : (lost : Option ℕ) (r : Ran) (rs : List Ran) → IsNamed r.moved → AllByRecursion (λ (x : Ran). IsNamed x.moved) rs →
+    AllByRecursion (λ (x : Ran). AreApart r.moved.task.name x.moved.task.name) rs → AllByRecursion (ProposeApart (offered lost r)) (map (offered lost) rs)
+apart-one lost r [] named all apart = tt
+apart-one lost r (x ∷ rs) named all apart =
+    (both (offered lost r) (offered lost x) (named-offer lost r named) (named-offer lost x all.0), apart-one lost r rs named all.1 apart.1)
+  where
+    both : (o q : Option Proposal) → IfSome o (λ p. p.task ≡ r.moved.task.name) → IfSome q (λ p. p.task ≡ x.moved.task.name) → IfSome o (λ a. IfSome q (λ b. a.task ≡ b.task → ⊥))
     both None q h k = tt
     both (Some a) None h k = tt
     both (Some a) (Some b) h k = λ same. apart.0 (sym h ∙ same ∙ k)
 
-apart-all : (ms : List Moved) → AllByRecursion IsNamed ms → Pairwise AreApart (map (λ (x : Moved). x.task.name) ms) → Pairwise ProposeApart ms
-apart-all [] named pairs = tt
-apart-all (m ∷ ms) named pairs = (apart-one m ms named.0 named.1 pairs.0, apart-all ms named.1 pairs.1)
+apart-all : (lost : Option ℕ) (rs : List Ran) → AllByRecursion (λ (x : Ran). IsNamed x.moved) rs → Pairwise (λ (x y : Ran). AreApart x.moved.task.name y.moved.task.name) rs → Pairwise ProposeApart (map (offered lost) rs)
+apart-all lost [] named pairs = tt
+apart-all lost (r ∷ rs) named pairs = (apart-one lost r rs named.0 named.1 pairs.0, apart-all lost rs named.1 pairs.1)
+
+-- pairs of names are pairs of tasks
+pairs-of : (rs : List Ran) → Pairwise AreApart (map (λ (m : Moved). m.task.name) (map (λ (r : Ran). r.moved) rs)) → Pairwise (λ (x y : Ran). AreApart x.moved.task.name y.moved.task.name) rs
+pairs-of [] pairs = tt
+pairs-of (r ∷ rs) pairs = (
+  all-mapped (λ (m : Moved). AreApart r.moved.task.name m.task.name) (λ (x : Ran). x.moved) rs
+      (all-mapped (AreApart r.moved.task.name) (λ (m : Moved). m.task.name) (map (λ (x : Ran). x.moved) rs) pairs.0),
+  pairs-of rs pairs.1,
+)
 
 -- commits leave the last feed
-pub settle-fed : (r : Routes) (ms : List Moved) (b c : Shelf) → AllSettle r ms b c → c.fed ≡ b.fed
+pub settle-fed : (r : Routes) (os : List (Option Proposal)) (b c : Shelf) → AllSettle r os b c → c.fed ≡ b.fed
 settle-fed r [] b c same = λ i. (same i).fed
-settle-fed r (m ∷ ms) b c does = by m.proposal does.1 (settle-fed r ms does.0 c does.2)
+settle-fed r (q ∷ os) b c does = by q does.1 (settle-fed r os does.0 c does.2)
   where
     by : (o : Option Proposal) → Settles r o b does.0 → c.fed ≡ does.0.fed → c.fed ≡ b.fed
     by None same rest = rest ∙ (λ i. (same i).fed)
     by (Some p) applies rest = rest ∙ applies.fed
 
 module _ (items : List Item) (order : List SourceRecord) (sound : IsSound items) (windowless : HaveNoWindow items) (fits : Fits items order) where
-  pub proposals-apart : (b : Shelf) (ms : List Moved) → AreRunning items order b ms → Pairwise ProposeApart ms
-  proposals-apart b ms run = apart-all ms run.named (subst (Pairwise AreApart) (sym run.names) (tasks-apart items))
+  pub offers-apart : (b : Shelf) (lost : Option ℕ) (rs : List Ran) → AreRunning items order b (map (λ (r : Ran). r.moved) rs) → Pairwise ProposeApart (map (offered lost) rs)
+  offers-apart b lost rs run = apart-all lost rs (all-mapped IsNamed (λ (r : Ran). r.moved) rs run.named) (pairs-of rs run.apart)
 
   -- ---- all go over what the broker has
 
   module _ (b : Shelves) (topics : topics_of b ≡ (topology_of items).topics) where
-    pub all-can-advance : HasParts b → CanBeStored items (topology_of items) order → (front : List Moved) (tasks : List TaskView) → AreRunning items order (shelf_of b) (front ++ map idle tasks) →
-        AllByRecursion (CanAdvance b) tasks
+    pub all-can-advance : HasParts b → CanBeStored items (topology_of items) order → (front : List Moved) (ss : List Seat) → AreRunning items order (shelf_of b) (front ++ map (λ (s : Seat). idle s.task) ss) →
+        AllByRecursion (λ (s : Seat). CanAdvance b s.task) ss
     all-can-advance has law front [] run = tt
     all-can-advance has law front (x ∷ xs) run = (
-      can-advance items order sound windowless fits b topics front x (map idle xs) run has law,
-      all-can-advance has law (front ++ idle x ∷ []) xs (subst (AreRunning items order (shelf_of b)) (sym (append_assoc front (idle x ∷ []) (map idle xs))) run),
+      can-advance items order sound windowless fits b topics front x.task (map (λ (s : Seat). idle s.task) xs) run has law,
+      all-can-advance has law (front ++ idle x.task ∷ []) xs (subst (AreRunning items order (shelf_of b)) (sym (append_assoc front (idle x.task ∷ []) (map (λ (s : Seat). idle s.task) xs))) run),
     )
 
-    pub all-advanced : (front : List Moved) (tasks : List TaskView) (ms : List Moved) → AllZip (IsAdvanced b) tasks ms → AreRunning items order (shelf_of b) (front ++ map idle tasks) →
-        AreRunning items order (shelf_of b) (front ++ ms)
+    pub all-advanced : (front : List Moved) (ss : List Seat) (rs : List Ran) → AllZip (HasRun b) ss rs → AreRunning items order (shelf_of b) (front ++ map (λ (s : Seat). idle s.task) ss) →
+        AreRunning items order (shelf_of b) (front ++ map (λ (r : Ran). r.moved) rs)
     all-advanced front [] [] zip run = run
-    all-advanced front [] (m ∷ ms) zip run = absurd zip
+    all-advanced front [] (r ∷ rs) zip run = absurd zip
     all-advanced front (x ∷ xs) [] zip run = absurd zip
-    all-advanced front (x ∷ xs) (m ∷ ms) zip run =
-        let now : AreRunning items order (shelf_of b) (front ++ m ∷ map idle xs) = advanced-task items order sound windowless fits b topics front x (map idle xs) run m zip.0 in
-        subst (AreRunning items order (shelf_of b)) (append_assoc front (m ∷ []) ms)
-        (all-advanced (front ++ m ∷ []) xs ms zip.1 (subst (AreRunning items order (shelf_of b)) (sym (append_assoc front (m ∷ []) (map idle xs))) now))
+    all-advanced front (x ∷ xs) (r ∷ rs) zip run =
+        let now : AreRunning items order (shelf_of b) (front ++ r.moved ∷ map (λ (s : Seat). idle s.task) xs) =
+        advanced-task items order sound windowless fits b topics front x.task (map (λ (s : Seat). idle s.task) xs) run r.moved zip.0.moved in
+        subst (AreRunning items order (shelf_of b)) (append_assoc front (r.moved ∷ []) (map (λ (y : Ran). y.moved) rs))
+        (all-advanced (front ++ r.moved ∷ []) xs rs zip.1 (subst (AreRunning items order (shelf_of b)) (sym (append_assoc front (r.moved ∷ []) (map (λ (s : Seat). idle s.task) xs))) now))
 
-  -- ---- all proposals are committed
+  -- ---- all proposals are committed but those of a worker that is lost
 
-  pub all-can-commit : (b : Shelf) → ResultsRise items (topology_of items) order → (front ms : List Moved) → AreRunning items order b (front ++ ms) →
-      AllByRecursion (λ (m : Moved). IfSome m.proposal (CanCommit (top items order sound windowless fits).routes b)) ms
-  all-can-commit b rises front [] run = tt
-  all-can-commit b rises front (m ∷ ms) run = (
-    one m.proposal refl,
-    all-can-commit b rises (front ++ m ∷ []) ms (subst (AreRunning items order b) (sym (append_assoc front (m ∷ []) ms)) run),
+  pub all-can-commit : (b : Shelf) (lost : Option ℕ) → ResultsRise items (topology_of items) order → (front : List Moved) (rs : List Ran) → AreRunning items order b (front ++ map (λ (r : Ran). r.moved) rs) →
+      AllByRecursion (λ o. IfSome o (CanCommit (top items order sound windowless fits).routes b)) (map (offered lost) rs)
+  all-can-commit b lost rises front [] run = tt
+  all-can-commit b lost rises front (r ∷ rs) run = (
+    offer (is_with r.worker lost),
+    all-can-commit b lost rises (front ++ r.moved ∷ []) rs (subst (AreRunning items order b) (sym (append_assoc front (r.moved ∷ []) (map (λ (x : Ran). x.moved) rs))) run),
   )
     where
-      one : (o : Option Proposal) → m.proposal ≡ o → IfSome o (CanCommit (top items order sound windowless fits).routes b)
+      one : (o : Option Proposal) → r.moved.proposal ≡ o → IfSome o (CanCommit (top items order sound windowless fits).routes b)
       one None is = tt
-      one (Some p) is = can-commit items order sound windowless fits b front m ms run p is rises
+      one (Some p) is = can-commit items order sound windowless fits b front r.moved (map (λ (x : Ran). x.moved) rs) run p is rises
 
-  pub all-settled : (front ms : List Moved) (b c : Shelf) → AllSettle (top items order sound windowless fits).routes ms b c → AreRunning items order b (front ++ ms) →
-      AreRunning items order c (front ++ map (λ (m : Moved). idle m.task) ms)
-  all-settled front [] b c same run = subst (λ (x : Shelf). AreRunning items order x (front ++ [])) (sym same) run
-  all-settled front (m ∷ ms) b c does run =
-      let now : AreRunning items order does.0 (front ++ idle m.task ∷ ms) = settled items order sound windowless fits b does.0 front m ms does.1 run in
-      subst (AreRunning items order c) (append_assoc front (idle m.task ∷ []) (map (λ (x : Moved). idle x.task) ms))
-      (all-settled (front ++ idle m.task ∷ []) ms does.0 c does.2 (subst (AreRunning items order does.0) (sym (append_assoc front (idle m.task ∷ []) ms)) now))
+      offer : (c : Bool) → IfSome (if c then None else r.moved.proposal) (CanCommit (top items order sound windowless fits).routes b)
+      offer true = tt
+      offer false = one r.moved.proposal refl
+
+  pub all-settled : (lost : Option ℕ) (front : List Moved) (rs : List Ran) (b c : Shelf) → AllSettle (top items order sound windowless fits).routes (map (offered lost) rs) b c →
+      AreRunning items order b (front ++ map (λ (r : Ran). r.moved) rs) → AreRunning items order c (front ++ map (after_offer lost) rs)
+  all-settled lost front [] b c same run = subst (λ (x : Shelf). AreRunning items order x (front ++ [])) (sym same) run
+  all-settled lost front (r ∷ rs) b c does run =
+      subst (AreRunning items order c) (append_assoc front (after_offer lost r ∷ []) (map (after_offer lost) rs))
+      (all-settled lost (front ++ after_offer lost r ∷ []) rs does.0 c does.2
+      (subst (AreRunning items order does.0) (sym (append_assoc front (after_offer lost r ∷ []) (map (λ (x : Ran). x.moved) rs))) (now (is_with r.worker lost) does.1)))
+    where
+      now : (l : Bool) → Settles (top items order sound windowless fits).routes (if l then None else r.moved.proposal) b does.0 →
+          AreRunning items order does.0 (front ++ (if l then r.moved else idle r.moved.task) ∷ map (λ (x : Ran). x.moved) rs)
+      now true same = subst (λ (x : Shelf). AreRunning items order x (front ++ r.moved ∷ map (λ (x : Ran). x.moved) rs)) (sym same) run
+      now false settles = settled items order sound windowless fits b does.0 front r.moved (map (λ (x : Ran). x.moved) rs) settles run

@@ -1,120 +1,191 @@
--- A cluster that has come so far, and how far it has come after a round.
-use Rattle.std.proofs.Common.{◌≡◌, ◌∙◌, ap, ap₂, refl, sym, subst, ◌+◌, List, [], ◌∷◌, ◌++◌, map}
-use Rattle.std.proofs.lemmas.List.Elements.{All-from_recursion, recursion_from_All}
+-- A cluster that has come so far: the tasks that run on its broker, and its numbers.
+use Rattle.std.proofs.Common.{◌≡◌, ◌∙◌, ap, refl, sym, subst, ℕ, List, [], ◌∷◌, map, inl, inr}
+use Rattle.std.proofs.lemmas.List.Elements.{All-contains_itself, All-from_recursion, recursion_from_All}
+use Rattle.std.specs.Prelude.{All, Contains}
 use Rattle.std.specs.List.{AllByRecursion, AllZip}
+use Rattle.std.specs.List.Sorted.{IsStrictlyIncreasing}
 use Rattle.ksql_types.specs.declared.relation.TaskName.{TaskName}
-use Rattle.ksql_program.specs.Sound.{IsSound}
 use Rattle.ksql_program.specs.declared.program.Item.{Item}
-use Rattle.meaning_laws.specs.Windows.{HaveNoWindow}
-use Rattle.meaning_laws.proofs.Lists.{All-map, All-of}
+use Rattle.meaning_laws.proofs.Lists.{All-map, Pairwise}
 use Rattle.topology.specs.Tasks.{chain_of, tasks_of}
-use Rattle.topology.specs.Topologies.{topology_of}
+use Rattle.topology.specs.Topologies.{subs, topology_of}
 use Rattle.topology.specs.declared.topology.Topology.{Topology}
+use Rattle.topology_laws.proofs.Paths.{holds-of}
 use Rattle.core_state.specs.Good.{Good}
-use Rattle.core_state.specs.Routes.{routes_of}
+use Rattle.core_state.specs.declared.journal.JournalEntry.{JournalEntry}
 use Rattle.storing_laws.specs.Short.{HoldTexts}
-use Rattle.topic_log.specs.Shelves.{routes_in, shelf_of, topics_of}
+use Rattle.topic_log.specs.Shelves.{shelf_of, topics_of}
+use Rattle.topic_log.specs.declared.shelves.Shelves.{Shelves}
 use Rattle.task_core.specs.Core.{core_of}
 use Rattle.task_core.specs.Tasks.{TaskView}
 use Rattle.task_core.specs.declared.task.Moved.{Moved}
 use Rattle.core_laws.specs.Core.{meaning_in_core}
-use Rattle.cluster_core.specs.Cluster.{HasCome, IsKept, IsProgress, IsTaskIn, core_state_of, idle}
-use Rattle.cluster_core.specs.Progress.{Progress, round}
-use Rattle.cluster_core.specs.Rounds.{AllSettle, IsAdvanced, all_noted}
+use Rattle.assignor.specs.declared.assignment.Owned.{Owned}
+use Rattle.cluster_core.specs.Cluster.{HasComeWith, IsKept, IsOwned, IsProgress, IsTaskIn, core_state_of, idle}
+use Rattle.cluster_core.specs.Few.{NodesHaveFew}
+use Rattle.cluster_core.specs.Moves.{owned_of}
+use Rattle.cluster_core.specs.Progress.{Progress}
 use Rattle.cluster_core.specs.declared.cluster.Cluster.{Cluster}
+use Rattle.cluster_core.specs.declared.seats.Seat.{Seat}
 use Rattle.cluster_core.specs.declared.sources.Source.{Source as Kept}
-use Rattle.cluster_core.proofs.Numbers.{all-done, idle-names, journal-noted, own-zip, zip-own}
 use Rattle.cluster_core.proofs.Lists.{all-mapped}
-use Rattle.cluster_core.proofs.AllTasks.{all-advanced, all-settled, settle-fed}
-use Rattle.cluster_core.proofs.Tasks.{AreRunning, IsNamed, IsNewest}
+use Rattle.cluster_core.proofs.Names.{AreApart}
+use Rattle.cluster_core.proofs.Owners.{owned-apart}
+use Rattle.cluster_core.proofs.Tasks.{AreRunning, IsNamed}
 
-idle-tasks : (ms : List Moved) → map idle (map (λ (m : Moved). m.task) ms) ≡ map (λ (m : Moved). idle m.task) ms
+-- ---- names
+
+names-of-tasks : (ms : List Moved) → map (λ (m : Moved). m.task.name) ms ≡ map (λ (t : TaskView). t.name) (map (λ (m : Moved). m.task) ms)
+names-of-tasks [] = refl
+names-of-tasks (m ∷ ms) = ap (λ us. m.task.name ∷ us) (names-of-tasks ms)
+
+names-of-seats : (ss : List Seat) → map (λ (t : TaskView). t.name) (map (λ (s : Seat). s.task) ss) ≡ map (λ (o : Owned). o.task) (map owned_of ss)
+names-of-seats [] = refl
+names-of-seats (s ∷ ss) = ap (λ us. s.task.name ∷ us) (names-of-seats ss)
+
+pub idle-tasks : (ss : List Seat) → map (λ (m : Moved). m.task) (map (λ (s : Seat). idle s.task) ss) ≡ map (λ (s : Seat). s.task) ss
 idle-tasks [] = refl
-idle-tasks (m ∷ ms) = ap (λ xs. idle m.task ∷ xs) (idle-tasks ms)
+idle-tasks (s ∷ ss) = ap (λ ts. s.task ∷ ts) (idle-tasks ss)
 
--- what each task of a cluster is done with
-abbrev pub IsDone : Progress → TaskView → Type 0
-IsDone p t = t.done ≡ p.done t.name
+-- ---- owners
 
-module _ (items : List Item) (p : Progress) (c : Cluster) where
-  -- the tasks of a cluster run, and wait with no proposals
-  pub running-of : HasCome items p c → AreRunning items p.order (shelf_of c.broker) (map idle c.tasks.items)
-  running-of h = record {
-    names = idle-names c.tasks.items ∙ h.names ∙ ap (λ (t : Topology). tasks_of t.subs) h.topology;
-    tasks = All-map (λ (m : Moved). IsTaskIn (topology_of items) m.task) idle c.tasks.items
-        (subst (λ (t : Topology). AllByRecursion (IsTaskIn t) c.tasks.items) h.topology (recursion_from_All (IsTaskIn c.topology) c.tasks.items h.tasks));
-    named = All-map IsNamed idle c.tasks.items (All-of c.tasks.items (λ t. tt));
-    newest = All-map (IsNewest (shelf_of c.broker)) idle c.tasks.items (recursion_from_All (λ (t : TaskView). t.generation ≡ (shelf_of c.broker).newest t.name) c.tasks.items h.newest);
-    good = subst (λ (t : Topology). Good (core_of t) (meaning_in_core items p.order) (core_state_of c.broker (map idle c.tasks.items))) h.topology h.good;
+module _ (items : List Item) where
+  -- tasks that have owners are tasks of the program
+  pub owned-among : (owners : List Owned) → IsOwned (topology_of items) owners → AllByRecursion (Contains (tasks_of (subs items))) (map (λ (o : Owned). o.task) owners)
+  owned-among owners (inl none) = subst (λ (os : List Owned). AllByRecursion (Contains (tasks_of (subs items))) (map (λ (o : Owned). o.task) os)) (sym none) tt
+  owned-among owners (inr whole) =
+      subst (AllByRecursion (Contains (tasks_of (subs items)))) (sym whole)
+      (recursion_from_All (Contains (tasks_of (subs items))) (tasks_of (subs items)) (All-contains_itself (tasks_of (subs items))))
+
+-- ---- a cluster
+
+module _ (items : List Item) (p : Progress) (ms : List Moved) (c : Cluster) where
+  module _ (h : HasComeWith items p ms c) where
+    pub names-come : map (λ (m : Moved). m.task.name) ms ≡ map (λ (o : Owned). o.task) p.owners
+    names-come =
+        names-of-tasks ms ∙ ap (map (λ (t : TaskView). t.name)) h.running ∙ names-of-seats c.seats.items ∙ ap (map (λ (o : Owned). o.task)) h.owners
+
+    of-tasks : (P : TaskView → Type 0) → AllByRecursion (λ (s : Seat). P s.task) c.seats.items → AllByRecursion (λ (m : Moved). P m.task) ms
+    of-tasks P all = all-mapped P (λ (m : Moved). m.task) ms (subst (AllByRecursion P) (sym h.running) (All-map P (λ (s : Seat). s.task) c.seats.items all))
+
+    -- the tasks of a cluster run
+    pub running-of : AreRunning items p.order (shelf_of c.broker) ms
+    running-of = record {
+      apart = subst (Pairwise AreApart) (sym names-come) (owned-apart items p.owners h.progress.owned);
+      among = all-mapped (Contains (tasks_of (subs items))) (λ (m : Moved). m.task.name) ms
+          (subst (AllByRecursion (Contains (tasks_of (subs items)))) (sym names-come) (owned-among items p.owners h.progress.owned));
+      tasks = of-tasks (IsTaskIn (topology_of items))
+          (subst (λ (t : Topology). AllByRecursion (λ (s : Seat). IsTaskIn t s.task) c.seats.items) h.topology (recursion_from_All (λ (s : Seat). IsTaskIn c.topology s.task) c.seats.items h.tasks));
+      named = recursion_from_All IsNamed ms h.named;
+      newest = of-tasks (λ (t : TaskView). t.generation ≡ (shelf_of c.broker).newest t.name)
+          (recursion_from_All (λ (s : Seat). s.task.generation ≡ (shelf_of c.broker).newest s.task.name) c.seats.items h.instances);
+      good = subst (λ (t : Topology). Good (core_of t) (meaning_in_core items p.order) (core_state_of c.broker ms)) h.topology h.good;
+    }
+
+    at-tasks : (P : TaskName → Type 0) → All P (tasks_of c.topology.subs) → (u : TaskName) → Contains (tasks_of (subs items)) u → P u
+    at-tasks P all u is =
+        holds-of P (tasks_of (subs items)) u (subst (λ (t : Topology). AllByRecursion P (tasks_of t.subs)) h.topology (recursion_from_All P (tasks_of c.topology.subs) all)) is
+
+    -- the broker has of each task what the numbers say
+    pub done-come : (u : TaskName) → Contains (tasks_of (subs items)) u → (shelf_of c.broker).done u ≡ p.done u
+    done-come = at-tasks (λ u. (shelf_of c.broker).done u ≡ p.done u) h.done
+
+    pub newest-come : (u : TaskName) → Contains (tasks_of (subs items)) u → (shelf_of c.broker).newest u ≡ p.newest u
+    newest-come = at-tasks (λ u. (shelf_of c.broker).newest u ≡ p.newest u) h.newest
+
+    pub topics-come : topics_of c.broker ≡ (topology_of items).topics
+    topics-come = h.topics ∙ ap (λ (t : Topology). t.topics) h.topology
+
+    pub few-come : AllByRecursion NodesHaveFew (subs items)
+    few-come = subst (λ (t : Topology). AllByRecursion NodesHaveFew t.subs) h.topology (recursion_from_All NodesHaveFew c.topology.subs h.few)
+
+  to-tasks : (P : TaskName → Type 0) → ((u : TaskName) → Contains (tasks_of (subs items)) u → P u) → All P (tasks_of (subs items))
+  to-tasks P each =
+      All-from_recursion P (tasks_of (subs items))
+      (own (tasks_of (subs items)) (recursion_from_All (Contains (tasks_of (subs items))) (tasks_of (subs items)) (All-contains_itself (tasks_of (subs items)))))
+    where
+      own : (us : List TaskName) → AllByRecursion (Contains (tasks_of (subs items))) us → AllByRecursion P us
+      own [] all = tt
+      own (u ∷ us) all = (each u all.0, own us all.1)
+
+  -- what makes up a cluster that has come so far
+  pub record Comes : Type 0 where
+    pub texts : HoldTexts items
+    pub progress : IsProgress items p
+    pub topology : c.topology ≡ topology_of items
+    pub few : All NodesHaveFew c.topology.subs
+    pub chain : c.chain ≡ chain_of c.topology.subs
+    pub topics : topics_of c.broker ≡ c.topology.topics
+    pub live : c.live.items ≡ p.live
+    pub owners : map owned_of c.seats.items ≡ p.owners
+    pub running : map (λ (m : Moved). m.task) ms ≡ map (λ (s : Seat). s.task) c.seats.items
+    pub run : AreRunning items p.order (shelf_of c.broker) ms
+    pub fed : c.broker.fed ≡ p.fed
+    pub newest : (u : TaskName) → Contains (tasks_of (subs items)) u → (shelf_of c.broker).newest u ≡ p.newest u
+    pub done : (u : TaskName) → Contains (tasks_of (subs items)) u → (shelf_of c.broker).done u ≡ p.done u
+    pub rounds : c.rounds ≡ p.rounds
+    pub journal : c.journal.items ≡ p.journal
+    pub sources : AllZip IsKept c.sources.items p.sources
+
+  pub come-of : Comes → HasComeWith items p ms c
+  come-of is = record {
+    texts = is.texts;
+    progress = is.progress;
+    topology = is.topology;
+    few = is.few;
+    chain = is.chain;
+    topics = is.topics;
+    live = is.live;
+    owners = is.owners;
+    running = is.running;
+    named = All-from_recursion IsNamed ms is.run.named;
+    tasks = All-from_recursion (λ (s : Seat). IsTaskIn c.topology s.task) c.seats.items
+        (subst (λ (t : Topology). AllByRecursion (λ (s : Seat). IsTaskIn t s.task) c.seats.items) (sym is.topology) (from-tasks (IsTaskIn (topology_of items)) is.run.tasks));
+    instances = All-from_recursion (λ (s : Seat). s.task.generation ≡ (shelf_of c.broker).newest s.task.name) c.seats.items
+        (from-tasks (λ (t : TaskView). t.generation ≡ (shelf_of c.broker).newest t.name) is.run.newest);
+    good = subst (λ (t : Topology). Good (core_of t) (meaning_in_core items p.order) (core_state_of c.broker ms)) (sym is.topology) is.run.good;
+    fed = is.fed;
+    newest = subst (λ (t : Topology). All (λ u. (shelf_of c.broker).newest u ≡ p.newest u) (tasks_of t.subs)) (sym is.topology) (to-tasks (λ u. (shelf_of c.broker).newest u ≡ p.newest u) is.newest);
+    done = subst (λ (t : Topology). All (λ u. (shelf_of c.broker).done u ≡ p.done u) (tasks_of t.subs)) (sym is.topology) (to-tasks (λ u. (shelf_of c.broker).done u ≡ p.done u) is.done);
+    rounds = is.rounds;
+    journal = is.journal;
+    sources = is.sources;
   }
+    where
+      from-tasks : (P : TaskView → Type 0) → AllByRecursion (λ (m : Moved). P m.task) ms → AllByRecursion (λ (s : Seat). P s.task) c.seats.items
+      from-tasks P all = all-mapped P (λ (s : Seat). s.task) c.seats.items (subst (AllByRecursion P) is.running (All-map P (λ (m : Moved). m.task) ms all))
 
-  pub dones-of : HasCome items p c → AllByRecursion (IsDone p) c.tasks.items
-  dones-of h = zip-own (λ (u : TaskName) (t : TaskView). t.done ≡ p.done u) (λ (t : TaskView). t.name) c.tasks.items
-      (subst (λ us. AllZip (λ (u : TaskName) (t : TaskView). t.done ≡ p.done u) us c.tasks.items) (sym h.names) h.done)
+-- ---- workers and notes
 
-  -- and these make up how far it has come
-  pub come-of : HoldTexts items → IsProgress items p → c.topology ≡ topology_of items → c.chain ≡ chain_of c.topology.subs → topics_of c.broker ≡ c.topology.topics →
-      AreRunning items p.order (shelf_of c.broker) (map idle c.tasks.items) → c.broker.fed ≡ p.fed → AllByRecursion (IsDone p) c.tasks.items → c.rounds ≡ p.rounds → c.journal.items ≡ p.journal →
-      AllZip IsKept c.sources.items p.sources → HasCome items p c
-  come-of texts progress topology chain topics run fed dones rounds journal sources =
-      let names : map (λ (t : TaskView). t.name) c.tasks.items ≡ tasks_of c.topology.subs = sym (idle-names c.tasks.items) ∙ run.names ∙ ap (λ (t : Topology). tasks_of t.subs) (sym topology) in
-      record {
-        texts = texts;
-        progress = progress;
-        topology = topology;
-        chain = chain;
-        topics = topics;
-        names = names;
-        tasks = All-from_recursion (IsTaskIn c.topology) c.tasks.items
-            (subst (λ (t : Topology). AllByRecursion (IsTaskIn t) c.tasks.items) (sym topology) (all-mapped (λ (m : Moved). IsTaskIn (topology_of items) m.task) idle c.tasks.items run.tasks));
-        newest = All-from_recursion (λ (t : TaskView). t.generation ≡ (shelf_of c.broker).newest t.name) c.tasks.items (all-mapped (IsNewest (shelf_of c.broker)) idle c.tasks.items run.newest);
-        good = subst (λ (t : Topology). Good (core_of t) (meaning_in_core items p.order) (core_state_of c.broker (map idle c.tasks.items))) (sym topology) run.good;
-        fed = fed;
-        done = subst (λ us. AllZip (λ (u : TaskName) (t : TaskView). t.done ≡ p.done u) us c.tasks.items) names (own-zip (λ (u : TaskName) (t : TaskView). t.done ≡ p.done u) (λ (t : TaskView). t.name) c.tasks.items dones);
-        rounds = rounds;
-        journal = journal;
-        sources = sources;
-      }
-
--- ---- a round
-
--- what a round leaves as it was, and what it does to the tasks and to the broker
-pub record IsRound (c : Cluster) (ms : List Moved) (next : Cluster) : Type 0 where
-  pub moved : AllZip (IsAdvanced c.broker) c.tasks.items ms
-  pub settled : AllSettle (routes_in c.broker) ms (shelf_of c.broker) (shelf_of next.broker)
-  pub tasks : next.tasks.items ≡ map (λ (m : Moved). m.task) ms
-  pub topics : topics_of next.broker ≡ topics_of c.broker
+-- a cluster has other live workers or another journal, and else what it had
+pub record IsSameBut (live : List ℕ) (journal : List JournalEntry) (c next : Cluster) : Type 0 where
   pub topology : next.topology ≡ c.topology
   pub chain : next.chain ≡ c.chain
+  pub broker : next.broker ≡ c.broker
+  pub these : next.live.items ≡ live
+  pub seats : next.seats.items ≡ c.seats.items
   pub sources : next.sources.items ≡ c.sources.items
-  pub rounds : next.rounds ≡ c.rounds + 1
-  pub journal : next.journal.items ≡ c.journal.items ++ all_noted ms
+  pub rounds : next.rounds ≡ c.rounds
+  pub notes : next.journal.items ≡ journal
 
--- a round brings a cluster further
-pub after-round : (items : List Item) (p : Progress) (c next : Cluster) (ms : List Moved) → IsSound items → HaveNoWindow items → IsRound c ms next → HasCome items p c →
-    HasCome items (round c.topology p) next
-after-round items p c next ms sound windowless is h =
-    subst (λ (t : Topology). HasCome items (round t p) next) (sym h.topology)
-    (come-of items (round (topology_of items) p) next h.texts
-    (record { sources = h.progress.sources; order = h.progress.order; none_later = h.progress.none_later })
-    (is.topology ∙ h.topology)
-    (is.chain ∙ h.chain ∙ ap (λ (t : Topology). chain_of t.subs) (sym is.topology))
-    (is.topics ∙ h.topics ∙ ap (λ (t : Topology). t.topics) (sym is.topology))
-    (subst (λ (ts : List TaskView). AreRunning items p.order (shelf_of next.broker) (map idle ts)) (sym is.tasks)
-    (subst (AreRunning items p.order (shelf_of next.broker)) (sym (idle-tasks ms)) after))
-    (settle-fed (routes_in c.broker) ms (shelf_of c.broker) (shelf_of next.broker) is.settled ∙ h.fed)
-    (subst (AllByRecursion (IsDone (round (topology_of items) p))) (sym is.tasks)
-    (all-done items p.order sound windowless h.progress.order c.broker topics p h.fed c.tasks.items (running-of items p c h) (dones-of items p c h) ms is.moved))
-    (is.rounds ∙ ap (λ n. n + 1) h.rounds)
-    (is.journal ∙ ap₂ (λ xs ys. xs ++ ys) h.journal
-    (journal-noted items p.order sound windowless h.progress.order c.broker topics p h.fed c.tasks.items (running-of items p c h) (dones-of items p c h) ms is.moved))
-    (subst (λ (xs : List Kept). AllZip IsKept xs p.sources) (sym is.sources) h.sources))
-  where
-    topics : topics_of c.broker ≡ (topology_of items).topics
-    topics = h.topics ∙ ap (λ (t : Topology). t.topics) h.topology
-
-    after : AreRunning items p.order (shelf_of next.broker) (map (λ (m : Moved). idle m.task) ms)
-    after =
-        all-settled items p.order sound windowless h.progress.order [] ms (shelf_of c.broker) (shelf_of next.broker)
-        (subst (λ ts. AllSettle (routes_of ts) ms (shelf_of c.broker) (shelf_of next.broker)) topics is.settled)
-        (all-advanced items p.order sound windowless h.progress.order c.broker topics [] c.tasks.items ms is.moved (running-of items p c h))
+pub same-come : (items : List Item) (p : Progress) (ms : List Moved) (c next : Cluster) (live : List ℕ) (journal : List JournalEntry) → IsSameBut live journal c next → IsStrictlyIncreasing live →
+    HasComeWith items p ms c → HasComeWith items (record p { live = live; journal = journal }) ms next
+same-come items p ms c next live journal is rises h =
+    come-of items (record p { live = live; journal = journal }) ms next (record {
+      texts = h.texts;
+      progress = record { sources = h.progress.sources; order = h.progress.order; none_later = h.progress.none_later; live = rises; owned = h.progress.owned };
+      topology = is.topology ∙ h.topology;
+      few = subst (λ (t : Topology). All NodesHaveFew t.subs) (sym is.topology) h.few;
+      chain = is.chain ∙ h.chain ∙ ap (λ (t : Topology). chain_of t.subs) (sym is.topology);
+      topics = ap topics_of is.broker ∙ h.topics ∙ ap (λ (t : Topology). t.topics) (sym is.topology);
+      live = is.these;
+      owners = ap (map owned_of) is.seats ∙ h.owners;
+      running = h.running ∙ sym (ap (map (λ (s : Seat). s.task)) is.seats);
+      run = subst (λ (b : Shelves). AreRunning items p.order (shelf_of b) ms) (sym is.broker) (running-of items p ms c h);
+      fed = ap (λ (b : Shelves). b.fed) is.broker ∙ h.fed;
+      newest = λ u among. ap (λ (b : Shelves). (shelf_of b).newest u) is.broker ∙ newest-come items p ms c h u among;
+      done = λ u among. ap (λ (b : Shelves). (shelf_of b).done u) is.broker ∙ done-come items p ms c h u among;
+      rounds = is.rounds ∙ h.rounds;
+      journal = is.notes;
+      sources = subst (λ (xs : List Kept). AllZip IsKept xs p.sources) (sym is.sources) h.sources;
+    })

@@ -1,9 +1,10 @@
 -- As many rounds as the longest path has sub-topologies bring each task to the last feed: each round goes one sub-topology further along
 -- every path.
-use Rattle.std.proofs.Common.{◌≡◌, ◌∙◌, ap, refl, sym, subst, ℕ, zero, suc, ◌+◌, ◌<◌, ◌≤◌, Bool, true, false, List, [], ◌∷◌, ◌++◌, length, map, max, arith, inl, inr}
-use Rattle.std.specs.Prelude.{◌⊎◌, ◌==◌, if◌then◌else◌, flat_map, option_map, unwrap_or, Contains}
+use Rattle.std.proofs.Common.{◌≡◌, ◌∙◌, ap, ap₂, refl, sym, subst, eq-eqb, ℕ, zero, suc, ◌+◌, ◌<◌, ◌≤◌, Bool, true, false, true≢false, List, [], ◌∷◌, ◌++◌, length, map, max, arith, inl, inr}
+use Rattle.std.specs.Prelude.{◌⊎◌, ◌==◌, ◌&&◌, if◌then◌else◌, flat_map, option_map, unwrap_or, Contains, Option, None, Some}
+use Rattle.std.specs.Option.{option_or}
 use Rattle.std.specs.Cmp.{unsigned_Decides}
-use Rattle.std.specs.List.{AllByRecursion}
+use Rattle.std.specs.List.{AllByRecursion, range_with_len}
 use Rattle.ksql_types.specs.declared.relation.Relation.{Relation}
 use Rattle.ksql_types.specs.declared.relation.TaskName.{TaskName}
 use Rattle.ksql_place.specs.Ascending.{ascending}
@@ -23,15 +24,19 @@ use Rattle.topology.specs.declared.topology.SubInput.{SubInput}
 use Rattle.topology.specs.declared.topology.Topology.{Topology}
 use Rattle.topology_laws.proofs.Paths.{StandInOrder, topics_read}
 use Rattle.topology_laws.proofs.SubOrder.{subs-in-order}
-use Rattle.core_state.proofs.Lists.{Contains-here, Contains-next, lowest-below, lowest-up}
+use Rattle.core_state.proofs.Lists.{Contains-here, Contains-next}
 use Rattle.core_state.proofs.Staging.{Contains-cases}
 use Rattle.core_state.specs.Routes.{routes_of}
 use Rattle.core_state.specs.State.{least, lowest}
 use Rattle.task_core.specs.Core.{inputs_at}
 use Rattle.feed_laws.specs.Feeds.{fed_of, sources_of}
-use Rattle.core_laws.proofs.Members.{map-member, member-flat, no-member}
+use Rattle.core_laws.proofs.Members.{flat-member, map-member, member-flat, no-member}
 use Rattle.core_laws.proofs.Wirings.{output-of, sub-of, wired-well}
-use Rattle.cluster_core.specs.Progress.{Progress, after_steps, bound, closed, feed, opening, round, rounds, whole}
+use Rattle.assignor.proofs.Whole.{is_whole}
+use Rattle.assignor.specs.Rule.{assignment, owner_of}
+use Rattle.assignor.specs.declared.assignment.Owned.{Owned}
+use Rattle.cluster_core.specs.Progress.{Progress, after_steps, bound, closed, opening, round, rounds, takes_part, whole}
+use Rattle.cluster_core.proofs.LiveWorkers.{first-rising}
 
 -- ---- depths
 
@@ -126,11 +131,11 @@ lowest-all {A} n m f (x ∷ xs) same all = more x xs all
 -- rounds leave the last feed and the order of consumption
 pub rounds-fed : (t : Topology) (n : ℕ) (p : Progress) → (rounds t n p).fed ≡ p.fed
 rounds-fed t zero p = refl
-rounds-fed t (suc n) p = rounds-fed t n (round t p)
+rounds-fed t (suc n) p = rounds-fed t n (round None t p)
 
 pub rounds-order : (t : Topology) (n : ℕ) (p : Progress) → (rounds t n p).order ≡ p.order
 rounds-order t zero p = refl
-rounds-order t (suc n) p = rounds-order t n (round t p)
+rounds-order t (suc n) p = rounds-order t n (round None t p)
 
 module _ (items : List Item) (sound : IsSound items) where
   abbrev top : Topology
@@ -154,14 +159,6 @@ module _ (items : List Item) (sound : IsSound items) where
       let found = member-flat tasks_of_sub (subs items) u written.0 in
       (found.0, found.1, found.2, sym (output-of items sound found.0 u found.1 found.2) ∙ written.1)
 
-  -- no task is done with more than the last feed
-  abbrev pub AreBehind : Progress → Type 0
-  AreBehind p = (u : TaskName) → Contains (tasks_of top.subs) u → p.done u ≤ p.fed
-
-  -- no task is done with more than its inputs are closed for
-  abbrev pub AreWithin : Progress → Type 0
-  AreWithin p = (u : TaskName) → Contains (tasks_of top.subs) u → p.done u ≤ bound top p u
-
   -- each task is done with the last feed
   abbrev pub AreDone : Progress → Type 0
   AreDone p = (u : TaskName) → Contains (tasks_of top.subs) u → p.done u ≡ p.fed
@@ -170,39 +167,9 @@ module _ (items : List Item) (sound : IsSound items) where
   closed-at : (p : Progress) (n topic : ℕ) → p.fed ≡ n → ((u : TaskName) → Contains ((routes_of top.topics).writers topic) u → p.done u ≡ n) → closed top p topic ≡ n
   closed-at p n topic fed done = lowest-all p.fed n p.done ((routes_of top.topics).writers topic) fed done
 
-  -- a topic is closed for the last feed where all are done with it, and for none after it where none is done with more
-  pub closed-done : (p : Progress) → AreDone p → (topic : ℕ) → closed top p topic ≡ p.fed
-  closed-done p done topic = closed-at p p.fed topic refl (λ u writes. done u ((wired-well items sound).written_by topic u writes).0)
-
-  pub closed-behind : (p : Progress) → AreBehind p → (topic : ℕ) → closed top p topic ≤ p.fed
-  closed-behind p behind topic =
-      lowest-below p.fed p.fed p.done ((routes_of top.topics).writers topic) (omega arith) (λ u writes. behind u ((wired-well items sound).written_by topic u writes).0)
-
-  pub bound-behind : (p : Progress) → AreBehind p → (u : TaskName) → bound top p u ≤ p.fed
-  bound-behind p behind u =
-      lowest-below p.fed p.fed (λ (i : SubInput). closed top p i.topic) (inputs_at top u) (omega arith) (λ i reads. closed-behind p behind i.topic)
-
-  -- a round leaves no task ahead of the last feed
-  pub round-behind : (p : Progress) → AreBehind p → AreBehind (round top p)
-  round-behind p behind u task = bound-behind p behind u
-
-  -- a round leaves all done where all are
-  pub round-done : (p : Progress) → AreDone p → AreDone (round top p)
-  round-done p done u task = lowest-all p.fed p.fed (λ (i : SubInput). closed top p i.topic) (inputs_at top u) refl (λ i reads. closed-done p done i.topic)
-
-  -- a round takes no task back, and leaves each within what its inputs are closed for
-  pub round-within : (p : Progress) → AreWithin p → AreWithin (round top p)
-  round-within p within u task =
-      lowest-up p.fed p.fed (λ (i : SubInput). closed top p i.topic) (λ (i : SubInput). closed top (round top p) i.topic) (inputs_at top u) (omega arith)
-      (λ i reads. lowest-up p.fed p.fed p.done (bound top p) ((routes_of top.topics).writers i.topic) (omega arith)
-      (λ v writes. within v ((wired-well items sound).written_by i.topic v writes).0))
-
-  -- and so a task stays done with the last feed
-  pub round-kept : (p : Progress) → AreBehind p → AreWithin p → (u : TaskName) → Contains (tasks_of top.subs) u → p.done u ≡ p.fed → (round top p).done u ≡ p.fed
-  round-kept p behind within u task done =
-      let low : p.done u ≤ bound top p u = within u task in
-      let most : bound top p u ≤ p.fed = bound-behind p behind u in
-      omega (arith, low, most, done)
+  -- each task has an owner, which takes part in a round without losses
+  abbrev pub AreOwned : Progress → Type 0
+  AreOwned p = (u : TaskName) → Contains (tasks_of top.subs) u → takes_part None (owner_of p.owners u) ≡ true
 
   -- ---- by depth
 
@@ -211,8 +178,10 @@ module _ (items : List Item) (sound : IsSound items) where
   AreDoneTo n p = (s : Sub) → Contains (subs items) s → deep s.output ≤ n → (u : TaskName) → Contains (tasks_of_sub s) u → p.done u ≡ p.fed
 
   -- a round goes one deeper
-  round-deeper : (n : ℕ) (p : Progress) → AreDoneTo n p → AreDoneTo (suc n) (round top p)
-  round-deeper n p done s among low u task = lowest-all p.fed p.fed (λ (i : SubInput). closed top p i.topic) (inputs_at top u) refl by
+  round-deeper : (n : ℕ) (p : Progress) → AreOwned p → AreDoneTo n p → AreDoneTo (suc n) (round None top p)
+  round-deeper n p owned done s among low u task =
+      ap (λ (c : Bool). if c then bound top p u else p.done u) (owned u (flat-member tasks_of_sub (subs items) s u among task))
+      ∙ lowest-all p.fed p.fed (λ (i : SubInput). closed top p i.topic) (inputs_at top u) refl by
     where
       by : (i : SubInput) → Contains (inputs_at top u) i → closed top p i.topic ≡ p.fed
       by i reads = closed-at p p.fed i.topic refl each
@@ -230,29 +199,45 @@ module _ (items : List Item) (sound : IsSound items) where
   none-done : (p : Progress) → AreDoneTo 0 p
   none-done p s among low u task = let some : 0 < deep s.output = some-depth (λ t. 0) (subs items) (subs-in-order items sound) s among in absurd (omega (arith, some, low))
 
-  rounds-deeper : (n k : ℕ) (p : Progress) → chain_of (subs items) ≤ k + n → AreDoneTo k p → AreDone (rounds top n p)
-  rounds-deeper zero k p enough done = λ u task.
+  rounds-deeper : (n k : ℕ) (p : Progress) → AreOwned p → chain_of (subs items) ≤ k + n → AreDoneTo k p → AreDone (rounds top n p)
+  rounds-deeper zero k p owned enough done = λ u task.
       let found = member-flat tasks_of_sub (subs items) u task in
       let low : deep found.0.output ≤ chain_of (subs items) = within-chain found.0 found.1 in
       done found.0 found.1 (omega (arith, low, enough)) u found.2
-  rounds-deeper (suc n) k p enough done = rounds-deeper n (suc k) (round top p) (omega (arith, enough)) (round-deeper k p done)
+  rounds-deeper (suc n) k p owned enough done = rounds-deeper n (suc k) (round None top p) owned (omega (arith, enough)) (round-deeper k p owned done)
 
   -- ---- a drain
 
   -- as many rounds as the longest path has sub-topologies bring each task to the last feed, wherever it was
-  pub drained-anyway : (p : Progress) (u : TaskName) → Contains (tasks_of top.subs) u → (rounds top (chain_of top.subs) p).done u ≡ p.fed
-  drained-anyway p u task = rounds-deeper (chain_of (subs items)) 0 p (omega arith) (none-done p) u task ∙ rounds-fed top (chain_of top.subs) p
+  pub drained : (p : Progress) → AreOwned p → (u : TaskName) → Contains (tasks_of top.subs) u → (rounds top (chain_of top.subs) p).done u ≡ p.fed
+  drained p owned u task = rounds-deeper (chain_of (subs items)) 0 p owned (omega arith) (none-done p) u task ∙ rounds-fed top (chain_of top.subs) p
 
   -- and so every topic is closed for it
-  pub drained-closed : (p : Progress) (topic : ℕ) → closed top (rounds top (chain_of top.subs) p) topic ≡ p.fed
-  drained-closed p topic =
+  pub drained-closed : (p : Progress) → AreOwned p → (topic : ℕ) → closed top (rounds top (chain_of top.subs) p) topic ≡ p.fed
+  drained-closed p owned topic =
       closed-at (rounds top (chain_of top.subs) p) p.fed topic (rounds-fed top (chain_of top.subs) p)
-      (λ u writes. drained-anyway p u ((wired-well items sound).written_by topic u writes).0)
+      (λ u writes. drained p owned u ((wired-well items sound).written_by topic u writes).0)
 
--- so each task, where none was done with more
-pub drained : (items : List Item) → IsSound items → (p : Progress) → ((u : TaskName) → Contains (tasks_of (topology_of items).subs) u → p.done u ≤ p.fed) →
-    (u : TaskName) → Contains (tasks_of (topology_of items).subs) u → (rounds (topology_of items) (chain_of (topology_of items).subs) p).done u ≡ p.fed
-drained items sound p behind u task = drained-anyway items sound p u task
+-- a task that is among those that are owned has an owner
+owned-some : (owners : List Owned) (u : TaskName) → Contains (map (λ (o : Owned). o.task) owners) u → takes_part None (owner_of owners u) ≡ true
+owned-some [] u among = absurd (no-member u among)
+owned-some (o ∷ os) u among = by (owner_of os u) refl (Contains-cases o.task (map (λ (x : Owned). x.task) os) u among) (owned-some os u)
+  where
+    named : o.task ≡ u → ((o.task.sub == u.sub) && (o.task.part == u.part)) ≡ true
+    named same = ap₂ (λ a b. a && b) (eq-eqb o.task.sub u.sub (ap (λ (v : TaskName). v.sub) same)) (eq-eqb o.task.part u.part (ap (λ (v : TaskName). v.part) same))
+
+    by : (x : Option ℕ) → owner_of os u ≡ x → (o.task ≡ u) ⊎ Contains (map (λ (x : Owned). x.task) os) u → (Contains (map (λ (x : Owned). x.task) os) u → takes_part None (owner_of os u) ≡ true) →
+        takes_part None (option_or (owner_of os u) (if (o.task.sub == u.sub) && (o.task.part == u.part) then Some o.worker else None)) ≡ true
+    by (Some w) is either rest = ap (λ (x : Option ℕ). takes_part None (option_or x (if (o.task.sub == u.sub) && (o.task.part == u.part) then Some o.worker else None))) is
+    by None is (inl same) rest = (λ i. takes_part None (option_or (is i) (if named same i then Some o.worker else None)))
+    by None is (inr later) rest = absurd (true≢false (sym (rest later) ∙ ap (takes_part None) is))
+
+-- where a worker is live, each task has an owner from the beginning on
+pub opening-owned : (items : List Item) (sound : IsSound items) (files : List TopicLines) (workers : ℕ) → 1 ≤ workers → AreOwned items sound (opening (topology_of items) items files workers)
+opening-owned items sound files zero some u task = absurd (omega (arith, some))
+opening-owned items sound files (suc n) some u task =
+    owned-some (assignment [] (range_with_len 1 (suc n)) (tasks_of (topology_of items).subs)) u
+    (subst (λ us. Contains us u) (sym (is_whole [] (range_with_len 1 (suc n)) (tasks_of (topology_of items).subs) (λ none. absurd (let long : suc (length (range_with_len 2 n)) ≡ 0 = ap length none in omega (arith, long))) (first-rising (suc n))).0) task)
 
 -- ---- one feed of all there is, and a drain
 
@@ -275,21 +260,15 @@ whole-fed (Declared r ∷ items) [] = refl
 whole-fed (Declared r ∷ items) (file ∷ files) = ap (λ (rest : List SourceRecord). fed_in r [] 1 (at_once r file.feds) file.feds ++ rest) (whole-fed items files)
 whole-fed (Started q ∷ items) files = whole-fed items files
 
-module _ (items : List Item) (files : List TopicLines) where
+module _ (items : List Item) (files : List TopicLines) (workers : ℕ) where
   -- how far a program is after it was fed once and drained
   abbrev pub fed_once : Progress
-  fed_once = after_steps (topology_of items) (opening items files) (step.FeedAll ∷ step.Drain ∷ [])
+  fed_once = after_steps (topology_of items) (opening (topology_of items) items files workers) (record { line = 1; step = step.FeedAll } ∷ record { line = 2; step = step.Drain } ∷ [])
 
-  -- one feed was made, every topic is closed for it, and every task is done with it
-  pub fed-once-fed : fed_once.fed ≡ 1
-  fed-once-fed = rounds-fed (topology_of items) (chain_of (topology_of items).subs) (feed whole (opening items files))
-
-  pub fed-once-closed : IsSound items → (topic : ℕ) → closed (topology_of items) fed_once topic ≡ 1
-  fed-once-closed sound topic = drained-closed items sound (feed whole (opening items files)) topic
-
-  pub fed-once-done : IsSound items → (u : TaskName) → Contains (tasks_of (topology_of items).subs) u → fed_once.done u ≡ 1
-  fed-once-done sound u task = drained-anyway items sound (feed whole (opening items files)) u task
+  -- every topic is closed for the one feed, where a worker is live
+  pub fed-once-closed : IsSound items → 1 ≤ workers → (topic : ℕ) → closed (topology_of items) fed_once topic ≡ 1
+  fed-once-closed sound some topic = drained-closed items sound _ (opening-owned items sound files workers some) topic
 
   -- and the order of consumption is that of all records of the files in one feed
   pub fed-once-order : fed_once.order ≡ order_of at_once (declared_of items) files
-  fed-once-order = rounds-order (topology_of items) (chain_of (topology_of items).subs) (feed whole (opening items files)) ∙ ap (ascending record_cmp) (whole-fed items files)
+  fed-once-order = rounds-order (topology_of items) (chain_of (topology_of items).subs) _ ∙ ap (ascending record_cmp) (whole-fed items files)

@@ -1,8 +1,8 @@
 -- A feed keeps the state of a cluster good, and its numbers are those of the feed.
 use Rattle.std.proofs.Common.{◌≡◌, ◌∙◌, ap, refl, sym, subst, ℕ, ◌+◌, ◌≤◌, List, [], ◌∷◌, ◌++◌, length, map, get_or, arith}
 use Rattle.std.specs.Prelude.{All, Contains}
-use Rattle.std.specs.List.{AllZip}
-use Rattle.std.proofs.lemmas.List.Elements.{All-append, All-contains_itself, All-from_recursion, recursion_from_All}
+use Rattle.std.specs.List.{AllByRecursion, AllZip}
+use Rattle.std.proofs.lemmas.List.Elements.{All-append, All-from_recursion, recursion_from_All}
 use Rattle.ksql_place.specs.declared.change.SourceRecord.{SourceRecord}
 use Rattle.ksql_program.specs.Sound.{IsSound}
 use Rattle.ksql_program.specs.declared.program.Item.{Item}
@@ -12,25 +12,28 @@ use Rattle.topology.specs.Topologies.{topology_of}
 use Rattle.topology.specs.declared.topology.Topology.{Topology}
 use Rattle.core_state.proofs.Lifting.{fed}
 use Rattle.core_state.specs.Events.{feed as fed_event}
-use Rattle.core_state.specs.Good.{Good}
 use Rattle.core_state.specs.Routes.{routes_of}
 use Rattle.core_state.specs.Shelf.{ShelfFeeds}
 use Rattle.core_state.specs.declared.journal.JournalEntry.TheVariants as entry
 use Rattle.core_laws.proofs.Fitting.{keeps-good}
-use Rattle.core_laws.proofs.Members.{map-member}
 use Rattle.core_laws.proofs.Wirings.{wired-well}
-use Rattle.core_laws.specs.Core.{meaning_in_core}
 use Rattle.topic_log.specs.Shelves.{routes_in, shelf_of, topics_of}
 use Rattle.topic_log.specs.declared.shelves.Shelves.{Shelves}
 use Rattle.task_core.specs.Core.{core_of}
-use Rattle.task_core.specs.Tasks.{TaskView}
+use Rattle.task_core.specs.declared.task.Moved.{Moved}
 use Rattle.feed_laws.specs.Feeds.{Source, after_feed, records_of}
 use Rattle.feed_laws.specs.Fitting.{AreSourcesOf, Fits, IsSourceOf}
-use Rattle.cluster_core.specs.Cluster.{HasCome, IsKept, IsProgress, IsTaskIn, core_state_of, idle, instance_in}
+use Rattle.cluster_core.specs.Cluster.{HasCome, HasComeWith, IsKept, IsProgress, idle}
+use Rattle.cluster_core.specs.Few.{NodesHaveFew}
+use Rattle.cluster_core.specs.Moves.{owned_of}
 use Rattle.cluster_core.specs.Progress.{Progress, feed}
 use Rattle.cluster_core.specs.Sourcing.{CanFeed}
 use Rattle.cluster_core.specs.declared.cluster.Cluster.{Cluster}
+use Rattle.cluster_core.specs.declared.seats.Seat.{Seat}
 use Rattle.cluster_core.specs.declared.sources.Source.{Source as Kept}
+use Rattle.cluster_core.proofs.Coming.{come-of, done-come, idle-tasks, newest-come, running-of, topics-come}
+use Rattle.cluster_core.proofs.Running.{on_shelf, parts_of}
+use Rattle.cluster_core.proofs.Tasks.{AreRunning, IsNewest}
 
 -- ---- sources
 
@@ -73,6 +76,8 @@ module _ (items : List Item) (p : Progress) (count : Source → ℕ) (come : IsP
   feed-progress = record {
     sources = goes_on;
     order = fits;
+    live = come.live;
+    owned = come.owned;
     none_later =
         All-append (λ (r : SourceRecord). r.stamp.feed ≤ p.fed + 1) p.order records
         (λ k d below. let early : (get_or p.order k d).stamp.feed ≤ p.fed = come.none_later k d below in omega (arith, early))
@@ -85,27 +90,28 @@ module _ (items : List Item) (p : Progress) (count : Source → ℕ) (come : IsP
     abbrev t : Topology
     t = topology_of items
 
-    pub feed-good : (b next : Shelves) (tasks : List TaskView) → topics_of b ≡ t.topics → (shelf_of b).fed ≡ p.fed →
-        Good (core_of t) (meaning_in_core items p.order) (core_state_of b (map idle tasks)) → ShelfFeeds (routes_in b) records (shelf_of b) (shelf_of next) →
-        Good (core_of t) (meaning_in_core items (p.order ++ records)) (core_state_of next (map idle tasks))
-    feed-good b next tasks same last good feeds =
-        keeps-good items sound p.order (fed_event records) (core_state_of b (map idle tasks)) (core_state_of next (map idle tasks)) fits.counted good
-        (fed (core_of t) (wired-well items sound).writes records
-        (record { shelf = shelf_of b; instance = instance_in (map idle tasks); held = λ u. [] })
-        (record { shelf = shelf_of next; instance = instance_in (map idle tasks); held = λ u. [] })
-        (subst (λ n. All (λ r. r.stamp.feed ≡ n + 1) records) (sym last) of_feed)
-        (subst (λ ts. ShelfFeeds (routes_of ts) records (shelf_of b) (shelf_of next)) same feeds)
-        (λ u among. refl) (λ u among. refl))
+    -- tasks that run go on
+    feed-run : (b next : Shelves) (ms : List Moved) → topics_of b ≡ t.topics → (shelf_of b).fed ≡ p.fed → ShelfFeeds (routes_in b) records (shelf_of b) (shelf_of next) →
+        AreRunning items p.order (shelf_of b) ms → AreRunning items (p.order ++ records) (shelf_of next) ms
+    feed-run b next ms same last feeds run = record {
+      apart = run.apart;
+      among = run.among;
+      tasks = run.tasks;
+      named = run.named;
+      newest = newest-next ms run.among run.newest;
+      good = keeps-good items sound p.order (fed_event records) (on_shelf (shelf_of b) ms) (on_shelf (shelf_of next) ms) fits.counted run.good
+          (fed (core_of t) (wired-well items sound).writes records (parts_of (shelf_of b) ms) (parts_of (shelf_of next) ms)
+          (subst (λ n. All (λ r. r.stamp.feed ≡ n + 1) records) (sym last) of_feed) feeds-so (λ u among. refl) (λ u among. refl));
+    }
+      where
+        feeds-so : ShelfFeeds (routes_of t.topics) records (shelf_of b) (shelf_of next)
+        feeds-so = subst (λ ts. ShelfFeeds (routes_of ts) records (shelf_of b) (shelf_of next)) same feeds
 
-    -- the generations stay the newest ones
-    feed-newest : (b next : Shelves) (tasks : List TaskView) → topics_of b ≡ t.topics → map (λ (x : TaskView). x.name) tasks ≡ tasks_of t.subs →
-        All (λ x. x.generation ≡ (shelf_of b).newest x.name) tasks → ShelfFeeds (routes_in b) records (shelf_of b) (shelf_of next) →
-        All (λ x. x.generation ≡ (shelf_of next).newest x.name) tasks
-    feed-newest b next tasks same names newest feeds k d low =
-        let task : TaskView = get_or tasks k d in
-        let fed_so : ShelfFeeds (routes_of t.topics) records (shelf_of b) (shelf_of next) = subst (λ ts. ShelfFeeds (routes_of ts) records (shelf_of b) (shelf_of next)) same feeds in
-        let named : Contains (map (λ (x : TaskView). x.name) tasks) task.name = map-member (λ (x : TaskView). x.name) tasks task (All-contains_itself tasks k d low) in
-        newest k d low ∙ sym (fed_so.newest task.name ((wired-well items sound).writes task.name (subst (λ us. Contains us task.name) names named)))
+        -- the generations stay the newest ones
+        newest-next : (xs : List Moved) → AllByRecursion (λ (m : Moved). Contains (tasks_of t.subs) m.task.name) xs → AllByRecursion (IsNewest (shelf_of b)) xs → AllByRecursion (IsNewest (shelf_of next)) xs
+        newest-next [] among newest = tt
+        newest-next (m ∷ xs) among newest =
+            (newest.0 ∙ sym (feeds-so.newest m.task.name ((wired-well items sound).writes m.task.name among.0)), newest-next xs among.1 newest.1)
 
     -- ---- the cluster
 
@@ -113,7 +119,8 @@ module _ (items : List Item) (p : Progress) (count : Source → ℕ) (come : IsP
     pub record IsFed (c next : Cluster) : Type 0 where
       pub topology : next.topology ≡ c.topology
       pub chain : next.chain ≡ c.chain
-      pub tasks : next.tasks.items ≡ c.tasks.items
+      pub live : next.live.items ≡ c.live.items
+      pub seats : next.seats.items ≡ c.seats.items
       pub rounds : next.rounds ≡ c.rounds
       pub topics : topics_of next.broker ≡ topics_of c.broker
       pub feeds : ShelfFeeds (routes_in c.broker) records (shelf_of c.broker) (shelf_of next.broker)
@@ -121,28 +128,32 @@ module _ (items : List Item) (p : Progress) (count : Source → ℕ) (come : IsP
       pub sources : AllZip IsKept next.sources.items (map (after_feed (p.fed + 1) count) p.sources)
 
     pub feed-come : (c next : Cluster) → HasCome items p c → IsFed c next → HasCome items (feed count p) next
-    feed-come c next was is = record {
-      texts = was.texts;
-      progress = feed-progress;
-      topology = is.topology ∙ was.topology;
-      chain = is.chain ∙ was.chain ∙ ap (λ (x : Topology). chain_of x.subs) (sym is.topology);
-      topics = is.topics ∙ was.topics ∙ ap (λ (x : Topology). x.topics) (sym is.topology);
-      names = ap (map (λ (x : TaskView). x.name)) is.tasks ∙ was.names ∙ ap (λ (x : Topology). tasks_of x.subs) (sym is.topology);
-      tasks = subst (λ (x : Topology). All (IsTaskIn x) next.tasks.items) (sym is.topology) (subst (All (IsTaskIn c.topology)) (sym is.tasks) was.tasks);
-      good =
-          subst (λ (x : Topology). Good (core_of x) (meaning_in_core items (p.order ++ records)) (core_state_of next.broker (map idle next.tasks.items))) (sym (is.topology ∙ was.topology))
-          (subst (λ ts. Good (core_of t) (meaning_in_core items (p.order ++ records)) (core_state_of next.broker (map idle ts))) (sym is.tasks)
-          (feed-good c.broker next.broker c.tasks.items (was.topics ∙ ap (λ (x : Topology). x.topics) was.topology) was.fed
-          (subst (λ (x : Topology). Good (core_of x) (meaning_in_core items p.order) (core_state_of c.broker (map idle c.tasks.items))) was.topology was.good) is.feeds));
-      fed = is.feeds.fed ∙ ap (λ n. n + 1) was.fed;
-      newest =
-          subst (All (λ (x : TaskView). x.generation ≡ (shelf_of next.broker).newest x.name)) (sym is.tasks)
-          (feed-newest c.broker next.broker c.tasks.items (was.topics ∙ ap (λ (x : Topology). x.topics) was.topology)
-          (was.names ∙ ap (λ (x : Topology). tasks_of x.subs) was.topology) was.newest is.feeds);
-      done =
-          subst (λ (x : Topology). AllZip (λ u (y : TaskView). y.done ≡ p.done u) (tasks_of x.subs) next.tasks.items) (sym is.topology)
-          (subst (AllZip (λ u (y : TaskView). y.done ≡ p.done u) (tasks_of c.topology.subs)) (sym is.tasks) was.done);
-      rounds = is.rounds ∙ was.rounds;
-      journal = is.journal ∙ ap (λ es. es ++ entry.Fed (p.fed + 1) (length records) ∷ []) was.journal;
-      sources = is.sources;
-    }
+    feed-come c next was is =
+        subst (λ (ss : List Seat). HasComeWith items (feed count p) (map (λ (s : Seat). idle s.task) ss) next) (sym is.seats)
+        (come-of items (feed count p) waiting next (record {
+          texts = was.texts;
+          progress = feed-progress;
+          topology = is.topology ∙ was.topology;
+          few = subst (λ (x : Topology). All NodesHaveFew x.subs) (sym is.topology) was.few;
+          chain = is.chain ∙ was.chain ∙ ap (λ (x : Topology). chain_of x.subs) (sym is.topology);
+          topics = is.topics ∙ was.topics ∙ ap (λ (x : Topology). x.topics) (sym is.topology);
+          live = is.live ∙ was.live;
+          owners = ap (map owned_of) is.seats ∙ was.owners;
+          running = idle-tasks c.seats.items ∙ sym (ap (map (λ (s : Seat). s.task)) is.seats);
+          run = feed-run c.broker next.broker waiting same was.fed is.feeds (running-of items p waiting c was);
+          fed = is.feeds.fed ∙ ap (λ n. n + 1) was.fed;
+          newest = λ u among. feeds-so.newest u ((wired-well items sound).writes u among) ∙ newest-come items p waiting c was u among;
+          done = λ u among. feeds-so.done u ((wired-well items sound).writes u among) ∙ done-come items p waiting c was u among;
+          rounds = is.rounds ∙ was.rounds;
+          journal = is.journal ∙ ap (λ es. es ++ entry.Fed (p.fed + 1) (length records) ∷ []) was.journal;
+          sources = is.sources;
+        }))
+      where
+        waiting : List Moved
+        waiting = map (λ (s : Seat). idle s.task) c.seats.items
+
+        same : topics_of c.broker ≡ t.topics
+        same = topics-come items p waiting c was
+
+        feeds-so : ShelfFeeds (routes_of t.topics) records (shelf_of c.broker) (shelf_of next.broker)
+        feeds-so = subst (λ ts. ShelfFeeds (routes_of ts) records (shelf_of c.broker) (shelf_of next.broker)) same is.feeds

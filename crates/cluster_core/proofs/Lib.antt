@@ -7,15 +7,22 @@ pub mod Draining
 pub mod Driving
 pub mod Feeding
 pub mod Inputs
+pub mod Leaving
+pub mod Leavings
 pub mod Lists
+pub mod LiveWorkers
+pub mod Moving
 pub mod Names
 pub mod Numbers
 pub mod Opening
 pub mod OtherTexts
+pub mod Owners
 pub mod Parts
 pub mod Reading
 pub mod Ready
+pub mod Restoring
 pub mod Running
+pub mod Seating
 pub mod Settling
 pub mod SourceParts
 pub mod Sourcing
@@ -23,3 +30,4 @@ pub mod Staying
 pub mod Storing
 pub mod Tasks
 pub mod Topics
+pub mod Turning

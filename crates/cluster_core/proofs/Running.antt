@@ -1,7 +1,7 @@
 -- The instances of tasks that run, found by their names.
 use Rattle.std.proofs.Common.{◌≡◌, ◌∙◌, ap, ap₂, refl, sym, List, [], ◌∷◌, ◌++◌, Bool, true, false, eq-eqb, true≢false}
 use Rattle.std.proofs.lemmas.Bool.{eqb-true}
-use Rattle.std.specs.Prelude.{◌&&◌, ◌==◌, if◌then◌else◌, Option, Some}
+use Rattle.std.specs.Prelude.{◌&&◌, ◌==◌, if◌then◌else◌, Option, Some, None}
 use Rattle.std.specs.List.{AllByRecursion}
 use Rattle.ksql_types.specs.declared.relation.TaskName.{TaskName}
 use Rattle.operator.specs.Holding.{Maps}
@@ -17,15 +17,15 @@ parts_of b running = record { shelf = b; instance = instance_in running; held = 
 abbrev pub on_shelf : Shelf → List Moved → State (List Maps)
 on_shelf b running = state_of (parts_of b running)
 
-both-true : (a b : Bool) → (a && b) ≡ true → (a ≡ true) × (b ≡ true)
+pub both-true : (a b : Bool) → (a && b) ≡ true → (a ≡ true) × (b ≡ true)
 both-true true true is = (refl, refl)
 both-true true false is = absurd (true≢false (sym is))
 both-true false b is = absurd (true≢false (sym is))
 
-named-itself : (u : TaskName) (m : Moved) → m.task.name ≡ u → is_named u m ≡ true
+pub named-itself : (u : TaskName) (m : Moved) → m.task.name ≡ u → is_named u m ≡ true
 named-itself u m is = ap₂ (λ a b. a && b) (eq-eqb m.task.name.sub u.sub (ap (λ (v : TaskName). v.sub) is)) (eq-eqb m.task.name.part u.part (ap (λ (v : TaskName). v.part) is))
 
-named-other : (u : TaskName) (m : Moved) → (m.task.name ≡ u → ⊥) → is_named u m ≡ false
+pub named-other : (u : TaskName) (m : Moved) → (m.task.name ≡ u → ⊥) → is_named u m ≡ false
 named-other u m apart = by (is_named u m) refl
   where
     by : (b : Bool) → is_named u m ≡ b → b ≡ false
@@ -52,3 +52,14 @@ instance-else [] m next back u same apart =
     ∙ sym (ap (λ b. if b then Some (instance_of m) else instance_in back u) (named-other u m (λ is. apart (sym is))))
 instance-else (x ∷ front) m next back u same apart =
     ap (λ (o : Option (Instance (List Maps))). if is_named u x then Some (instance_of x) else o) (instance-else front m next back u same apart)
+
+-- other tasks are found as before where one of them is gone
+pub instance-without : (front : List Moved) (m : Moved) (back : List Moved) (u : TaskName) → (u ≡ m.task.name → ⊥) → instance_in (front ++ back) u ≡ instance_in (front ++ m ∷ back) u
+instance-without [] m back u apart = sym (ap (λ b. if b then Some (instance_of m) else instance_in back u) (named-other u m (λ is. apart (sym is))))
+instance-without (x ∷ front) m back u apart =
+    ap (λ (o : Option (Instance (List Maps))). if is_named u x then Some (instance_of x) else o) (instance-without front m back u apart)
+
+-- a task that none has the name of isn't found
+pub instance-none : (running : List Moved) (u : TaskName) → AllByRecursion (λ (x : Moved). x.task.name ≡ u → ⊥) running → instance_in running u ≡ None
+instance-none [] u apart = refl
+instance-none (x ∷ xs) u apart = ap (λ b. if b then Some (instance_of x) else instance_in xs u) (named-other u x apart.0) ∙ instance-none xs u apart.1

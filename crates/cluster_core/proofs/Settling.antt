@@ -1,13 +1,15 @@
 -- The commit of what a task proposes keeps a good state.
 use Rattle.std.proofs.Common.{◌≡◌, ◌∙◌, refl, sym, subst, List, [], ◌∷◌, ◌++◌, append_assoc}
-use Rattle.std.specs.Prelude.{IfSome, Option, Some, None}
+use Rattle.std.specs.Prelude.{Contains, IfSome, Option, Some, None}
 use Rattle.std.specs.List.{AllByRecursion}
 use Rattle.ksql_types.specs.declared.relation.TaskName.{TaskName}
 use Rattle.ksql_place.specs.declared.change.SourceRecord.{SourceRecord}
 use Rattle.ksql_program.specs.Sound.{IsSound}
 use Rattle.ksql_program.specs.declared.program.Item.{Item}
 use Rattle.meaning_laws.specs.Windows.{HaveNoWindow}
-use Rattle.topology.specs.Topologies.{topology_of}
+use Rattle.meaning_laws.proofs.Lists.{Pairwise}
+use Rattle.topology.specs.Tasks.{tasks_of}
+use Rattle.topology.specs.Topologies.{subs, topology_of}
 use Rattle.core_state.specs.Good.{Good}
 use Rattle.core_state.specs.Shelf.{Shelf, ShelfApplies}
 use Rattle.core_state.specs.declared.log.Proposal.{Proposal}
@@ -18,6 +20,7 @@ use Rattle.feed_laws.specs.Fitting.{Fits}
 use Rattle.cluster_core.specs.Cluster.{IsTaskIn, idle, instance_of}
 use Rattle.cluster_core.specs.Rounds.{Settles}
 use Rattle.cluster_core.proofs.Lists.{all-instead, all-middle, map-instead}
+use Rattle.cluster_core.proofs.Names.{AreApart}
 use Rattle.cluster_core.proofs.Running.{on_shelf, parts_of}
 use Rattle.cluster_core.proofs.Tasks.{AreRunning, IsNamed, IsNewest, d, here, is-task, means, mine, newest, next-here, same-else, top}
 
@@ -60,7 +63,8 @@ module _ (items : List Item) (order : List SourceRecord) (sound : IsSound items)
 
     applied : AreRunning items order c (front ++ idle m.task ∷ back)
     applied = record {
-      names = map-instead (λ (x : Moved). x.task.name) front m (idle m.task) back refl ∙ run.names;
+      apart = subst (Pairwise AreApart) (sym (map-instead (λ (x : Moved). x.task.name) front m (idle m.task) back refl)) run.apart;
+      among = all-instead (λ (x : Moved). Contains (tasks_of (subs items)) x.task.name) front m (idle m.task) back (is-task items order sound windowless fits b front m back run) run.among;
       tasks = all-instead (λ (x : Moved). IsTaskIn (topology_of items) x.task) front m (idle m.task) back (mine items order sound windowless fits b front m back run) run.tasks;
       named = all-instead IsNamed front m (idle m.task) back tt run.named;
       newest = all-instead (IsNewest c) front m (idle m.task) back (newer front m back refl) (all-placed (IsNewest c) [] (front ++ m ∷ back) newer);

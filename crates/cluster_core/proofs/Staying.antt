@@ -7,7 +7,6 @@ use Rattle.core_state.specs.Shelf.{Shelf, ShelfApplies, ShelfStays, shelf_closed
 use Rattle.core_state.specs.State.{upto}
 use Rattle.core_state.specs.declared.log.LogEntry.TheVariants.{Said}
 use Rattle.core_state.specs.declared.log.Proposal.{Proposal}
-use Rattle.task_core.specs.declared.task.Moved.{Moved}
 use Rattle.topic_log.specs.Ready.{IsReady}
 use Rattle.topic_log.specs.Shelves.{shelf_of}
 use Rattle.topic_log.specs.declared.prepared.Prepared.{Prepared}
@@ -42,10 +41,11 @@ still-one r b next (Some p) (Some q) does apart can = record {
   begins = does.done_else q.task can.writer (λ same. apart (sym same)) ∙ can.begins;
 }
 
-pub still-all : (r : Routes) (b next : Shelf) (m : Moved) (ms : List Moved) → Settles r m.proposal b next → AllByRecursion (ProposeApart m) ms →
-    AllByRecursion (λ (x : Moved). IfSome x.proposal (CanCommit r b)) ms → AllByRecursion (λ (x : Moved). IfSome x.proposal (CanCommit r next)) ms
-still-all r b next m [] does apart can = tt
-still-all r b next m (x ∷ ms) does apart can = (still-one r b next m.proposal x.proposal does apart.0 can.0, still-all r b next m ms does apart.1 can.1)
+-- and so what all others offer
+pub still-all : (r : Routes) (b next : Shelf) (o : Option Proposal) (os : List (Option Proposal)) → Settles r o b next → AllByRecursion (ProposeApart o) os →
+    AllByRecursion (λ (q : Option Proposal). IfSome q (CanCommit r b)) os → AllByRecursion (λ (q : Option Proposal). IfSome q (CanCommit r next)) os
+still-all r b next o [] does apart can = tt
+still-all r b next o (q ∷ os) does apart can = (still-one r b next o q does apart.0 can.0, still-all r b next o os does apart.1 can.1)
 
 -- what was prepared of a proposal that can be committed is of the newest generation, and begins where its task is done
 module _ (r : Routes) (b : Shelf) (mid : Shelves) (made : Prepared) (p : Proposal) (ready : IsReady mid made p) (can : CanCommit r b p) (stays : ShelfStays r b (shelf_of mid)) where

@@ -1,6 +1,5 @@
 -- Tasks that run on a broker, whose state is good: what each of them may do, and that the state stays good.
 use Rattle.std.proofs.Common.{◌≡◌, ◌∙◌, ap, refl, sym, subst, ◌<◌, ◌≤◌, List, [], ◌∷◌, ◌++◌, map, arith}
-use Rattle.std.proofs.lemmas.List.Elements.{Contains-append_right}
 use Rattle.std.specs.Prelude.{All, Contains, IfSome, Option, Some}
 use Rattle.std.specs.List.{AllByRecursion}
 use Rattle.ksql_types.specs.declared.relation.TaskName.{TaskName}
@@ -23,18 +22,16 @@ use Rattle.core_state.specs.Shelf.{SameElse, Shelf}
 use Rattle.core_state.specs.State as core
 use Rattle.core_state.specs.State.{Instance, IsTask, State, TaskState, bound, closed, feed_of, lowest}
 use Rattle.core_state.specs.declared.log.Proposal.{Proposal}
-use Rattle.core_state.proofs.Lists.{Contains-here}
 use Rattle.storing_laws.specs.Stored.{ResultsRise}
 use Rattle.task_core.specs.Core.{core_of}
 use Rattle.task_core.specs.declared.task.Moved.{Moved}
 use Rattle.core_laws.specs.Core.{meaning_in_core}
 use Rattle.core_laws.proofs.Fitting.{core-meaning}
-use Rattle.core_laws.proofs.Members.{map-member}
 use Rattle.feed_laws.specs.Fitting.{Fits}
 use Rattle.cluster_core.specs.Cluster.{IsTaskIn, instance_in, instance_of}
 use Rattle.cluster_core.specs.Rounds.{CanCommit}
 use Rattle.cluster_core.proofs.Lists.{all-mapped, all-middle}
-use Rattle.cluster_core.proofs.Names.{AreApart, tasks-apart}
+use Rattle.cluster_core.proofs.Names.{AreApart}
 use Rattle.cluster_core.proofs.Running.{instance-else, instance-here, on_shelf, parts_of}
 use Rattle.cluster_core.proofs.Storing.{results-rising}
 
@@ -46,9 +43,10 @@ IsNamed m = IfSome m.proposal (λ p. p.task ≡ m.task.name)
 abbrev pub IsNewest : Shelf → Moved → Type 0
 IsNewest b m = m.task.generation ≡ b.newest m.task.name
 
--- the tasks of a program that run on a broker: there is one of each name, of the newest generation, and the state is good
+-- tasks of a program that run on a broker: no two are of one name, each is of the newest generation, and the state is good
 pub record AreRunning (items : List Item) (order : List SourceRecord) (b : Shelf) (running : List Moved) : Type 0 where
-  pub names : map (λ (m : Moved). m.task.name) running ≡ tasks_of (subs items)
+  pub apart : Pairwise AreApart (map (λ (m : Moved). m.task.name) running)
+  pub among : AllByRecursion (λ (m : Moved). Contains (tasks_of (subs items)) m.task.name) running
   pub tasks : AllByRecursion (λ (m : Moved). IsTaskIn (topology_of items) m.task) running
   pub named : AllByRecursion IsNamed running
   pub newest : AllByRecursion (IsNewest b) running
@@ -83,12 +81,10 @@ module _ (items : List Item) (order : List SourceRecord) (sound : IsSound items)
     s = on_shelf b (front ++ m ∷ back)
 
     pub is-task : IsTask top m.task.name
-    is-task =
-        subst (λ (us : List TaskName). Contains us m.task.name) run.names
-        (map-member (λ (x : Moved). x.task.name) (front ++ m ∷ back) m (Contains-append_right front (m ∷ back) m (Contains-here m back)))
+    is-task = all-middle (λ (x : Moved). Contains (tasks_of (subs items)) x.task.name) front m back run.among
 
     pub apart : AllByRecursion (λ (x : Moved). x.task.name ≡ m.task.name → ⊥) front
-    apart = front-apart front m back (subst (Pairwise AreApart) (sym run.names) (tasks-apart items))
+    apart = front-apart front m back run.apart
 
     pub here : instance_in (front ++ m ∷ back) m.task.name ≡ Some (instance_of m)
     here = instance-here front m back apart

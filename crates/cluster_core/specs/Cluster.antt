@@ -1,6 +1,7 @@
 -- A cluster that has come so far: its numbers are those of the steps taken, and its state is good.
-use Rattle.std.specs.Prelude.{◌≡◌, ◌+◌, ◌<◌, ◌≤◌, ◌^◌, ◌&&◌, ◌==◌, Bool, if◌then◌else◌, List, [], ◌∷◌, length, map, All, Option, Some, None}
+use Rattle.std.specs.Prelude.{◌≡◌, ◌⊎◌, ◌+◌, ◌≤◌, ◌^◌, ◌&&◌, ◌==◌, ℕ, Bool, false, not, if◌then◌else◌, IsTrue, IfSome, List, [], ◌∷◌, drop, length, map, All, Option, Some, None}
 use Rattle.std.specs.List.{AllZip}
+use Rattle.std.specs.List.Sorted.{IsStrictlyIncreasing}
 use Rattle.ksql_types.specs.declared.relation.TaskName.{TaskName}
 use Rattle.ksql_program.specs.declared.program.Item.{Item}
 use Rattle.operator.specs.Holding.{Maps}
@@ -8,7 +9,6 @@ use Rattle.storing_laws.specs.Short.{HasFewAggregates, HoldTexts}
 use Rattle.topic_feeds.specs.Reaching.{Reaches}
 use Rattle.topology.specs.Tasks.{chain_of, tasks_of}
 use Rattle.topology.specs.Topologies.{topology_of}
-use Rattle.topology.specs.declared.schedule.Lined.{Lined}
 use Rattle.topology.specs.declared.schedule.Step.{Step}
 use Rattle.topology.specs.declared.schedule.Step.TheVariants as step
 use Rattle.topology.specs.declared.topology.Topology.{Topology}
@@ -21,10 +21,15 @@ use Rattle.topic_log.specs.declared.shelves.Shelves.{Shelves}
 use Rattle.task_core.specs.Core.{core_of, inputs_at, nodes_at}
 use Rattle.task_core.specs.Tasks.{TaskView}
 use Rattle.task_core.specs.declared.task.Moved.{Moved}
+use Rattle.assignor.specs.Rule.{is_live, is_with}
+use Rattle.assignor.specs.declared.assignment.Owned.{Owned}
 use Rattle.feed_laws.specs.Feeds.{Source}
 use Rattle.feed_laws.specs.Fitting.{AreSourcesOf, Fits}
+use Rattle.cluster_core.specs.Few.{NodesHaveFew}
+use Rattle.cluster_core.specs.Moves.{kept_of, owned_of}
 use Rattle.cluster_core.specs.Progress.{Progress}
 use Rattle.cluster_core.specs.declared.cluster.Cluster.{Cluster}
+use Rattle.cluster_core.specs.declared.seats.Seat.{Seat}
 use Rattle.cluster_core.specs.declared.sources.Source.{Source as Kept}
 
 -- ---- the state of the core
@@ -65,42 +70,75 @@ pub record IsKept (kept : Kept) (s : Source) : Type 0 where
   pub left : kept.left.items ≡ s.left
   pub few : length s.before + length s.left ≤ 2 ^ 63
 
--- How far a run has come is as it should be: its sources are those of the program, and the order of consumption fits it
+-- all tasks of a topology have owners, in the order of the tasks, or none has
+abbrev pub IsOwned : Topology → List Owned → Type 0
+IsOwned t owners = (owners ≡ []) ⊎ (map (λ o. o.task) owners ≡ tasks_of t.subs)
+
+-- How far a run has come is as it should be: its sources are those of the program, the order of consumption fits it, and the live
+-- workers own the tasks
 pub record IsProgress (items : List Item) (p : Progress) : Type 0 where
   pub sources : AreSourcesOf items p.fed p.sources
   pub order : Fits items p.order
   pub none_later : All (λ r. r.stamp.feed ≤ p.fed) p.order
+  pub live : IsStrictlyIncreasing p.live
+  pub owned : IsOwned (topology_of items) p.owners
 
--- a cluster of a program has come so far
-pub record HasCome (items : List Item) (p : Progress) (c : Cluster) : Type 0 where
+-- a cluster of a program has come so far, where its tasks run with these proposals
+pub record HasComeWith (items : List Item) (p : Progress) (ms : List Moved) (c : Cluster) : Type 0 where
   pub texts : HoldTexts items
   pub progress : IsProgress items p
   pub topology : c.topology ≡ topology_of items
+  pub few : All NodesHaveFew c.topology.subs
   pub chain : c.chain ≡ chain_of c.topology.subs
   pub topics : topics_of c.broker ≡ c.topology.topics
-  pub names : map (λ t. t.name) c.tasks.items ≡ tasks_of c.topology.subs
-  pub tasks : All (IsTaskIn c.topology) c.tasks.items
-  pub newest : All (λ t. t.generation ≡ (shelf_of c.broker).newest t.name) c.tasks.items
-  pub good : Good (core_of c.topology) (meaning_in_core items p.order) (core_state_of c.broker (map idle c.tasks.items))
+  pub live : c.live.items ≡ p.live
+  pub owners : map owned_of c.seats.items ≡ p.owners
+  pub running : map (λ m. m.task) ms ≡ map (λ s. s.task) c.seats.items
+  pub named : All (λ m. IfSome m.proposal (λ q. q.task ≡ m.task.name)) ms
+  pub tasks : All (λ s. IsTaskIn c.topology s.task) c.seats.items
+  pub instances : All (λ s. s.task.generation ≡ (shelf_of c.broker).newest s.task.name) c.seats.items
+  pub good : Good (core_of c.topology) (meaning_in_core items p.order) (core_state_of c.broker ms)
   pub fed : c.broker.fed ≡ p.fed
-  pub done : AllZip (λ u t. t.done ≡ p.done u) (tasks_of c.topology.subs) c.tasks.items
+  pub newest : All (λ u. (shelf_of c.broker).newest u ≡ p.newest u) (tasks_of c.topology.subs)
+  pub done : All (λ u. (shelf_of c.broker).done u ≡ p.done u) (tasks_of c.topology.subs)
   pub rounds : c.rounds ≡ p.rounds
   pub journal : c.journal.items ≡ p.journal
   pub sources : AllZip IsKept c.sources.items p.sources
 
--- a step that a cluster takes by now: a feed, a round without losses, or a drain
-abbrev pub IsQuiet : Step → Type 0
-IsQuiet step.FeedAll = Unit {0}
-IsQuiet (step.Feed counts) = Unit {0}
-IsQuiet (step.Round None None) = Unit {0}
-IsQuiet step.Drain = Unit {0}
-IsQuiet _ = ⊥
+-- a cluster of a program has come so far: no task waits with a proposal
+abbrev pub HasCome : List Item → Progress → Cluster → Type 0
+HasCome items p c = HasComeWith items p (map (λ s. idle s.task) c.seats.items) c
 
--- the steps of a schedule, and after them
-abbrev pub steps_of : List Lined → List Step
-steps_of lines = map (λ l. l.step) lines
+-- a task waits with no proposal, unless its owner is lost
+abbrev pub IsIdleBut : Option ℕ → Seat → Moved → Type 0
+IsIdleBut lost s m = is_with s.worker lost ≡ false → m ≡ idle s.task
 
--- the number of feeds and rounds is far from the greatest
-pub record HasRoom (p : Progress) : Type 0 where
-  pub feeds : p.fed + 1 < 2 ^ 64
-  pub rounds : p.rounds + 2 ^ 32 < 2 ^ 64
+-- a task waits with no proposal where its owner is live
+abbrev pub IsIdleAt : List ℕ → Seat → Moved → Type 0
+IsIdleAt live s m = IsTrue (is_live live s.worker) → m ≡ idle s.task
+
+-- a task that is kept has the owner at its place; after the last owner none is kept
+abbrev pub KeepPlaces : List Owned → List (Option Seat) → Type 0
+KeepPlaces owners [] = Unit {0}
+KeepPlaces owners (None ∷ kept) = KeepPlaces (drop 1 owners) kept
+KeepPlaces [] (Some s ∷ kept) = ⊥
+KeepPlaces (o ∷ os) (Some s ∷ kept) = (o ≡ owned_of s) × KeepPlaces os kept
+
+-- tasks can leave their owners, and have these owners then
+pub record CanMove (t : Topology) (leaves : TaskName → Bool) (staying : List Bool) (owners : List Owned) (seats : List Seat) (running : List Moved) : Type 0 where
+  pub stays : staying ≡ map (λ s. not (leaves s.task.name)) seats
+  pub owned : IsOwned t owners
+  pub places : KeepPlaces owners (kept_of staying seats)
+  pub idle : AllZip (λ s m. leaves s.task.name ≡ false → m ≡ idle s.task) seats running
+
+-- a step that a cluster takes by now: one in which no worker stalls or wakes
+abbrev pub IsBuilt : Step → Type 0
+IsBuilt step.FeedAll = Unit {0}
+IsBuilt (step.Feed counts) = Unit {0}
+IsBuilt (step.Round lost None) = Unit {0}
+IsBuilt (step.Round lost (Some stalled)) = ⊥
+IsBuilt (step.Start worker) = Unit {0}
+IsBuilt (step.Stop worker) = Unit {0}
+IsBuilt (step.Lose task) = Unit {0}
+IsBuilt (step.Wake worker) = ⊥
+IsBuilt step.Drain = Unit {0}

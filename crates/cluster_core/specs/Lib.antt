@@ -1,5 +1,6 @@
 pub mod Cluster
-pub mod Opening
+pub mod Few
+pub mod Moves
 pub mod Progress
 pub mod Rounds
 pub mod Sourcing

@@ -1,6 +1,7 @@
--- How far a run has come, in numbers alone: what each step of a schedule does to the last feed, to what the tasks are done with, and to
--- what is left of the files.
-use Rattle.std.specs.Prelude.{ℕ, zero, suc, ◌+◌, ◌==◌, if◌then◌else◌, List, [], ◌∷◌, ◌++◌, length, map, flat_map}
+-- How far a run has come, in numbers alone: what each step of a schedule does to the last feed, to the workers and the tasks that they
+-- own, to what the tasks are done with, and to what is left of the files.
+use Rattle.std.specs.Prelude.{ℕ, zero, suc, ◌+◌, ◌==◌, ◌&&◌, Bool, true, false, not, nat_lt, if◌then◌else◌, List, [], ◌∷◌, ◌++◌, filter, length, map, flat_map, Option, Some, None, is_some}
+use Rattle.std.specs.List.{range_with_len}
 use Rattle.ksql_types.specs.declared.relation.TaskName.{TaskName}
 use Rattle.ksql_place.specs.declared.change.SourceRecord.{SourceRecord}
 use Rattle.ksql_program.specs.declared.program.Item.{Item}
@@ -8,6 +9,7 @@ use Rattle.topic_files.specs.declared.topic.TopicLines.{TopicLines}
 use Rattle.feed_laws.specs.Feeds.{Source, after_feed, records_of, sources_of}
 use Rattle.topology.specs.Tasks.{chain_of, tasks_of}
 use Rattle.topology.specs.declared.schedule.Count.{Count}
+use Rattle.topology.specs.declared.schedule.Lined.{Lined}
 use Rattle.topology.specs.declared.schedule.Step.{Step}
 use Rattle.topology.specs.declared.schedule.Step.TheVariants as step
 use Rattle.topology.specs.declared.topology.Topology.{Topology}
@@ -15,22 +17,22 @@ use Rattle.core_state.specs.Routes.{routes_of}
 use Rattle.core_state.specs.State.{lowest}
 use Rattle.core_state.specs.declared.journal.JournalEntry.{JournalEntry}
 use Rattle.core_state.specs.declared.journal.JournalEntry.TheVariants as entry
+use Rattle.assignor.specs.Rule.{assignment, is_with, owner_of}
+use Rattle.assignor.specs.declared.assignment.Owned.{Owned}
 use Rattle.task_core.specs.Core.{inputs_at}
 
--- the last feed, what each task is done with, the rounds, the sources, the order of consumption, and what happened
+-- the last feed; the live workers, by rising numbers, and which of them owns which task; the newest generation of each task and what
+-- it is done with; the rounds, the sources, the order of consumption, and what happened
 pub record Progress : Type 0 where
   pub fed : ℕ
+  pub live : List ℕ
+  pub owners : List Owned
+  pub newest : TaskName → ℕ
   pub done : TaskName → ℕ
   pub rounds : ℕ
   pub sources : List Source
   pub order : List SourceRecord
   pub journal : List JournalEntry
-
--- ---- the beginning
-
--- nothing was fed or done
-abbrev pub opening : List Item → List TopicLines → Progress
-opening items files = record { fed = 0; done = λ u. 0; rounds = 0; sources = sources_of items files; order = []; journal = [] }
 
 -- ---- a feed
 
@@ -70,27 +72,125 @@ closed t p topic = lowest p.fed p.done ((routes_of t.topics).writers topic)
 abbrev pub bound : Topology → Progress → TaskName → ℕ
 bound t p u = lowest p.fed (λ i. closed t p i.topic) (inputs_at t u)
 
+-- whether what an owner's tasks propose in a round is committed: there is an owner, and it isn't the worker that is lost in the round
+abbrev pub takes_part : Option ℕ → Option ℕ → Bool
+takes_part lost None = false
+takes_part lost (Some worker) = not (is_with worker lost)
+
 -- what a task commits in a round: nothing where it is done with all that its inputs are closed for
 abbrev pub committed : Topology → Progress → TaskName → List JournalEntry
 committed t p u = if bound t p u == p.done u then [] else entry.Committed u (p.done u) (bound t p u) ∷ []
 
--- each task goes over what its inputs were closed for as the round began
-abbrev pub round : Topology → Progress → Progress
-round t p = record p { done = bound t p; rounds = p.rounds + 1; journal = p.journal ++ flat_map (committed t p) (tasks_of t.subs) }
+-- Each task goes over what its inputs were closed for as the round began. What those of a worker that is lost in the round propose is lost.
+abbrev pub round : Option ℕ → Topology → Progress → Progress
+round lost t p = record p {
+  done = λ u. if takes_part lost (owner_of p.owners u) then bound t p u else p.done u;
+  rounds = p.rounds + 1;
+  journal = p.journal ++ entry.Round (p.rounds + 1) ∷ flat_map (λ o. if takes_part lost (Some o.worker) then committed t p o.task else []) p.owners;
+}
 
 abbrev pub rounds : Topology → ℕ → Progress → Progress
 rounds t zero p = p
-rounds t (suc n) p = rounds t n (round t p)
+rounds t (suc n) p = rounds t n (round None t p)
+
+-- ---- tasks that move
+
+-- whether a task has an owner
+abbrev pub is_owned : List Owned → TaskName → Bool
+is_owned owners u = is_some (owner_of owners u)
+
+-- the newest generation of a task after some tasks left their owners
+abbrev pub newest_after : (TaskName → Bool) → Progress → TaskName → ℕ
+newest_after leaves p u = if is_owned p.owners u && leaves u then p.newest u + 1 else p.newest u
+
+-- what happens as some tasks leave their owners, each with a generation of its own, and as tasks without an instance are made anew from
+-- their changelogs at their owners
+abbrev pub notes_of_left : (TaskName → Bool) → Progress → List JournalEntry
+notes_of_left leaves p = flat_map (λ o. if leaves o.task then entry.Left o.task (newest_after leaves p o.task) ∷ [] else []) p.owners
+
+abbrev pub notes_of_restored : (TaskName → Bool) → List Owned → Progress → List JournalEntry
+notes_of_restored leaves owners p =
+    flat_map (λ o. if is_owned p.owners o.task && not (leaves o.task) then [] else entry.Restored o.task o.worker (newest_after leaves p o.task) (p.done o.task) ∷ []) owners
+
+-- some tasks leave their owners, and then tasks have these owners
+abbrev pub after_moves : (TaskName → Bool) → List Owned → Progress → Progress
+after_moves leaves owners p = record p {
+  owners = owners;
+  newest = newest_after leaves p;
+  journal = p.journal ++ notes_of_left leaves p ++ notes_of_restored leaves owners p;
+}
+
+-- whether a task has another owner, or none, among these
+abbrev pub has_left : List Owned → List Owned → TaskName → Bool
+has_left before now u = not (is_same_owner (owner_of before u) (owner_of now u))
+  where
+    is_same_owner : Option ℕ → Option ℕ → Bool
+    is_same_owner None other = true
+    is_same_owner (Some worker) other = is_with worker other
+
+-- other workers are live: the tasks are assigned anew
+abbrev pub after_assignment : Topology → List ℕ → Progress → Progress
+after_assignment t live p =
+    let owners = assignment p.owners live (tasks_of t.subs) in
+    after_moves (has_left p.owners owners) owners (record p { live = live })
+
+-- ---- workers
+
+-- the live workers of lower and of higher numbers, and another one between them, or none
+abbrev pub with_worker : ℕ → List ℕ → List ℕ
+with_worker worker live = filter (λ w. nat_lt w worker) live ++ worker ∷ filter (λ w. nat_lt worker w) live
+
+abbrev pub without_worker : ℕ → List ℕ → List ℕ
+without_worker worker live = filter (λ w. nat_lt w worker) live ++ filter (λ w. nat_lt worker w) live
+
+-- whether two names are of one task
+abbrev pub is_task : TaskName → TaskName → Bool
+is_task u v = (u.sub == v.sub) && (u.part == v.part)
+
+-- after a round in which a worker is lost, the worker is gone
+abbrev pub after_loss : Option ℕ → Topology → Progress → Progress
+after_loss None t p = p
+after_loss (Some worker) t p = after_assignment t (without_worker worker p.live) p
+
+-- ---- the beginning
+
+-- nothing was fed or done, and no worker is live
+abbrev pub before_workers : List Item → List TopicLines → Progress
+before_workers items files = record {
+  fed = 0;
+  live = [];
+  owners = [];
+  newest = λ u. 1;
+  done = λ u. 0;
+  rounds = 0;
+  sources = sources_of items files;
+  order = [];
+  journal = entry.Step 0 ∷ [];
+}
+
+-- then so many workers are live, and each task is made at its owner
+abbrev pub opening : Topology → List Item → List TopicLines → ℕ → Progress
+opening t items files workers = after_assignment t (range_with_len 1 workers) (before_workers items files)
 
 -- ---- the steps
 
--- a step without losses: feeds, rounds and drains, each of which is as many rounds as the topology's chain
+-- A step: a feed; a round, in which a worker may be lost; a worker that comes or goes; a task that is lost and made anew at its owner; or a
+-- drain, which is as many rounds as the topology's chain.
 abbrev pub after_step : Topology → Progress → Step → Progress
 after_step t p step.FeedAll = feed whole p
 after_step t p (step.Feed counts) = feed (counted counts) p
+after_step t p (step.Round lost stalled) = after_loss lost t (round lost t p)
+after_step t p (step.Start worker) = after_assignment t (with_worker worker p.live) p
+after_step t p (step.Stop worker) = after_assignment t (without_worker worker p.live) p
+after_step t p (step.Lose task) = after_moves (is_task task) p.owners p
 after_step t p step.Drain = rounds t (chain_of t.subs) p
-after_step t p _ = round t p
+after_step t p (step.Wake worker) = p
 
-abbrev pub after_steps : Topology → Progress → List Step → Progress
+-- a step with its line
+abbrev pub after_line : Topology → Progress → Lined → Progress
+after_line t p l = after_step t (record p { journal = p.journal ++ entry.Step l.line ∷ [] }) l.step
+
+-- the steps of a schedule
+abbrev pub after_steps : Topology → Progress → List Lined → Progress
 after_steps t p [] = p
-after_steps t p (s ∷ ss) = after_steps t (after_step t p s) ss
+after_steps t p (l ∷ ls) = after_steps t (after_line t p l) ls

@@ -1,5 +1,5 @@
 -- What a round does: each task goes over what the broker has as the round begins, and then each proposal is committed.
-use Rattle.std.specs.Prelude.{◌≡◌, ◌==◌, ◌≤◌, ℕ, List, [], ◌∷◌, flat_map, IfNone, IfSome, IsSome, Option, Some, None, is_none, option_map, slice_get, ◌<◌}
+use Rattle.std.specs.Prelude.{◌≡◌, ◌==◌, ◌≤◌, ℕ, List, [], ◌∷◌, if◌then◌else◌, IfNone, IfSome, IsSome, Option, Some, None, is_none, option_map, slice_get, ◌<◌}
 use Rattle.ksql_types.specs.declared.topic.TopicSpec.{TopicSpec}
 use Rattle.core_state.specs.Routes.{IsWriter, Routes}
 use Rattle.core_state.specs.Shelf.{Shelf, ShelfApplies}
@@ -9,9 +9,12 @@ use Rattle.core_state.specs.declared.log.Proposal.{Proposal}
 use Rattle.op_chain.specs.Chain.{HaveOwnStores}
 use Rattle.task_core.specs.Tasks.{CanRead, CanStore, IsProposedBy, IsSameTask, TaskView, bound_of}
 use Rattle.task_core.specs.declared.task.Moved.{Moved}
+use Rattle.assignor.specs.Rule.{is_with}
 use Rattle.topic_log.specs.Ready.{IsProposal}
 use Rattle.topic_log.specs.Shelves.{part_at, topics_of}
 use Rattle.topic_log.specs.declared.shelves.Shelves.{Shelves}
+use Rattle.cluster_core.specs.declared.rounds.Ran.{Ran}
+use Rattle.cluster_core.specs.declared.seats.Seat.{Seat}
 
 -- ---- tasks that advance
 
@@ -47,24 +50,35 @@ pub record CanCommit (r : Routes) (b : Shelf) (p : Proposal) : Type 0 where
   pub newest : p.generation ≡ b.newest p.task
   pub begins : b.done p.task ≡ p.from
 
--- two tasks don't propose for one
-abbrev pub ProposeApart : Moved → Moved → Type 0
-ProposeApart a b = IfSome a.proposal (λ p. IfSome b.proposal (λ q. ¬ (p.task ≡ q.task)))
+-- ---- tasks at their owners
 
--- the broker after the commit of what a task proposes, where it does
+-- a task ran at its owner
+pub record HasRun (b : Shelves) (s : Seat) (r : Ran) : Type 0 where
+  pub worker : r.worker ≡ s.worker
+  pub moved : IsAdvanced b s.task r.moved
+
+abbrev pub seat_of : Ran → Seat
+seat_of r = record { worker = r.worker; task = r.moved.task }
+
+-- what a task offers to commit: nothing where its owner is lost
+abbrev pub offered : Option ℕ → Ran → Option Proposal
+offered lost r = if is_with r.worker lost then None else r.moved.proposal
+
+-- two proposals aren't of one task
+abbrev pub ProposeApart : Option Proposal → Option Proposal → Type 0
+ProposeApart o q = IfSome o (λ a. IfSome q (λ b. ¬ (a.task ≡ b.task)))
+
+-- the broker after the commit of what a task offers, where it does
 abbrev pub Settles : Routes → Option Proposal → Shelf → Shelf → Type 0
 Settles r None b next = next ≡ b
 Settles r (Some p) b next = ShelfApplies r p.task p b next
 
 -- after the commits of all, one after another
-abbrev pub AllSettle : Routes → List Moved → Shelf → Shelf → Type 0
+abbrev pub AllSettle : Routes → List (Option Proposal) → Shelf → Shelf → Type 0
 AllSettle r [] b next = next ≡ b
-AllSettle r (m ∷ ms) b next = (mid : Shelf) × Settles r m.proposal b mid × AllSettle r ms mid next
+AllSettle r (o ∷ os) b next = (mid : Shelf) × Settles r o b mid × AllSettle r os mid next
 
 -- what the journal has of a commit
 abbrev pub noted : Option Proposal → List JournalEntry
 noted None = []
 noted (Some p) = entry.Committed p.task p.from p.to ∷ []
-
-abbrev pub all_noted : List Moved → List JournalEntry
-all_noted ms = flat_map (λ m. noted m.proposal) ms

@@ -1,44 +1,71 @@
 //! The cluster and its steps.
-ghost use Rattle.std.specs.Prelude.{◌≡◌, ◌+◌, ◌<◌, ◌≤◌, ◌^◌, All, IfOk, List, length};
+ghost use Rattle.std.specs.Prelude.{◌≡◌, Bool, All, IfOk, List, Some};
+ghost use Rattle.std.specs.List.{AllZip};
+ghost use Rattle.std.specs.List.Sorted.{IsStrictlyIncreasing};
+ghost use Rattle.ksql_types.specs.declared.relation.TaskName.{TaskName as OneTask};
 ghost use Rattle.ksql_program.specs.Sound.{IsSound};
 ghost use Rattle.ksql_program.specs.declared.program.Item.{Item as OneItem};
 ghost use Rattle.meaning_laws.specs.Windows.{HaveNoWindow};
 ghost use Rattle.topology.specs.Tasks.{chain_of};
 ghost use Rattle.topology.specs.Topologies.{topology_of};
 ghost use Rattle.feed_laws.specs.Fitting.{AreFilesOf};
-ghost use Rattle.cluster_core.specs.Cluster.{HasCome, HasRoom, IsQuiet, steps_of};
-ghost use Rattle.cluster_core.specs.Progress.{Progress, after_step, after_steps, feed, opening, round, rounds, taken};
+ghost use Rattle.task_core.specs.declared.task.Moved.{Moved as OneMoved};
+ghost use Rattle.cluster_core.specs.Cluster.{CanMove, HasCome, HasComeWith, IsBuilt, IsIdleAt, IsIdleBut};
+ghost use Rattle.cluster_core.specs.Progress.{Progress, after_assignment, after_line, after_loss, after_moves, after_steps, before_workers, feed, is_task, opening, round, rounds, taken, with_worker, without_worker};
 
-use crate::fresh::fresh_tasks;
+use crate::few::check_few;
 use crate::rounds::{advance_all, ask_parts, commit_all};
+use crate::seats::{Seat, leave_all, owners_of, seat_all, staying, staying_but};
 use crate::sources::{Source, feed_sources, sources_of};
 use crate::texts::texts_are_utf8;
+use crate::workers::{first_workers, with_worker, without_worker};
+use assignor::{Owned, assign};
 use core_state::JournalEntry;
 use feed_laws::feeds_fit;
 use ksql_program::Program;
+use ksql_types::TaskName;
 use std::alloc::{AllocError, Global};
-use task_core::Task;
 use topic_files::TopicLines;
 use topic_log::Broker;
-use topology::{Lined, Schedule, Step, Topology, chain_of};
+use topology::{Lined, Schedule, Step, Topology, chain_of, tasks_of};
 
-/// A topology that runs: its broker, a task for each partition of each sub-topology, what is left of the topic files, and
-/// what happened.
+/// A topology that runs: its broker, the live workers, the tasks at their owners, what is left of the topic files, and what
+/// happened.
 #[derive(Drop)]
 pub struct Cluster {
     topology: Topology,
     chain: u32,
     broker: Broker,
-    tasks: Vec<Task>,
+    live: Vec<u32>,
+    seats: Vec<Seat>,
     sources: Vec<Source>,
-    rounds: u64,
+    rounds: u32,
     journal: Vec<JournalEntry>,
 }
 
 impl Cluster {
-    /// A program's topology before its first step, with the records of the topic files of its declared relations, one file for
-    /// each. The program is sound and has no window.
+    /// A program's topology before its first step, with so many live workers and with the records of the topic files of its
+    /// declared relations, one file for each. The program is sound and has no window. A node of 2^32 aggregates, as no script
+    /// makes, is out of memory.
     pub fn new(
+        alloc: Global,
+        program: &Program,
+        topology: Topology,
+        files: Vec<TopicLines>,
+        workers: u32,
+    ) -> Result<Cluster, AllocError>
+        requires sound { IsSound program.now.items }
+        requires windowless { HaveNoWindow program.now.items }
+        requires topology { topology ≡ topology_of program.now.items }
+        requires files { AreFilesOf program.now.items files.items }
+        ensures { IfOk result (HasCome program.now.items (opening (topology_of program.now.items) program.now.items files.items workers)) }
+    {
+        let empty = Cluster::empty(alloc, program, topology, files)?;
+        empty.assigned(alloc, first_workers(alloc, workers)?)
+    }
+
+    /// The same without any worker.
+    fn empty(
         alloc: Global,
         program: &Program,
         topology: Topology,
@@ -48,36 +75,46 @@ impl Cluster {
         requires windowless { HaveNoWindow program.now.items }
         requires topology { topology ≡ topology_of program.now.items }
         requires files { AreFilesOf program.now.items files.items }
-        ensures { IfOk result (HasCome program.now.items (opening program.now.items files.items)) }
+        ensures { IfOk result (HasCome program.now.items (before_workers program.now.items files.items)) }
     {
         feeds_fit();
         texts_are_utf8(program);
+        check_few(topology.subs.items())?;
         let broker = Broker::new(alloc, topology.topics.items())?;
-        let tasks = fresh_tasks(alloc, topology.subs.items())?;
         let sources = sources_of(alloc, program.items.items(), files)?;
         Ok(Cluster {
             chain: chain_of(alloc, &topology)?,
             topology,
             broker,
-            tasks,
+            live: Vec::new(alloc),
+            seats: Vec::new(alloc),
             sources,
             rounds: 0,
-            journal: Vec::new(alloc),
+            journal: vec![in alloc; JournalEntry::Step { line: 0 }]?,
         })
     }
 
-    /// The cluster after a feed, a round without losses, or a drain.
+    /// The cluster after a step of a schedule, one in which no worker stalls or wakes. A run of 2^32 rounds or 2^64 feeds is
+    /// out of memory.
     pub fn step(self, alloc: Global, step: &Lined) -> Result<Cluster, AllocError>
-        requires quiet { IsQuiet step.now.step }
-        requires come { (items : List OneItem) × (p : Progress) × IsSound items × HaveNoWindow items × HasRoom p × HasCome items p self }
-        ensures { IfOk result (λ next. (items : List OneItem) (p : Progress) → IsSound items → HaveNoWindow items → HasRoom p → HasCome items p self →
-            HasCome items (after_step self.topology p step.now.step) next) }
+        requires built { IsBuilt step.now.step }
+        requires come { (items : List OneItem) × (p : Progress) × IsSound items × HaveNoWindow items × HasCome items p self }
+        ensures { IfOk result (λ next. (items : List OneItem) (p : Progress) → IsSound items → HaveNoWindow items → HasCome items p self →
+            HasCome items (after_line self.topology p step.now) next) }
     {
+        let mut cluster = self;
+        cluster
+            .journal
+            .push(JournalEntry::Step { line: step.line })?;
         match &step.step {
-            Step::FeedAll => self.fed(alloc, &step.step),
-            Step::Feed(_) => self.fed(alloc, &step.step),
-            Step::Drain => self.drained(alloc),
-            _ => self.round(alloc),
+            Step::FeedAll => cluster.fed(alloc, &step.step),
+            Step::Feed(_) => cluster.fed(alloc, &step.step),
+            Step::Round { lost, .. } => cluster.round_losing(alloc, *lost),
+            Step::Start(worker) => cluster.with(alloc, *worker),
+            Step::Stop(worker) => cluster.without(alloc, *worker),
+            Step::Lose(task) => cluster.losing(alloc, *task),
+            Step::Drain => cluster.drained(alloc),
+            Step::Wake(_) => unreachable!(),
         }
     }
 
@@ -102,18 +139,10 @@ impl Cluster {
         self.journal.as_slice()
     }
 
-    /// How many sub-topologies the longest path has: fewer than 2^32.
-    fn chain(&self) -> u32
-        ensures value { result ≡ self.now.chain }
-        ensures fits { result < 2 ^ 32 }
-    {
-        self.chain
-    }
-
     /// The cluster after the feed of a step.
     fn fed(self, alloc: Global, step: &Step) -> Result<Cluster, AllocError>
-        requires come { (items : List OneItem) × (p : Progress) × IsSound items × HasRoom p × HasCome items p self }
-        ensures { IfOk result (λ next. (items : List OneItem) (p : Progress) → IsSound items → HasRoom p → HasCome items p self →
+        requires come { (items : List OneItem) × (p : Progress) × IsSound items × HasCome items p self }
+        ensures { IfOk result (λ next. (items : List OneItem) (p : Progress) → IsSound items → HasCome items p self →
             HasCome items (feed (taken step.now) p) next) }
     {
         feeds_fit();
@@ -121,11 +150,15 @@ impl Cluster {
             topology,
             chain,
             mut broker,
-            tasks,
+            live,
+            seats,
             sources,
             rounds,
             mut journal,
         } = self;
+        if broker.fed() == u64::MAX {
+            return Err(AllocError);
+        }
         let feed = broker.fed() + 1;
         ask_parts(&broker, topology.topics.items());
         let (sources, records) = feed_sources(alloc, sources, feed, step)?;
@@ -138,7 +171,8 @@ impl Cluster {
             topology,
             chain,
             broker,
-            tasks,
+            live,
+            seats,
             sources,
             rounds,
             journal,
@@ -147,67 +181,169 @@ impl Cluster {
 
     /// The cluster after as many rounds as the longest path has.
     fn drained(self, alloc: Global) -> Result<Cluster, AllocError>
-        requires come { (items : List OneItem) × (p : Progress) × IsSound items × HaveNoWindow items × HasRoom p × HasCome items p self }
+        requires come { (items : List OneItem) × (p : Progress) × IsSound items × HaveNoWindow items × HasCome items p self }
         ensures { IfOk result (λ next. (items : List OneItem) (p : Progress) → IsSound items → HaveNoWindow items → HasCome items p self →
             HasCome items (rounds self.topology (chain_of self.topology.subs) p) next) }
     {
         let chain = self.chain;
         let mut cluster = self;
         for _turn in 0..chain {
-            cluster = cluster.round(alloc)?;
+            cluster = cluster.round(alloc, None)?;
         }
         Ok(cluster)
     }
 
-    /// The cluster after a round.
-    fn round(self, alloc: Global) -> Result<Cluster, AllocError>
-        requires come { (items : List OneItem) × (p : Progress) × IsSound items × HaveNoWindow items × (p.rounds + 1 < 2 ^ 64) × HasCome items p self }
+    /// The cluster after a round in which a worker may be lost, and is then gone.
+    fn round_losing(self, alloc: Global, lost: Option<u32>) -> Result<Cluster, AllocError>
+        requires come { (items : List OneItem) × (p : Progress) × IsSound items × HaveNoWindow items × HasCome items p self }
+        ensures { IfOk result (λ next. (items : List OneItem) (p : Progress) → IsSound items → HaveNoWindow items → HasCome items p self →
+            HasCome items (after_loss lost self.topology (round lost self.topology p)) next) }
+    {
+        let cluster = self.round(alloc, lost)?;
+        match lost {
+            None => Ok(cluster),
+            Some(worker) => cluster.without(alloc, worker),
+        }
+    }
+
+    /// The cluster after a round. What the tasks of a lost worker propose is lost; they are still where they were.
+    fn round(self, alloc: Global, lost: Option<u32>) -> Result<Cluster, AllocError>
+        requires come { (items : List OneItem) × (p : Progress) × IsSound items × HaveNoWindow items × HasCome items p self }
         ensures topology { IfOk result (λ next. next.topology ≡ self.topology) }
         ensures next { IfOk result (λ next. (items : List OneItem) (p : Progress) → IsSound items → HaveNoWindow items → HasCome items p self →
-            HasCome items (round self.topology p) next) }
+            (ms : List OneMoved) × HasComeWith items (round lost self.topology p) ms next × AllZip (IsIdleBut lost) next.seats.items ms) }
     {
         let Cluster {
             topology,
             chain,
             mut broker,
-            tasks,
+            live,
+            seats,
             sources,
             rounds,
             mut journal,
         } = self;
+        if rounds == u32::MAX {
+            return Err(AllocError);
+        }
+        let number = rounds + 1;
+        journal.push(JournalEntry::Round { number })?;
         ask_parts(&broker, topology.topics.items());
-        let moved = advance_all(alloc, tasks, &broker)?;
-        let tasks = commit_all(alloc, &mut broker, moved, &mut journal)?;
+        let rans = advance_all(alloc, seats, &broker)?;
+        let seats = commit_all(alloc, &mut broker, rans, lost, &mut journal)?;
         Ok(Cluster {
             topology,
             chain,
             broker,
-            tasks,
+            live,
+            seats,
             sources,
-            rounds: rounds + 1,
+            rounds: number,
+            journal,
+        })
+    }
+
+    /// The cluster with another live worker.
+    fn with(self, alloc: Global, worker: u32) -> Result<Cluster, AllocError>
+        requires come { (items : List OneItem) × (p : Progress) × IsSound items × HaveNoWindow items × HasCome items p self }
+        ensures { IfOk result (λ next. (items : List OneItem) (p : Progress) → IsSound items → HaveNoWindow items → HasCome items p self →
+            HasCome items (after_assignment self.topology (with_worker worker p.live) p) next) }
+    {
+        let live = with_worker(alloc, self.live.as_slice(), worker)?;
+        self.assigned(alloc, live)
+    }
+
+    /// The cluster without a worker. What its tasks proposed is lost.
+    fn without(self, alloc: Global, worker: u32) -> Result<Cluster, AllocError>
+        requires come { (items : List OneItem) × (p : Progress) × (ms : List OneMoved) × IsSound items × HaveNoWindow items × HasComeWith items p ms self
+            × AllZip (IsIdleBut (Some worker)) self.seats.items ms }
+        ensures { IfOk result (λ next. (items : List OneItem) (p : Progress) (ms : List OneMoved) → IsSound items → HaveNoWindow items → HasComeWith items p ms self →
+            AllZip (IsIdleBut (Some worker)) self.seats.items ms → HasCome items (after_assignment self.topology (without_worker worker p.live) p) next) }
+    {
+        let live = without_worker(alloc, self.live.as_slice(), worker)?;
+        self.assigned(alloc, live)
+    }
+
+    /// The cluster with other live workers, to which the tasks are assigned anew.
+    fn assigned(self, alloc: Global, live: Vec<u32>) -> Result<Cluster, AllocError>
+        requires rises { IsStrictlyIncreasing live.items }
+        requires come { (items : List OneItem) × (p : Progress) × (ms : List OneMoved) × IsSound items × HaveNoWindow items × HasComeWith items p ms self
+            × AllZip (IsIdleAt live.items) self.seats.items ms }
+        ensures { IfOk result (λ next. (items : List OneItem) (p : Progress) (ms : List OneMoved) → IsSound items → HaveNoWindow items → HasComeWith items p ms self →
+            AllZip (IsIdleAt live.items) self.seats.items ms → HasCome items (after_assignment self.topology live.items p) next) }
+    {
+        let tasks = tasks_of(alloc, &self.topology)?;
+        let before = owners_of(alloc, self.seats.as_slice())?;
+        let owners = assign(alloc, &before, live.as_slice(), tasks.as_slice())?;
+        let stays = staying(alloc, self.seats.as_slice(), owners.items())?;
+        let mut cluster = self;
+        cluster.live = live;
+        cluster.moved(alloc, stays.as_slice(), owners.items())
+    }
+
+    /// The cluster after a task is lost: it is made anew at its owner, where it has one.
+    fn losing(self, alloc: Global, task: TaskName) -> Result<Cluster, AllocError>
+        requires come { (items : List OneItem) × (p : Progress) × IsSound items × HaveNoWindow items × HasCome items p self }
+        ensures { IfOk result (λ next. (items : List OneItem) (p : Progress) → IsSound items → HaveNoWindow items → HasCome items p self →
+            HasCome items (after_moves (is_task task) p.owners p) next) }
+    {
+        let owners = owners_of(alloc, self.seats.as_slice())?;
+        let stays = staying_but(alloc, self.seats.as_slice(), task)?;
+        self.moved(alloc, stays.as_slice(), owners.items())
+    }
+
+    /// The cluster after some tasks left their owners: each task that has one of these owners then, and no instance, is made
+    /// anew.
+    fn moved(self, alloc: Global, stays: &[bool], owners: &[Owned]) -> Result<Cluster, AllocError>
+        requires come { (items : List OneItem) × (p : Progress) × (ms : List OneMoved) × (leaves : OneTask → Bool) × IsSound items × HaveNoWindow items
+            × HasComeWith items p ms self × CanMove self.topology leaves stays.now owners.now self.seats.items ms }
+        ensures { IfOk result (λ next. (items : List OneItem) (p : Progress) (ms : List OneMoved) (leaves : OneTask → Bool) → IsSound items → HaveNoWindow items →
+            HasComeWith items p ms self → CanMove self.topology leaves stays.now owners.now self.seats.items ms → HasCome items (after_moves leaves owners.now p) next) }
+    {
+        let Cluster {
+            topology,
+            chain,
+            mut broker,
+            live,
+            seats,
+            sources,
+            rounds,
+            mut journal,
+        } = self;
+        let kept = leave_all(alloc, &mut broker, seats, stays, &mut journal)?;
+        let seats = seat_all(alloc, &broker, &topology, kept, owners, &mut journal)?;
+        Ok(Cluster {
+            topology,
+            chain,
+            broker,
+            live,
+            seats,
+            sources,
+            rounds,
             journal,
         })
     }
 }
 
-/// The cluster of a program's topology after the steps of a schedule: at most 2^31 feeds, rounds without losses, and drains.
+/// The cluster of a program's topology with so many live workers after the steps of a schedule, in which no worker stalls or
+/// wakes.
 pub fn drive(
     alloc: Global,
     program: &Program,
     topology: Topology,
     files: Vec<TopicLines>,
+    workers: u32,
     schedule: &Schedule,
 ) -> Result<Cluster, AllocError>
     requires sound { IsSound program.now.items }
     requires windowless { HaveNoWindow program.now.items }
     requires topology { topology ≡ topology_of program.now.items }
     requires files { AreFilesOf program.now.items files.items }
-    requires quiet { All (λ l. IsQuiet l.step) schedule.now.steps }
-    requires few { length schedule.now.steps ≤ 2 ^ 31 }
-    ensures { IfOk result (HasCome program.now.items (after_steps (topology_of program.now.items) (opening program.now.items files.items) (steps_of schedule.now.steps))) }
+    requires built { All (λ l. IsBuilt l.step) schedule.now.steps }
+    ensures { IfOk result (HasCome program.now.items (after_steps (topology_of program.now.items)
+        (opening (topology_of program.now.items) program.now.items files.items workers) schedule.now.steps)) }
 {
-    let mut cluster = Cluster::new(alloc, program, topology, files)?;
-    let _chain = cluster.chain();
+    let mut cluster = Cluster::new(alloc, program, topology, files, workers)?;
     for step in schedule.steps.items() {
         cluster = cluster.step(alloc, step)?;
     }

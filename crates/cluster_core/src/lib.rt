@@ -1,11 +1,13 @@
-//! The cluster: a broker and the tasks of a topology, and what the steps of a schedule do to them.
+//! The cluster: a broker and the tasks of a topology at their workers, and what the steps of a schedule do to them.
 #![tactic(auto)]
 
 mod cluster;
-mod fresh;
+mod few;
 mod rounds;
+mod seats;
 mod sources;
 mod texts;
+mod workers;
 
 pub use cluster::{Cluster, drive};
 pub use topology::{Lined, Schedule, Step, Topology};

@@ -1,15 +1,17 @@
 //! A round: each task goes over what its inputs are closed for, and then each proposal is committed.
-ghost use Rattle.std.specs.Prelude.{◌≡◌, ◌++◌, List, map, All, IfOk, IfSome, OnOk, Some};
+ghost use Rattle.std.specs.Prelude.{◌≡◌, ◌++◌, if◌then◌else◌, flat_map, map, All, IfOk, IfSome, None, OnOk, Some};
 ghost use Rattle.std.specs.List.{AllPairs, AllZip};
 ghost use Rattle.core_state.specs.Shelf.{ShelfApplies};
+ghost use Rattle.assignor.specs.Rule.{is_with};
 ghost use Rattle.topic_log.specs.Shelves.{AreTopics, routes_in, shelf_of, topics_of};
-ghost use Rattle.cluster_core.specs.Rounds.{AllSettle, CanAdvance, CanCommit, HasParts, IsAdvanced, ProposeApart, Settles, all_noted, noted};
+ghost use Rattle.cluster_core.specs.Rounds.{AllSettle, CanAdvance, CanCommit, HasParts, HasRun, ProposeApart, Settles, noted, offered, seat_of};
 
+use crate::seats::Seat;
 use core_state::{JournalEntry, Proposal};
 use ksql_types::TopicSpec;
 use std::alloc::{AllocError, Global};
 use task_commit::commit;
-use task_core::{Moved, Task};
+use task_core::Moved;
 use topic_log::Broker;
 
 /// Asks the broker for the partitions of its topics, all of which it has.
@@ -23,65 +25,74 @@ pub fn ask_parts(broker: &Broker, topics: &[TopicSpec])
     }
 }
 
-/// The tasks after a round on a broker, in their order, with their proposals.
-pub fn advance_all(
-    alloc: Global,
-    tasks: Vec<Task>,
-    broker: &Broker,
-) -> Result<Vec<Moved>, AllocError>
-    requires { All (CanAdvance broker.now) tasks.items }
-    ensures { IfOk result (λ moved. AllZip (IsAdvanced broker.now) tasks.items moved.items) }
-{
-    let mut moved = Vec::with_capacity(alloc, tasks.len())?;
-    for task in tasks {
-        let next = task.advance(alloc, broker)?;
-        moved.push(next)?;
-    }
-    Ok(moved)
+/// A task after it went over what its inputs show, what it proposes, and the worker that owns it.
+#[derive(Drop)]
+pub struct Ran {
+    pub worker: u32,
+    pub moved: Moved,
 }
 
-/// Commits the proposals, in the order of the tasks, and answers the tasks.
+/// The tasks after a round on a broker, in their order, with their proposals.
+pub fn advance_all(alloc: Global, seats: Vec<Seat>, broker: &Broker) -> Result<Vec<Ran>, AllocError>
+    requires { All (λ s. CanAdvance broker.now s.task) seats.items }
+    ensures { IfOk result (λ rans. AllZip (HasRun broker.now) seats.items rans.items) }
+{
+    let mut rans = Vec::with_capacity(alloc, seats.len())?;
+    for seat in seats {
+        let Seat { worker, task } = seat;
+        let moved = task.advance(alloc, broker)?;
+        rans.push(Ran { worker, moved })?;
+    }
+    Ok(rans)
+}
+
+/// Commits the proposals, in the order of the tasks, but those of a worker that is lost, and answers the tasks.
 pub fn commit_all(
     alloc: Global,
     broker: &mut Broker,
-    moved: Vec<Moved>,
+    rans: Vec<Ran>,
+    lost: Option<u32>,
     journal: &mut Vec<JournalEntry>,
-) -> Result<Vec<Task>, AllocError>
-    requires each { All (λ m. IfSome m.proposal (CanCommit (routes_in broker.old) (shelf_of broker.old))) moved.items }
-    requires apart { AllPairs ProposeApart moved.items }
+) -> Result<Vec<Seat>, AllocError>
+    requires each { All (λ o. IfSome o (CanCommit (routes_in broker.old) (shelf_of broker.old))) (map (offered lost) rans.items) }
+    requires apart { AllPairs ProposeApart (map (offered lost) rans.items) }
     ensures topics { OnOk result (topics_of broker.new ≡ topics_of broker.old) }
-    ensures tasks { IfOk result (λ tasks. tasks.items ≡ map (λ m. m.task) moved.items) }
-    ensures settled { OnOk result (AllSettle (routes_in broker.old) moved.items (shelf_of broker.old) (shelf_of broker.new)) }
-    ensures journal { OnOk result (journal.new.items ≡ journal.old.items ++ all_noted moved.items) }
+    ensures seats { IfOk result (λ seats. seats.items ≡ map seat_of rans.items) }
+    ensures settled { OnOk result (AllSettle (routes_in broker.old) (map (offered lost) rans.items) (shelf_of broker.old) (shelf_of broker.new)) }
+    ensures journal { OnOk result (journal.new.items ≡ journal.old.items ++ flat_map noted (map (offered lost) rans.items)) }
 {
-    let mut tasks = Vec::with_capacity(alloc, moved.len())?;
-    for one in moved {
-        let task = settle(alloc, broker, one, journal)?;
-        tasks.push(task)?;
+    let mut seats = Vec::with_capacity(alloc, rans.len())?;
+    for ran in rans {
+        let Ran { worker, moved } = ran;
+        let Moved { task, proposal } = moved;
+        settle(alloc, broker, offered(lost, worker, proposal), journal)?;
+        seats.push(Seat { worker, task })?;
     }
-    Ok(tasks)
+    Ok(seats)
 }
 
-/// Commits what a task proposes, where it does, and answers the task.
+/// What a worker's task offers to commit: nothing where the worker is lost.
+fn offered(lost: Option<u32>, worker: u32, proposal: Option<Proposal>) -> Option<Proposal>
+    ensures { result ≡ (if is_with worker lost then None else proposal) }
+{
+    if lost == Some(worker) { None } else { proposal }
+}
+
+/// Commits what a task offers, where it does.
 fn settle(
     alloc: Global,
     broker: &mut Broker,
-    moved: Moved,
+    proposal: Option<Proposal>,
     journal: &mut Vec<JournalEntry>,
-) -> Result<Task, AllocError>
-    requires { IfSome moved.proposal (CanCommit (routes_in broker.old) (shelf_of broker.old)) }
+) -> Result<(), AllocError>
+    requires { IfSome proposal (CanCommit (routes_in broker.old) (shelf_of broker.old)) }
     ensures topics { OnOk result (topics_of broker.new ≡ topics_of broker.old) }
-    ensures task { IfOk result (λ task. task ≡ moved.task) }
-    ensures settled { OnOk result (Settles (routes_in broker.old) moved.proposal (shelf_of broker.old) (shelf_of broker.new)) }
-    ensures journal { OnOk result (journal.new.items ≡ journal.old.items ++ noted moved.proposal) }
+    ensures settled { OnOk result (Settles (routes_in broker.old) proposal (shelf_of broker.old) (shelf_of broker.new)) }
+    ensures journal { OnOk result (journal.new.items ≡ journal.old.items ++ noted proposal) }
 {
-    let Moved { task, proposal } = moved;
     match proposal {
-        None => Ok(task),
-        Some(proposal) => {
-            commit_one(alloc, broker, proposal, journal)?;
-            Ok(task)
-        }
+        None => Ok(()),
+        Some(proposal) => commit_one(alloc, broker, proposal, journal),
     }
 }
 

@@ -27,15 +27,16 @@ use Rattle.run_text.specs.Shown.{shown_report, HasTopicOf}
 use Rattle.report_laws.specs.Reported.{section_known, shown_up_to, IsGoodBroker, IsOfDeclared}
 use Rattle.report_laws.proofs.Reporting.{reports-meaning}
 use Rattle.report_laws.proofs.ShownRecords.{declaration-at}
-use Rattle.cluster_core.specs.Cluster.{idle, steps_of, HasCome, IsQuiet}
+use Rattle.cluster_core.specs.Cluster.{idle, HasCome, IsBuilt}
 use Rattle.cluster_core.specs.Progress.{after_steps, opening}
 use Rattle.cluster_core.specs.declared.cluster.Cluster.{Cluster}
+use Rattle.cluster_core.specs.declared.seats.Seat.{Seat}
 use Rattle.cluster_core.proofs.Coming.{running-of}
 use Rattle.cluster_core.proofs.Draining.{fed_once, fed-once-closed, fed-once-order}
 use Rattle.cluster_core.proofs.Draining as drained
 use Rattle.cluster_core.proofs.Running.{parts_of}
 use Rattle.ksql_cli.proofs.Closed.{closed-come, topics-come}
-use Rattle.ksql_cli.specs.Ran.{step_taken, HasRun}
+use Rattle.ksql_cli.specs.Ran.{steps_taken, HasRun}
 use Rattle.ksql_cli.specs.Steps.{fed_once as scheduled}
 use Rattle.ksql_cli.specs.Run.{Run, Step, closed_of, counts_of, declared_of, done_after, drain, feed_all, feed_count, order_of_run, report_of, section_at}
 
@@ -52,23 +53,20 @@ same-declared (Declared r ∷ items) = ap (λ (rs : List Relation). r ∷ rs) (s
 same-declared (Started q ∷ items) = same-declared items
 
 -- the cluster was fed the records of the run, in their order
-order-come : (run : Run) → run.steps ≡ feed_all ∷ drain ∷ [] → (fed_once run.program.items run.files).order ≡ order_of_run run
+order-come : (run : Run) → run.steps ≡ feed_all ∷ drain ∷ [] → (fed_once run.program.items run.files 1).order ≡ order_of_run run
 order-come run is =
-    fed-once-order run.program.items run.files
+    fed-once-order run.program.items run.files 1
     ∙ ap (λ (rs : List Relation). order_of drained.at_once rs run.files) (same-declared run.program.items)
     ∙ sym (ap (λ (steps : List Step). order_of (λ relation feds. counts_of steps (length feds)) (declared_of run.program.items) run.files) is)
 
 -- ---- its schedule
 
-pub quiet-once : (steps : List Lined) → steps ≡ scheduled → All (λ l. IsQuiet l.step) steps
-quiet-once steps is = subst (All (λ l. IsQuiet l.step)) (sym is) (All-from_recursion (λ (l : Lined). IsQuiet l.step) scheduled (tt, (tt, tt)))
-
-pub few-once : (steps : List Lined) → steps ≡ scheduled → length steps ≤ 2 ^ 31
-few-once steps is = omega (arith, ap (λ (ls : List Lined). length ls) is)
+pub built-once : (steps : List Lined) → steps ≡ scheduled → All (λ l. IsBuilt l.step) steps
+built-once steps is = subst (All (λ l. IsBuilt l.step)) (sym is) (All-from_recursion (λ (l : Lined). IsBuilt l.step) scheduled (tt, (tt, tt)))
 
 pub come-once : (items : List Item) (files : List TopicLines) (steps : List Lined) (c : Cluster) → steps ≡ scheduled →
-    HasCome items (after_steps (topology_of items) (opening items files) (steps_of steps)) c → HasCome items (fed_once items files) c
-come-once items files steps c is come = subst (λ (ls : List Lined). HasCome items (after_steps (topology_of items) (opening items files) (steps_of ls)) c) is come
+    HasCome items (after_steps (topology_of items) (opening (topology_of items) items files 1) steps) c → HasCome items (fed_once items files 1) c
+come-once items files steps c is come = subst (λ (ls : List Lined). HasCome items (after_steps (topology_of items) (opening (topology_of items) items files 1) ls) c) is come
 
 -- ---- the topics of a cluster
 
@@ -83,7 +81,7 @@ topic-at f (j ∷ items) rest zero i at = cc (at)
 topic-at f (j ∷ items) rest (suc k) i at = topic-at f items rest k i at
 
 -- a cluster has the topic of each relation
-pub has-topics : (items : List Item) (files : List TopicLines) (c : Cluster) → IsSound items → HaveNoWindow items → HasCome items (fed_once items files) c →
+pub has-topics : (items : List Item) (files : List TopicLines) (c : Cluster) → IsSound items → HaveNoWindow items → HasCome items (fed_once items files 1) c →
     All (HasTopicOf c.broker) (relations items)
 has-topics items files c sound windowless come =
     All-from_recursion (HasTopicOf c.broker) (relations items) (each-relation (HasTopicOf c.broker) items has)
@@ -91,7 +89,7 @@ has-topics items files c sound windowless come =
     has : (k : ℕ) (i : Item) → slice_get items k ≡ Some i → HasTopicOf c.broker (relation_of i)
     has k i at =
         subst (λ (o : Option TopicSpec). IsSomeAnd o (λ t. t.partitions ≡ (relation_of i).partitions))
-        (sym (ap₂ (λ (ts : List TopicSpec) (n : ℕ). slice_get ts n) (topics-come items (fed_once items files) c sound windowless come) (numbered items sound k i at).0
+        (sym (ap₂ (λ (ts : List TopicSpec) (n : ℕ). slice_get ts n) (topics-come items (fed_once items files 1) c sound windowless come) (numbered items sound k i at).0
         ∙ topic-at (relation_topic (subs items)) items (cut_topics items (length items) 0 items) k i at))
         refl
 
@@ -102,19 +100,19 @@ abbrev shown_at : List Item → Relation → ℕ → List SourceRecord → Secti
 shown_at items r closed order = let records = up_to closed order in section_of closed r records (meant r (changes_at (meaning items records) r.number))
 
 module _ (run : Run) (steps : run.steps ≡ feed_all ∷ drain ∷ []) (sound : IsSound run.program.items) (windowless : HaveNoWindow run.program.items)
-    (c : Cluster) (come : HasCome run.program.items (fed_once run.program.items run.files) c) where
+    (c : Cluster) (come : HasCome run.program.items (fed_once run.program.items run.files 1) c) where
   abbrev items : List Item
   items = run.program.items
 
   abbrev order : List SourceRecord
-  order = (fed_once items run.files).order
+  order = (fed_once items run.files 1).order
 
   good : IsGoodBroker items order c.broker
   good = record {
-    topics = topics-come items (fed_once items run.files) c sound windowless come;
-    parts = parts_of (shelf_of c.broker) (map idle c.tasks.items);
+    topics = topics-come items (fed_once items run.files 1) c sound windowless come;
+    parts = parts_of (shelf_of c.broker) (map (λ (s : Seat). idle s.task) c.seats.items);
     shelf = refl;
-    good = (running-of items (fed_once items run.files) c come).good;
+    good = (running-of items (fed_once items run.files 1) (map (λ (s : Seat). idle s.task) c.seats.items) c come).good;
   }
 
   of-declared : All (IsOfDeclared items) order
@@ -124,8 +122,8 @@ module _ (run : Run) (steps : run.steps ≡ feed_all ∷ drain ∷ []) (sound : 
   section-shown : (item : Item) → section_known items c.broker order item ≡ section_at run item
   section-shown item =
       ap₂ (shown_at items (relation_of item))
-      (closed-come items (fed_once items run.files) c sound windowless come (relation_of item).number
-      ∙ fed-once-closed items run.files sound (relation_of item).number ∙ sym (closed-first run steps item))
+      (closed-come items (fed_once items run.files 1) c sound windowless come (relation_of item).number
+      ∙ fed-once-closed items run.files 1 sound (omega arith) (relation_of item).number ∙ sym (closed-first run steps item))
       (order-come run steps)
 
   sections-shown : (is : List Item) → map (section_known items c.broker order) is ≡ map (section_at run) is
@@ -138,17 +136,17 @@ module _ (run : Run) (steps : run.steps ≡ feed_all ∷ drain ∷ []) (sound : 
       ∙ ap₂ (λ (o : List SourceRecord) (ss : List Section). report (relations items) o ss []) (order-come run steps) (sections-shown items)
 
   has-run : HasRun run c
-  has-run = subst (λ (ss : List Step). HasCome items (after_steps (topology_of items) (opening items run.files) (map step_taken ss)) c) (sym steps) come
+  has-run = subst (λ (ss : List Step). HasCome items (after_steps (topology_of items) (opening (topology_of items) items run.files 1) (steps_taken 1 ss)) c) (sym steps) come
 
 -- ---- each run of a program on its files
 
 module _ (program : Program) (files : List TopicLines) (sound : IsSound program.items) (windowless : HaveNoWindow program.items) (c : Cluster)
-    (come : HasCome program.items (fed_once program.items files) c) (run : Run) (of_program : run.program ≡ program) (of_files : run.files ≡ files)
+    (come : HasCome program.items (fed_once program.items files 1) c) (run : Run) (of_program : run.program ≡ program) (of_files : run.files ≡ files)
     (steps : run.steps ≡ feed_all ∷ drain ∷ []) where
-  come-run : HasCome run.program.items (fed_once run.program.items run.files) c
+  come-run : HasCome run.program.items (fed_once run.program.items run.files 1) c
   come-run =
-      subst (λ (fs : List TopicLines). HasCome run.program.items (fed_once run.program.items fs) c) (sym of_files)
-      (subst (λ (p : Program). HasCome p.items (fed_once p.items files) c) (sym of_program) come)
+      subst (λ (fs : List TopicLines). HasCome run.program.items (fed_once run.program.items fs 1) c) (sym of_files)
+      (subst (λ (p : Program). HasCome p.items (fed_once p.items files 1) c) (sym of_program) come)
 
   sound-run : IsSound run.program.items
   sound-run = subst (λ (p : Program). IsSound p.items) (sym of_program) sound

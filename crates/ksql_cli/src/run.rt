@@ -165,7 +165,7 @@ fn report_of(
         → IfOk result (λ finished. HasRun run finished.cluster) }
 {
     let topology = build(alloc, program)?;
-    let cluster = drive(alloc, program, topology, files, &fed_once(alloc)?)?;
+    let cluster = drive(alloc, program, topology, files, 1, &fed_once(alloc)?)?;
     let text = broker_report(alloc, program, cluster.broker(), "")?;
     Ok(Finished { text, cluster })
 }

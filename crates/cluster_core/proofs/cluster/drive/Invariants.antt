@@ -3,4 +3,4 @@ use Rattle.cluster_core.proofs.cluster.drive.Given as goal
 
 -- the cluster has come through the first lines
 abbrev pub invariant-loop-step : goal.invariant-loop-step
-invariant-loop-step l = IsDriven l.program.items l.fn.files.items l.step-items l.step-index l.cluster
+invariant-loop-step l = IsDriven l.program.items l.fn.files.items l.fn.workers l.step-items l.step-index l.cluster

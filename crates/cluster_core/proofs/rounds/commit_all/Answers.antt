@@ -1,59 +1,66 @@
 use Rattle.std.proofs.Common.{◌≡◌, ◌∙◌, [], ◌∷◌, ◌++◌, List, map, append_assoc, ap, ap₂, refl, subst, sym}
 use Rattle.std.proofs.lemmas.List.Elements.{recursion_from_All}
 use Rattle.std.specs.List.{AllByRecursion}
-use Rattle.std.specs.Prelude.{IfSome}
+use Rattle.std.specs.Prelude.{IfSome, Option, flat_map}
 use Rattle.std.specs.Vec.Iter.{into_iter_items}
 use Rattle.core_state.specs.Routes.{Routes, routes_of}
 use Rattle.core_state.specs.Shelf.{Shelf}
 use Rattle.core_state.specs.declared.journal.JournalEntry.{JournalEntry}
+use Rattle.core_state.specs.declared.log.Proposal.{Proposal}
 use Rattle.ksql_types.specs.declared.topic.TopicSpec.{TopicSpec}
 use Rattle.meaning_laws.proofs.Lists.{Pairwise, Pairwise-from_all}
-use Rattle.task_core.specs.Tasks.{TaskView}
-use Rattle.task_core.specs.declared.task.Moved.{Moved}
 use Rattle.topic_log.specs.Shelves.{routes_in, shelf_of}
-use Rattle.cluster_core.specs.Rounds.{AllSettle, CanCommit, ProposeApart, Settles, all_noted, noted}
+use Rattle.cluster_core.specs.Rounds.{AllSettle, CanCommit, ProposeApart, Settles, noted, offered, seat_of}
+use Rattle.cluster_core.specs.declared.rounds.Ran.{Ran}
+use Rattle.cluster_core.specs.declared.seats.Seat.{Seat}
 use Rattle.cluster_core.proofs.Staying.{still-all}
 use Rattle.cluster_core.proofs.rounds.commit_all.Goals as goal
 
-pub loop-one-init : goal.loop-one-init
-loop-one-init c =
-    let left : into_iter_items c.into_iter-one-iterator.result ≡ c.args.moved.items = c.into_iter-one-iterator.ensures.into_iter_gives.0 in
+pub loop-ran-init : goal.loop-ran-init
+loop-ran-init c =
+    let left : into_iter_items c.into_iter-ran-iterator.result ≡ c.args.rans.items = c.into_iter-ran-iterator.ensures.into_iter_gives.0 in
     let r : Routes = routes_in c.args.broker.now in
     let b : Shelf = shelf_of c.args.broker.now in
+    let offers : List Ran → List (Option Proposal) = map (offered c.args.lost) in
     record {
       topics = refl;
-      each = subst (AllByRecursion (λ (m : Moved). IfSome m.proposal (CanCommit r b))) (sym left) (recursion_from_All (λ (m : Moved). IfSome m.proposal (CanCommit r b)) c.args.moved.items c.requires.each);
-      apart = subst (Pairwise ProposeApart) (sym left) (Pairwise-from_all ProposeApart c.args.moved.items c.requires.apart);
-      tasks = ap₂ (λ (ts : List TaskView) (ms : List Moved). ts ++ map (λ (m : Moved). m.task) ms) c.in_ok-tasks.ensures.items left;
-      settled = λ next h. subst (λ (ms : List Moved). AllSettle r ms b next) left h;
-      journal = ap (λ (ms : List Moved). c.args.journal.now.items ++ all_noted ms) left;
+      each = subst (λ (rs : List Ran). AllByRecursion (λ (o : Option Proposal). IfSome o (CanCommit r b)) (offers rs)) (sym left)
+          (recursion_from_All (λ (o : Option Proposal). IfSome o (CanCommit r b)) (offers c.args.rans.items) c.requires.each);
+      apart = subst (λ (rs : List Ran). Pairwise ProposeApart (offers rs)) (sym left) (Pairwise-from_all ProposeApart (offers c.args.rans.items) c.requires.apart);
+      seats = ap₂ (λ (ss : List Seat) (rs : List Ran). ss ++ map seat_of rs) c.in_ok-seats.ensures.items left;
+      settled = λ next h. subst (λ (rs : List Ran). AllSettle r (offers rs) b next) left h;
+      journal = ap (λ (rs : List Ran). c.args.journal.now.items ++ flat_map noted (offers rs)) left;
     }
 
-pub loop-one-preserved : goal.loop-one-preserved
-loop-one-preserved c =
-    let m : Moved = c.in-Some.one in
-    let rest : List Moved = into_iter_items c.next.new.self in
-    let steps = c.in-Some.ensures.steps.0 in
+pub loop-ran-preserved : goal.loop-ran-preserved
+loop-ran-preserved c =
+    let ran : Ran = c.in-Some.ran in
+    let seat : Seat = seat_of ran in
+    let offer : Option Proposal = offered c.args.lost ran in
+    let offers : List Ran → List (Option Proposal) = map (offered c.args.lost) in
+    let rest : List Ran = into_iter_items c.next.new.self in
+    let steps : into_iter_items c.loop-ran.ran-iterator ≡ ran ∷ rest = c.in-Some.ensures.steps.0 in
     let r : Routes = routes_in c.args.broker.now in
-    let b : Shelf = shelf_of c.loop-one.broker in
+    let b : Shelf = shelf_of c.loop-ran.broker in
     let next : Shelf = shelf_of c.settle.new.broker in
-    let settles : Settles r m.proposal b next =
-    subst (λ (ts : List TopicSpec). Settles (routes_of ts) m.proposal b next) c.loop-one.invariant.topics c.in_ok-task.ensures.settled in
-    let each = subst (AllByRecursion (λ (x : Moved). IfSome x.proposal (CanCommit r b))) steps c.loop-one.invariant.each in
-    let apart = subst (Pairwise ProposeApart) steps c.loop-one.invariant.apart in
+    let is : c.offered.result ≡ offer = c.offered.ensures in
+    let settles : Settles r offer b next =
+    subst (λ (o : Option Proposal). Settles r o b next) is (subst (λ (ts : List TopicSpec). Settles (routes_of ts) c.offered.result b next) c.loop-ran.invariant.topics c.in_ok-settle.ensures.settled) in
+    let each = subst (λ (rs : List Ran). AllByRecursion (λ (o : Option Proposal). IfSome o (CanCommit r b)) (offers rs)) steps c.loop-ran.invariant.each in
+    let apart = subst (λ (rs : List Ran). Pairwise ProposeApart (offers rs)) steps c.loop-ran.invariant.apart in
     record {
-      topics = c.in_ok-task.ensures.topics ∙ c.loop-one.invariant.topics;
-      each = still-all r b next m rest settles apart.0 each.1;
+      topics = c.in_ok-settle.ensures.topics ∙ c.loop-ran.invariant.topics;
+      each = still-all r b next offer (offers rest) settles apart.0 each.1;
       apart = apart.1;
-      tasks =
-          ap (λ (ts : List TaskView). ts ++ map (λ (x : Moved). x.task) rest) (c.in_ok-push.ensures.items ∙ ap (λ (t : TaskView). c.loop-one.tasks.items ++ t ∷ []) c.in_ok-task.ensures.task)
-          ∙ append_assoc c.loop-one.tasks.items (m.task ∷ []) (map (λ (x : Moved). x.task) rest)
-          ∙ ap (λ (ms : List Moved). c.loop-one.tasks.items ++ map (λ (x : Moved). x.task) ms) (sym steps)
-          ∙ c.loop-one.invariant.tasks;
-      settled = λ last h. c.loop-one.invariant.settled last (subst (λ (ms : List Moved). AllSettle r ms b last) (sym steps) (next, settles, h));
+      seats =
+          ap (λ (ss : List Seat). ss ++ map seat_of rest) c.in_ok-push.ensures.items
+          ∙ append_assoc c.loop-ran.seats.items (seat ∷ []) (map seat_of rest)
+          ∙ ap (λ (rs : List Ran). c.loop-ran.seats.items ++ map seat_of rs) (sym steps)
+          ∙ c.loop-ran.invariant.seats;
+      settled = λ last h. c.loop-ran.invariant.settled last (subst (λ (rs : List Ran). AllSettle r (offers rs) b last) (sym steps) (next, settles, h));
       journal =
-          ap (λ (es : List JournalEntry). es ++ all_noted rest) c.in_ok-task.ensures.journal
-          ∙ append_assoc c.loop-one.journal.items (noted m.proposal) (all_noted rest)
-          ∙ ap (λ (ms : List Moved). c.loop-one.journal.items ++ all_noted ms) (sym steps)
-          ∙ c.loop-one.invariant.journal;
+          ap (λ (es : List JournalEntry). es ++ flat_map noted (offers rest)) (c.in_ok-settle.ensures.journal ∙ ap (λ (o : Option Proposal). c.loop-ran.journal.items ++ noted o) is)
+          ∙ append_assoc c.loop-ran.journal.items (noted offer) (flat_map noted (offers rest))
+          ∙ ap (λ (rs : List Ran). c.loop-ran.journal.items ++ flat_map noted (offers rs)) (sym steps)
+          ∙ c.loop-ran.invariant.journal;
     }

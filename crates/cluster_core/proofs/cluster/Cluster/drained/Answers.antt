@@ -1,18 +1,18 @@
-use Rattle.std.proofs.Common.{◌≡◌, ◌∙◌, ◌+◌, ℕ, subst, sym, arith}
+use Rattle.std.proofs.Common.{◌≡◌, ◌∙◌, ℕ, List, subst, sym, arith}
+use Rattle.std.specs.Prelude.{None}
 use Rattle.topology.specs.declared.topology.Topology.{Topology}
-use Rattle.cluster_core.specs.Cluster.{HasCome}
+use Rattle.task_core.specs.declared.task.Moved.{Moved}
+use Rattle.cluster_core.specs.Cluster.{HasCome, HasComeWith}
 use Rattle.cluster_core.specs.Progress.{Progress, round, rounds}
-use Rattle.cluster_core.proofs.Numbers.{rounds-count, rounds-next}
+use Rattle.cluster_core.proofs.Numbers.{rounds-next}
+use Rattle.cluster_core.proofs.Ready.{none-waits}
 use Rattle.cluster_core.proofs.cluster.Cluster.drained.Goals as goal
 
 pub round-requires : goal.round-requires
 round-requires c =
     let come = c.requires.come in
-    let t : Topology = c.args.self.topology in
     let n : ℕ = c.loop-turn._turn in
-    let count : (rounds t n come.1).rounds ≡ come.1.rounds + n = rounds-count t n come.1 in
-    let room = come.4.rounds in
-    record { come = (come.0, rounds t n come.1, come.2, come.3, omega (arith, count, room), c.loop-turn.invariant.come come.0 come.1 come.2 come.3 come.5) }
+    record { come = (come.0, rounds c.args.self.topology n come.1, come.2, come.3, c.loop-turn.invariant.come come.0 come.1 come.2 come.3 come.4) }
 
 pub loop-turn-preserved : goal.loop-turn-preserved
 loop-turn-preserved c = record {
@@ -20,9 +20,11 @@ loop-turn-preserved c = record {
   come = λ items p sound windowless h.
       let t : Topology = c.args.self.topology in
       let n : ℕ = c.loop-turn._turn in
+      let next = c.in_ok-cluster.ensures.next items (rounds t n p) sound windowless (c.loop-turn.invariant.come items p sound windowless h) in
       subst (λ (q : Progress). HasCome items q c.in_ok-cluster.cluster) (sym (rounds-next t n p))
-      (subst (λ (s : Topology). HasCome items (round s (rounds t n p)) c.in_ok-cluster.cluster) c.loop-turn.invariant.topology
-      (c.in_ok-cluster.ensures.next items (rounds t n p) sound windowless (c.loop-turn.invariant.come items p sound windowless h)));
+      (subst (λ (s : Topology). HasCome items (round None s (rounds t n p)) c.in_ok-cluster.cluster) c.loop-turn.invariant.topology
+      (subst (λ (ms : List Moved). HasComeWith items (round None c.loop-turn.cluster.topology (rounds t n p)) ms c.in_ok-cluster.cluster)
+      (none-waits c.in_ok-cluster.cluster.seats.items next.0 next.2) next.1));
 }
 
 pub returns : goal.returns

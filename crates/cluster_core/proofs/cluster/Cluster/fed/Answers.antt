@@ -33,18 +33,18 @@ each-source : (items : List Item) (p : Progress) (c : Cluster) → HasCome items
 each-source items p c come = recursion_from_All (IsSourceOf items p.fed) p.sources come.progress.sources.each
 
 pub ask_parts-requires-clause-topics : goal.ask_parts-requires-clause-topics
-ask_parts-requires-clause-topics c = c.requires.come.4.topics ∙ sym c.items.ensures
+ask_parts-requires-clause-topics c = c.requires.come.3.topics ∙ sym c.items.ensures
 
 pub ask_parts-requires-clause-numbered : goal.ask_parts-requires-clause-numbered
 ask_parts-requires-clause-numbered c =
     let come = c.requires.come in
-    subst AreTopics (ap (λ (t : Topology). t.topics) (sym come.4.topology) ∙ sym c.items.ensures) (are-topics come.0 come.2)
+    subst AreTopics (ap (λ (t : Topology). t.topics) (sym come.3.topology) ∙ sym c.items.ensures) (are-topics come.0 come.2)
 
 pub feed-requires-clause-ascends : goal.feed-requires-clause-ascends
 feed-requires-clause-ascends c =
     let items : List Item = c.requires.come.0 in
     let p : Progress = c.requires.come.1 in
-    let come : HasCome items p c.args.self = c.requires.come.4 in
+    let come : HasCome items p c.args.self = c.requires.come.3 in
     let count : Source → ℕ = taken c.args.step.now in
     let records : c.in_ok-sources.records.items ≡ records_of (p.fed + 1) count p.sources =
     records-are items p count come.progress c.args.self.sources.items come.sources c.fed-feed.result (c.fed-feed.ensures ∙ come.fed) c.in_ok-sources.records.items c.in_ok-sources.ensures.records in
@@ -54,7 +54,7 @@ pub feed-requires-clause-next_feed : goal.feed-requires-clause-next_feed
 feed-requires-clause-next_feed c =
     let items : List Item = c.requires.come.0 in
     let p : Progress = c.requires.come.1 in
-    let come : HasCome items p c.args.self = c.requires.come.4 in
+    let come : HasCome items p c.args.self = c.requires.come.3 in
     let count : Source → ℕ = taken c.args.step.now in
     let records : c.in_ok-sources.records.items ≡ records_of (p.fed + 1) count p.sources =
     records-are items p count come.progress c.args.self.sources.items come.sources c.fed-feed.result (c.fed-feed.ensures ∙ come.fed) c.in_ok-sources.records.items c.in_ok-sources.ensures.records in
@@ -66,7 +66,7 @@ pub feed-requires-clause-sources : goal.feed-requires-clause-sources
 feed-requires-clause-sources c =
     let items : List Item = c.requires.come.0 in
     let p : Progress = c.requires.come.1 in
-    let come : HasCome items p c.args.self = c.requires.come.4 in
+    let come : HasCome items p c.args.self = c.requires.come.3 in
     let count : Source → ℕ = taken c.args.step.now in
     let b : Shelves = c.args.self.broker in
     let kept : List Kept = c.args.self.sources.items in
@@ -79,14 +79,15 @@ feed-requires-clause-sources c =
     (all-there items c.requires.come.2 b (same-topics items p c.args.self come) c.ask_parts.ensures p.fed p.sources each))
 
 pub returns : goal.returns
-returns c items p sound room come =
+returns c items p sound come =
     let count : Source → ℕ = taken c.args.step.now in
     let old : Cluster = c.args.self in
     let next : Cluster = record {
       topology = old.topology;
       chain = old.chain;
       broker = c.feed.new.self;
-      tasks = old.tasks;
+      live = old.live;
+      seats = old.seats;
       sources = c.in_ok-sources.sources;
       rounds = old.rounds;
       journal = c.push.new.self;
@@ -101,7 +102,8 @@ returns c items p sound room come =
     (record {
       topology = refl;
       chain = refl;
-      tasks = refl;
+      live = refl;
+      seats = refl;
       rounds = refl;
       topics = c.in_ok-feed.ensures.topics;
       feeds = subst (λ (rs : List SourceRecord). ShelfFeeds (routes_in old.broker) rs (shelf_of old.broker) (shelf_of c.feed.new.self)) records c.in_ok-feed.ensures.feeds;

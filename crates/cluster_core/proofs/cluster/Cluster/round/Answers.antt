@@ -1,39 +1,59 @@
-use Rattle.std.proofs.Common.{◌∙◌, ap, refl, subst, sym}
+use Rattle.std.proofs.Common.{◌∙◌, ◌+◌, ◌++◌, List, ap, map, refl, subst, sym}
+use Rattle.std.specs.Prelude.{flat_map}
 use Rattle.topology.specs.declared.topology.Topology.{Topology}
+use Rattle.core_state.specs.declared.journal.JournalEntry.{JournalEntry}
 use Rattle.topic_log.specs.Shelves.{AreTopics}
-use Rattle.cluster_core.proofs.Coming.{after-round}
-use Rattle.cluster_core.proofs.Ready.{advance-ready, commit-apart, commit-ready}
+use Rattle.cluster_core.specs.Rounds.{noted, offered}
+use Rattle.cluster_core.specs.declared.cluster.Cluster.{Cluster}
+use Rattle.cluster_core.specs.declared.rounds.Ran.{Ran}
+use Rattle.cluster_core.proofs.AllTasks.{after_offer}
+use Rattle.cluster_core.proofs.Ready.{advance-ready, after-round, commit-apart, commit-ready}
 use Rattle.cluster_core.proofs.Topics.{are-topics}
 use Rattle.cluster_core.proofs.cluster.Cluster.round.Goals as goal
 
 pub ask_parts-requires-clause-topics : goal.ask_parts-requires-clause-topics
-ask_parts-requires-clause-topics c = c.requires.come.5.topics ∙ sym c.items.ensures
+ask_parts-requires-clause-topics c = c.requires.come.4.topics ∙ sym c.items.ensures
 
 pub ask_parts-requires-clause-numbered : goal.ask_parts-requires-clause-numbered
 ask_parts-requires-clause-numbered c =
     let come = c.requires.come in
-    subst AreTopics (ap (λ (t : Topology). t.topics) (sym come.5.topology) ∙ sym c.items.ensures) (are-topics come.0 come.2)
+    subst AreTopics (ap (λ (t : Topology). t.topics) (sym come.4.topology) ∙ sym c.items.ensures) (are-topics come.0 come.2)
 
 pub advance_all-requires : goal.advance_all-requires
-advance_all-requires c = let come = c.requires.come in advance-ready come.0 come.1 c.args.self come.2 come.3 come.5 c.ask_parts.ensures
+advance_all-requires c = let come = c.requires.come in advance-ready come.0 come.1 c.args.self come.2 come.3 come.4 c.ask_parts.ensures
 
 pub commit_all-requires-clause-each : goal.commit_all-requires-clause-each
-commit_all-requires-clause-each c = let come = c.requires.come in commit-ready come.0 come.1 c.args.self come.2 come.3 come.5 c.in_ok-moved.moved.items c.in_ok-moved.ensures
+commit_all-requires-clause-each c = let come = c.requires.come in commit-ready come.0 come.1 c.args.self come.2 come.3 come.4 c.args.lost c.in_ok-rans.rans.items c.in_ok-rans.ensures
 
 pub commit_all-requires-clause-apart : goal.commit_all-requires-clause-apart
-commit_all-requires-clause-apart c = let come = c.requires.come in commit-apart come.0 come.1 c.args.self come.2 come.3 come.5 c.in_ok-moved.moved.items c.in_ok-moved.ensures
+commit_all-requires-clause-apart c = let come = c.requires.come in commit-apart come.0 come.1 c.args.self come.2 come.3 come.4 c.args.lost c.in_ok-rans.rans.items c.in_ok-rans.ensures
 
 pub returns-clause-next : goal.returns-clause-next
 returns-clause-next c items p sound windowless h =
-    after-round items p c.args.self _ c.in_ok-moved.moved.items sound windowless
+    let old : Cluster = c.args.self in
+    let rans : List Ran = c.in_ok-rans.rans.items in
+    let next : Cluster = record {
+      topology = old.topology;
+      chain = old.chain;
+      broker = c.commit_all.new.broker;
+      live = old.live;
+      seats = c.in_ok-seats.seats;
+      sources = old.sources;
+      rounds = old.rounds + 1;
+      journal = c.commit_all.new.journal;
+    } in
+    let made =
+    after-round items p old sound windowless h c.args.lost rans c.in_ok-rans.ensures next
     (record {
-      moved = c.in_ok-moved.ensures;
-      settled = c.in_ok-tasks.ensures.settled;
-      tasks = c.in_ok-tasks.ensures.tasks;
-      topics = c.in_ok-tasks.ensures.topics;
+      ran = c.in_ok-rans.ensures;
+      settled = c.in_ok-seats.ensures.settled;
+      seats = c.in_ok-seats.ensures.seats;
+      topics = c.in_ok-seats.ensures.topics;
       topology = refl;
       chain = refl;
+      live = refl;
       sources = refl;
       rounds = refl;
-      journal = c.in_ok-tasks.ensures.journal;
-    }) h
+      journal = c.in_ok-seats.ensures.journal ∙ ap (λ (es : List JournalEntry). es ++ flat_map noted (map (offered c.args.lost) rans)) c.in_ok-push.ensures.items;
+    }) in
+    (map (after_offer c.args.lost) rans, made.0, made.1)

@@ -1,0 +1,41 @@
+use Rattle.std.proofs.Common.{◌≡◌, ◌∙◌, ap, subst, List, map}
+use Rattle.std.specs.Prelude.{not}
+use Rattle.assignor.specs.declared.assignment.Owned.{Owned}
+use Rattle.cluster_core.specs.Cluster.{HasCome, idle}
+use Rattle.cluster_core.specs.Moves.{owned_of}
+use Rattle.cluster_core.specs.Progress.{after_moves, is_task}
+use Rattle.cluster_core.specs.declared.cluster.Cluster.{Cluster}
+use Rattle.cluster_core.specs.declared.seats.Seat.{Seat}
+use Rattle.cluster_core.proofs.Turning.{can-lose, ok-more}
+use Rattle.cluster_core.proofs.cluster.Cluster.losing.Goals as goal
+
+pub moved-requires : goal.moved-requires
+moved-requires c =
+    let old : Cluster = c.args.self in
+    let come = c.requires.come in
+    record {
+      come = (
+        come.0,
+        come.1,
+        map (λ (s : Seat). idle s.task) old.seats.items,
+        is_task c.args.task,
+        come.2,
+        come.3,
+        come.4,
+        can-lose come.0 come.1 old come.4 c.args.task c.as_slice-3.result.now c.items.result.now
+            (c.as_slice-3.ensures.value ∙ c.in_ok-stays.ensures ∙ ap (map (λ (s : Seat). not (is_task c.args.task s.task.name))) c.as_slice-2.ensures.value)
+            (c.items.ensures ∙ c.in_ok-owners.ensures ∙ ap (map owned_of) c.as_slice.ensures.value),
+      );
+    }
+
+pub returns : goal.returns
+returns c =
+    let old : Cluster = c.args.self in
+    let whole : c.items.result.now ≡ map owned_of old.seats.items = c.items.ensures ∙ c.in_ok-owners.ensures ∙ ap (map owned_of) c.as_slice.ensures.value in
+    ok-more c.moved.result
+    (λ next has items p sound windowless h.
+    subst (λ (os : List Owned). HasCome items (after_moves (is_task c.args.task) os p) next) (whole ∙ h.owners)
+    (has items p (map (λ (s : Seat). idle s.task) old.seats.items) (is_task c.args.task) sound windowless h
+    (can-lose items p old h c.args.task c.as_slice-3.result.now c.items.result.now
+    (c.as_slice-3.ensures.value ∙ c.in_ok-stays.ensures ∙ ap (map (λ (s : Seat). not (is_task c.args.task s.task.name))) c.as_slice-2.ensures.value) whole)))
+    c.moved.ensures

@@ -1,0 +1,29 @@
+use Rattle.std.proofs.Common.{◌∙◌, ap, subst, sym, ℕ, List, map}
+use Rattle.std.specs.List.Sorted.{IsStrictlyIncreasing}
+use Rattle.cluster_core.specs.Cluster.{HasCome, idle}
+use Rattle.cluster_core.specs.Progress.{after_assignment, with_worker}
+use Rattle.cluster_core.specs.declared.cluster.Cluster.{Cluster}
+use Rattle.cluster_core.specs.declared.seats.Seat.{Seat}
+use Rattle.cluster_core.proofs.LiveWorkers.{with-rising}
+use Rattle.cluster_core.proofs.Turning.{idle-live, ok-more}
+use Rattle.cluster_core.proofs.cluster.Cluster.with.Goals as goal
+
+pub assigned-requires-clause-rises : goal.assigned-requires-clause-rises
+assigned-requires-clause-rises c =
+    let come = c.requires.come in
+    subst IsStrictlyIncreasing (sym (c.in_ok-live.ensures ∙ ap (with_worker c.args.worker) (c.as_slice.ensures.value ∙ come.4.live)))
+    (with-rising c.args.worker come.1.live come.4.progress.live)
+
+pub assigned-requires-clause-come : goal.assigned-requires-clause-come
+assigned-requires-clause-come c =
+    let come = c.requires.come in
+    (come.0, come.1, map (λ (s : Seat). idle s.task) c.args.self.seats.items, come.2, come.3, come.4, idle-live c.in_ok-live.live.items c.args.self.seats.items)
+
+pub returns : goal.returns
+returns c =
+    let old : Cluster = c.args.self in
+    ok-more c.assigned.result
+    (λ next has items p sound windowless h.
+    subst (λ (live : List ℕ). HasCome items (after_assignment old.topology live p) next) (c.in_ok-live.ensures ∙ ap (with_worker c.args.worker) (c.as_slice.ensures.value ∙ h.live))
+    (has items p (map (λ (s : Seat). idle s.task) old.seats.items) sound windowless h (idle-live c.in_ok-live.live.items old.seats.items)))
+    c.assigned.ensures
