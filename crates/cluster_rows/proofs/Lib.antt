@@ -1,0 +1,4 @@
+pub mod Built
+pub mod Filing
+pub mod Numbering
+pub mod Shown
