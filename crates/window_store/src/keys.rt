@@ -1,0 +1,37 @@
+//! The bytes under which a window stands: those of its key, and its start in eight bytes.
+ghost use Rattle.std.specs.Prelude.{◌≡◌, ◌≤◌, IfOk, length};
+ghost use Rattle.std.specs.Int.{w64, from_be_bytes};
+ghost use Rattle.window_store.specs.Windows.{under, start_of};
+
+use ksql_types::Bytes;
+use std::alloc::{AllocError, Global};
+
+/// The bytes under which the window of a key with a start stands.
+#[tactic(auto, unfolding(record_codec::specs::Spelling::eight))]
+pub fn window_key(alloc: Global, key: &[u8], start: u64) -> Result<Bytes, AllocError>
+    ensures { IfOk result (λ bytes. bytes ≡ under key.now start) }
+{
+    let mut bytes = Vec::with_capacity(alloc, key.len() + 8)?;
+    bytes.extend_from_slice(key)?;
+    bytes.extend_from_slice(&start.to_be_bytes())?;
+    Ok(Bytes::of(bytes))
+}
+
+/// The start that such bytes say.
+#[tactic(auto, unfolding(crate::specs::Windows::start_of))]
+pub(crate) fn start_of(at: &[u8]) -> u64
+    requires { 8 ≤ length at.now }
+    ensures { result ≡ start_of at.now }
+{
+    number_in(&at[at.len() - 8..])
+}
+
+/// The number that eight bytes say.
+pub(crate) fn number_in(bytes: &[u8]) -> u64
+    requires { length bytes.now ≡ 8 }
+    ensures { result ≡ from_be_bytes w64 bytes.now }
+{
+    u64::from_be_bytes([
+        bytes[0], bytes[1], bytes[2], bytes[3], bytes[4], bytes[5], bytes[6], bytes[7],
+    ])
+}

@@ -1,0 +1,68 @@
+//! The index of a store of windows: for each start the bytes of the windows that may be held.
+ghost use Rattle.std.specs.Prelude.{◌≡◌, ◌==◌, ◌≤◌, ◌++◌, ◌∷◌, [], ℕ, List, if◌then◌else◌, All, Contains, IsSome, IfOk, OnOk, OnErr, length};
+ghost use Rattle.std.specs.FinMap as finite;
+ghost use Rattle.state_store.specs.Store.{replay};
+ghost use Rattle.window_store.specs.Windows.{IsWindowKey, start_of};
+ghost use Rattle.window_store.specs.Starts.{noted, IsByStart, IsIndex};
+
+use crate::keys::start_of;
+use ksql_types::{Bytes, StoreEntry};
+use state_store::Store;
+use std::alloc::{AllocError, Global};
+use std::collections::BTreeMap;
+
+/// The bytes of each window that is held, and maybe of some that are no more, by their start.
+pub(crate) type Starts = BTreeMap<u64, Vec<Bytes>>;
+
+/// Notes the bytes of a window, unless it is held.
+pub(crate) fn note_new(
+    starts: &mut Starts,
+    kept: &Store,
+    alloc: Global,
+    at: &[u8],
+) -> Result<(), AllocError>
+    requires window { IsWindowKey at.now }
+    requires index { IsIndex starts.old kept.now }
+    ensures index { IsIndex starts.new kept.now }
+    ensures noted { OnOk result (Contains (noted starts.new (start_of at.now)) at.now) }
+{
+    if kept.get(at).is_some() {
+        return Ok(());
+    }
+    note(starts, alloc, at)
+}
+
+/// Notes the bytes of a window under its start.
+fn note(starts: &mut Starts, alloc: Global, at: &[u8]) -> Result<(), AllocError>
+    requires { 8 ≤ length at.now }
+    ensures noted { OnOk result ((s : ℕ) → noted starts.new s ≡ (if s == start_of at.now then noted starts.old s ++ at.now ∷ [] else noted starts.old s)) }
+    ensures kept { OnErr result ((s : ℕ) → noted starts.new s ≡ noted starts.old s) }
+{
+    let start = start_of(at);
+    let mut bytes = Vec::with_capacity(alloc, at.len())?;
+    bytes.extend_from_slice(at)?;
+    let bytes = Bytes::of(bytes);
+    match starts.get_mut(&start) {
+        Some(noted) => noted.push(bytes)?,
+        None => {
+            let noted = vec![in alloc; bytes]?;
+            starts.insert(start, noted)?;
+        }
+    }
+    Ok(())
+}
+
+/// An index of the windows that the changes of an empty store leave.
+pub(crate) fn index_of(alloc: Global, changes: &[StoreEntry]) -> Result<Starts, AllocError>
+    requires { All (λ change. IsWindowKey change.key) changes.now }
+    ensures by_start { IfOk result IsByStart }
+    ensures held { IfOk result (λ starts. (b : List ℕ) → IsSome (finite.get (replay finite.empty changes.now) b) → Contains (noted starts (start_of b)) b) }
+{
+    let mut starts = Starts::new(alloc);
+    for change in changes {
+        if change.value.is_some() {
+            note(&mut starts, alloc, change.key.items())?;
+        }
+    }
+    Ok(starts)
+}
