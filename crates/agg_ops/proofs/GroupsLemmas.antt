@@ -1,11 +1,12 @@
 -- The groups of a store: what is read of them, and one more entry.
 use Rattle.std.proofs.Common.{◌≡◌, ◌∙◌, ap, refl, sym, subst, List, [], ◌∷◌, ◌++◌, ℕ, Bool, true, false, cond}
-use Rattle.std.specs.Prelude.{None, Some, IfSome, option_map, unwrap_or}
+use Rattle.std.specs.Prelude.{Option, None, Some, IfSome, option_map, unwrap_or}
 use Rattle.std.proofs.lemmas.List.{append-nil}
 use Rattle.std.specs.Cmp.Lexicographic.{bytes_decides}
 use Rattle.std.specs.FinMap.{get}
 use Rattle.std.specs.Str.{bytes_eq}
 use Rattle.ksql_types.specs.declared.relation.Kind.{Kind}
+use Rattle.ksql_types.specs.declared.relation.Span.{Span}
 use Rattle.ksql_types.specs.declared.value.Value.{Value}
 use Rattle.ksql_place.specs.declared.change.Body.TheVariants.{Turned}
 use Rattle.ksql_place.specs.declared.change.Change.{Change}
@@ -77,16 +78,16 @@ time-of over aggs [] e = refl
 time-of over aggs (d ∷ es) e = refl
 
 -- the change of a group is that of what is kept of it
-pub change-of : (over : Kind) (aggs : List Agg) (es : List Entry) (e : Entry) (before after : List Value) → before ≡ unwrap_or (totals over aggs es) [] → after ≡ next_totals over aggs e.change before →
-    changed e.change before after ≡ group_change over aggs None es e
-change-of over aggs es e before after first then =
+pub change-of : (over : Kind) (aggs : List Agg) (span : Option Span) (es : List Entry) (e : Entry) (before after : List Value) →
+    before ≡ unwrap_or (totals over aggs es) [] → after ≡ next_totals over aggs e.change before → changed e.change span before after ≡ group_change over aggs span es e
+change-of over aggs span es e before after first then =
     let all : List Entry = es ++ e ∷ [] in
     let last : after ≡ unwrap_or (totals over aggs all) [] =
     then ∙ ap (next_totals over aggs e.change) first ∙ sym (ap (λ o. unwrap_or o []) (totals-more over aggs es e)) in
     let time : kept_time after ≡ latest_time all = ap kept_time last ∙ time-of over aggs es e in
-    let old : result_of e.change.key before ≡ outcome over aggs e.change.key None es = ap (result_of e.change.key) first ∙ sym (outcome-of over aggs e.change.key es) in
-    let new : result_of e.change.key after ≡ outcome over aggs e.change.key None all = ap (result_of e.change.key) last ∙ sym (outcome-of over aggs e.change.key all) in
-    λ i. record { place = e.change.place; time = time i; key = e.change.key; span = None; body = Turned (old i) (new i) }
+    let old : result_of e.change.key span before ≡ outcome over aggs e.change.key span es = ap (result_of e.change.key span) first ∙ sym (outcome-of over aggs e.change.key span es) in
+    let new : result_of e.change.key span after ≡ outcome over aggs e.change.key span all = ap (result_of e.change.key span) last ∙ sym (outcome-of over aggs e.change.key span all) in
+    λ i. record { place = e.change.place; time = time i; key = e.change.key; span = span; body = Turned (old i) (new i) }
 
 -- what a step gives with aggregates that are lent
 pub same-aggs : (over : Kind) (lent aggs : List Agg) (old new : Values) (before after : List Change) (change : Change) (side : ℕ) (es : List Entry) → lent ≡ aggs →

@@ -1,5 +1,13 @@
 pub mod Aggregates
 pub mod Fresh
 pub mod GroupsLemmas
+pub mod Lists
 pub mod Short
 pub mod TotalsLemmas
+pub mod WindowAdded
+pub mod WindowHeld
+pub mod WindowLemmas
+pub mod WindowSpans
+pub mod WindowStarts
+pub mod WindowSteps
+pub mod WindowTimes

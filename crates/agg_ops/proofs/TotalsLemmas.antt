@@ -5,6 +5,7 @@ use Rattle.std.proofs.lemmas.List.{append-nil, map-append, take_more, length-tak
 use Rattle.std.proofs.lemmas.Grind.{flat_map-append}
 use Rattle.ksql_types.specs.declared.relation.Kind.{Kind}
 use Rattle.ksql_types.specs.declared.relation.Kind.TheVariants.{Stream, Table, Windowed}
+use Rattle.ksql_types.specs.declared.relation.Span.{Span}
 use Rattle.ksql_types.specs.declared.value.Value.{Value}
 use Rattle.ksql_types.specs.declared.value.Value.TheVariants.{Big}
 use Rattle.ksql_place.specs.Order.{greatest}
@@ -74,7 +75,8 @@ greatest-more : (ns : List ℕ) (n : ℕ) → greatest (ns ++ n ∷ []) ≡ max 
 greatest-more [] n = omega arith
 greatest-more (m ∷ ns) n = omega (arith, greatest-more ns n)
 
-time-more : (es : List Entry) (e : Entry) → latest_time (es ++ e ∷ []) ≡ max (latest_time es) e.change.time
+-- the greatest time of entries and one more
+pub time-more : (es : List Entry) (e : Entry) → latest_time (es ++ e ∷ []) ≡ max (latest_time es) e.change.time
 time-more es e =
     ap greatest (map-append (λ (e : Entry). e.change.time) es (e ∷ [])) ∙ greatest-more (map (λ (e : Entry). e.change.time) es) e.change.time
 
@@ -85,10 +87,10 @@ totals-more over aggs [] e = ap₂ (λ t (vs : List Value). Some (Big (pos t) �
 totals-more over aggs (d ∷ es) e = ap₂ (λ t (vs : List Value). Some (Big (pos t) ∷ vs)) (time-more (d ∷ es) e) (worths-more over aggs (d ∷ es) e)
 
 -- the result of a group is that of what is kept of it
-pub outcome-of : (over : Kind) (aggs : List Agg) (group : List Value) (es : List Entry) → outcome over aggs group None es ≡ result_of group (unwrap_or (totals over aggs es) [])
-outcome-of over aggs group [] = refl
-outcome-of over aggs group (e ∷ es) =
-    ap (λ (row : Row). Some row) (append-nil (group ++ map (worth over (e ∷ es)) aggs))
+pub outcome-of : (over : Kind) (aggs : List Agg) (group : List Value) (span : Option Span) (es : List Entry) →
+    outcome over aggs group span es ≡ result_of group span (unwrap_or (totals over aggs es) [])
+outcome-of over aggs group span [] = refl
+outcome-of over aggs group span (e ∷ es) = refl
 
 -- one aggregate more
 pub next_worths-more : (over : Kind) (aggs : List Agg) (a : Agg) (c : Change) (mine : List Value) →

@@ -1,2 +1,5 @@
-pub mod Totals
+pub mod Counting
 pub mod Groups
+pub mod Totals
+pub mod WindowAggs
+pub mod WindowGroups

@@ -1,10 +1,12 @@
 -- How one more change of a group changes what is kept of the group: its greatest time, and then the values of its aggregates, of which
 -- each says all that the next value of it needs. Of a group without entries nothing is kept.
-use Rattle.std.specs.Prelude.{ℕ, max, Bool, true, false, if◌then◌else◌, List, [], ◌∷◌, ◌++◌, Option, Some, None, unwrap_or, ℤ, pos, ◌+ℤ◌, ◌-ℤ◌}
+use Rattle.std.specs.Prelude.{ℕ, ◌*◌, ◌^◌, ◌<◌, max, nat_lt, Bool, true, false, not, ◌&&◌, if◌then◌else◌, List, [], ◌∷◌, ◌++◌, Option, Some, None, unwrap_or, ℤ, pos, ◌+ℤ◌, ◌-ℤ◌}
 use Rattle.std.specs.Ordering.{is_lt, is_gt}
 use Rattle.ksql_types.specs.Key.{is_null}
 use Rattle.ksql_types.specs.declared.relation.Kind.{Kind}
 use Rattle.ksql_types.specs.declared.relation.Kind.TheVariants.{Stream, Table}
+use Rattle.ksql_types.specs.declared.relation.Span.{Span}
+use Rattle.ksql_types.specs.declared.relation.Window.{Window}
 use Rattle.ksql_types.specs.declared.value.SqlType.{SqlType}
 use Rattle.ksql_types.specs.declared.value.Value.{Value}
 use Rattle.ksql_types.specs.declared.value.Value.TheVariants.{Big}
@@ -18,7 +20,7 @@ use Rattle.ksql_program.specs.declared.query.Agg.{Agg}
 use Rattle.ksql_nodes.specs.declared.node.Node.{Node}
 use Rattle.ksql_nodes.specs.declared.node.Node.TheVariants.{Aggregate}
 use Rattle.ksql_nodes.specs.Entries.{Row}
-use Rattle.ksql_nodes.specs.Aggregates.{amount, better, aggregate, dated, argument, arguments, type_of_agg}
+use Rattle.ksql_nodes.specs.Aggregates.{amount, better, aggregate, dated, argument, arguments, type_of_agg, window_cells}
 
 -- a number in a type, after so much more
 abbrev pub raised : Option SqlType → Value → ℤ → Value
@@ -76,19 +78,32 @@ kept_worths (time ∷ vs) = vs
 abbrev pub next_totals : Kind → List Agg → Change → List Value → List Value
 next_totals over aggs c mine = Big (pos (max (kept_time mine) c.time)) ∷ next_worths over aggs c (kept_worths mine)
 
--- the result of a group of which this is kept
-abbrev pub result_of : List Value → List Value → Option Row
-result_of group [] = None
-result_of group (time ∷ vs) = Some (group ++ vs)
+-- the result of a group of which this is kept, and of its window, where it has one
+abbrev pub result_of : List Value → Option Span → List Value → Option Row
+result_of group span [] = None
+result_of group span (time ∷ vs) = Some (group ++ vs ++ window_cells span)
 
 -- the change of a group from what was kept of it to what is
-abbrev pub changed : Change → List Value → List Value → Change
-changed c before after = record c { time = kept_time after; span = None; body = Turned (result_of c.key before) (result_of c.key after) }
+abbrev pub changed : Change → Option Span → List Value → List Value → Change
+changed c span before after = record c { time = kept_time after; span = span; body = Turned (result_of c.key span before) (result_of c.key span after) }
+
+-- a window whose start and end are numbers of eight bytes with a sign
+abbrev pub HasBigBounds : Span → Type 0
+HasBigBounds s = (s.start < 2 ^ 63) × (s.end < 2 ^ 63)
 
 -- whether a node is an aggregate of a stream without a window
 abbrev pub is_stream_aggregate : Node → Bool
 is_stream_aggregate (Aggregate Stream aggs None) = true
 is_stream_aggregate node = false
+
+-- whether a window moves on, by no more than its size, of which a time has at most 64, and neither it nor its grace is longer than 2^53
+abbrev pub is_sound_window : Window → Bool
+is_sound_window w = nat_lt 0 w.advance && not (nat_lt w.size w.advance) && not (nat_lt (2 ^ 53) w.size) && not (nat_lt (64 * w.advance) w.size) && not (nat_lt (2 ^ 53) w.grace)
+
+-- whether a node is an aggregate of a stream with a sound window
+abbrev pub is_window_aggregate : Node → Bool
+is_window_aggregate (Aggregate Stream aggs (Some w)) = is_sound_window w
+is_window_aggregate node = false
 
 -- whether a node is an aggregate of a table without a window
 abbrev pub is_table_aggregate : Node → Bool

@@ -1,26 +1,21 @@
 //! The groups of a stream or of a table, without windows.
-ghost use Rattle.std.specs.Prelude.{◌≡◌, ℕ, suc, ◌<◌, ◌≤◌, ◌^◌, false, List, [], ◌∷◌, ◌++◌, Option, None, All, IfOk, IfSome, OnOk, OnErr, length, option_map, unwrap_or};
-ghost use Rattle.std.specs.FinMap as finite;
-ghost use Rattle.ksql_types.specs.declared.value.Value.{Value as OneValue};
-ghost use Rattle.ksql_place.specs.declared.change.Change.{Change as OneChange};
+ghost use Rattle.std.specs.Prelude.{◌≡◌, ℕ, suc, ◌<◌, ◌≤◌, ◌^◌, false, List, [], ◌∷◌, ◌++◌, None, All, IfOk, OnOk, OnErr, length};
 ghost use Rattle.ksql_nodes.specs.declared.node.Node.TheVariants as nodes;
 ghost use Rattle.ksql_nodes.specs.Aggregates.{group_change};
 ghost use Rattle.ksql_nodes.specs.Entries.{Entry, of_key};
 ghost use Rattle.state_store.specs.Store.{Values, IsBase};
-ghost use Rattle.record_codec.specs.Spelling.{values, AreSpellable, IsShort};
+ghost use Rattle.record_codec.specs.Spelling.{IsShort};
 ghost use Rattle.operator.specs.Holding.{nothing};
-ghost use Rattle.operator.specs.Kept.{totals};
 ghost use Rattle.operator.specs.StandsFor.{StandsFor};
 ghost use Rattle.operator.specs.Storable.{HasShortArguments};
 ghost use Rattle.agg_ops.specs.Groups.{HoldsGroups};
-ghost use Rattle.agg_ops.specs.Totals.{next_totals};
 
-use crate::totals::{group_change, next_totals};
+use crate::totals::group_change;
+use crate::turn::turned;
 use ksql_place::Change;
 use ksql_program::{Agg, Aggs};
-use ksql_types::{Changelog, CopyOf, Kind, StoreEntry, Value};
+use ksql_types::{Changelog, CopyOf, Kind, StoreEntry};
 use operator::{Operator, StoredOperator, spelled_key, with_number};
-use record_codec::{decode_values, encode_values};
 use state_store::Store;
 use std::alloc::{AllocError, Global};
 
@@ -108,49 +103,16 @@ fn give(
     ensures base { (base : Values) → IsBase base groups.old → IsBase base groups.new }
     ensures out { OnErr result (out.new.items ≡ out.old.items) }
 {
-    let (before, after) = turn(groups, alloc, over, aggs, change)?;
-    let given = group_change(alloc, change, before.as_slice(), after.as_slice())?;
+    let key = spelled_key(alloc, &change.key)?;
+    let turn = turned(alloc, over, aggs, groups.get(key.items()), change)?;
+    groups.set(alloc, key.items(), turn.bytes.items())?;
+    let given = group_change(
+        alloc,
+        change,
+        None,
+        turn.before.as_slice(),
+        turn.after.as_slice(),
+    )?;
     out.push(given)?;
     Ok(())
-}
-
-/// Adds a change to its group, and answers what was kept of the group before and what is after.
-fn turn(
-    groups: &mut Store,
-    alloc: Global,
-    over: Kind,
-    aggs: &[Agg],
-    change: &Change,
-) -> Result<(Vec<Value>, Vec<Value>), AllocError>
-    requires time { change.now.time ≤ 2 ^ 53 }
-    requires key { All IsShort change.now.key }
-    requires few { suc (length aggs.now) < 2 ^ 32 }
-    requires short { HasShortArguments aggs.now change.now }
-    ensures next { IfOk result (λ turned. (side : ℕ) (es : List Entry) → HoldsGroups over aggs.now groups.old.map es →
-        (turned.0.items ≡ unwrap_or (totals over aggs.now (of_key change.now.key es)) [])
-        × (turned.1.items ≡ next_totals over aggs.now change.now turned.0.items)
-        × HoldsGroups over aggs.now groups.new.map (es ++ record { side = side; change = change.now } ∷ [])) }
-    ensures base { (base : Values) → IsBase base groups.old → IsBase base groups.new }
-{
-    let key = spelled_key(alloc, &change.key)?;
-    let before = kept(groups, alloc, key.items())?;
-    let after = next_totals(alloc, over, aggs, before.as_slice(), change)?;
-    let bytes = encode_values(alloc, after.as_slice())?;
-    groups.set(alloc, key.items(), bytes.items())?;
-    Ok((before, after))
-}
-
-/// What is kept under some bytes; nothing also where what is kept there spells no values.
-fn kept(groups: &Store, alloc: Global, key: &[u8]) -> Result<Vec<Value>, AllocError>
-    ensures value { (kept : Option (List OneValue)) → IfSome kept AreSpellable → finite.get groups.now.map key.now ≡ option_map values kept →
-        IfOk result (λ found. found.items ≡ unwrap_or kept []) }
-    ensures short { IfOk result (λ found. All IsShort found.items) }
-{
-    let Some(bytes) = groups.get(key) else {
-        return Ok(Vec::new(alloc));
-    };
-    match decode_values(alloc, bytes)? {
-        Some(kept) => Ok(kept.into_items()),
-        None => Ok(Vec::new(alloc)),
-    }
 }

@@ -5,9 +5,13 @@ mod agg_op;
 mod groups;
 mod table_agg_op;
 mod totals;
+mod turn;
+mod window_agg_op;
+mod windows;
 
 pub use agg_op::AggOp;
 pub use table_agg_op::TableAggOp;
+pub use window_agg_op::WindowAggOp;
 
 #[cfg(test)]
 mod tests;

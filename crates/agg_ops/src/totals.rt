@@ -1,14 +1,14 @@
 //! What is kept of a group: its greatest time, and then the values of its aggregates.
-ghost use Rattle.std.specs.Prelude.{◌≡◌, ◌<◌, ◌≤◌, ◌^◌, ◌≤ℤ◌, ◌∷◌, [], IfOk, neg_ℤ, option_map, pos, slice_get, unwrap_or};
+ghost use Rattle.std.specs.Prelude.{◌≡◌, ◌<◌, ◌≤◌, ◌^◌, ◌≤ℤ◌, ◌∷◌, [], IfOk, IfSome, neg_ℤ, option_map, pos, slice_get, unwrap_or};
 ghost use Rattle.ksql_types.specs.declared.relation.Kind.TheVariants as kinds;
 ghost use Rattle.ksql_nodes.specs.Aggregates.{amount};
-ghost use Rattle.agg_ops.specs.Totals.{amount_of, changed, initial, kept_time, kept_worths, more, next_totals, next_worth, present_or, raised, result_of, with_row};
+ghost use Rattle.agg_ops.specs.Totals.{amount_of, changed, initial, kept_time, kept_worths, more, next_totals, next_worth, present_or, raised, result_of, with_row, HasBigBounds};
 
 use ksql_eval::{number_in, whole};
 use ksql_expr::AggFun;
 use ksql_place::{Body, Change};
 use ksql_program::Agg;
-use ksql_types::{CopyOf, Items, Key, Kind, Row, SqlType, Value};
+use ksql_types::{CopyOf, Items, Key, Kind, Row, Span, SqlType, Value};
 use node_steps::{argument, greater, lesser, row_in, row_out, type_of_agg};
 use std::alloc::{AllocError, Global};
 
@@ -33,23 +33,25 @@ pub(crate) fn next_totals(
     Ok(totals)
 }
 
-/// The change of a group from what was kept of it to what is.
+/// The change of a group, or of a window's group, from what was kept of it to what is.
 pub(crate) fn group_change(
     alloc: Global,
     change: &Change,
+    span: Option<Span>,
     before: &[Value],
     after: &[Value],
 ) -> Result<Change, AllocError>
-    ensures { IfOk result (λ made. made ≡ changed change.now before.now after.now) }
+    requires { IfSome span HasBigBounds }
+    ensures { IfOk result (λ made. made ≡ changed change.now span before.now after.now) }
 {
     Ok(Change {
         place: change.place.copy(alloc)?,
         time: kept_time(after),
         key: change.key.copy(alloc)?,
-        span: None,
+        span,
         body: Body::Turned {
-            old: result_of(alloc, &change.key, before)?,
-            new: result_of(alloc, &change.key, after)?,
+            old: result_of(alloc, &change.key, span, before)?,
+            new: result_of(alloc, &change.key, span, after)?,
         },
     })
 }
@@ -206,9 +208,15 @@ fn raised(ty: Option<SqlType>, mine: &Value, by: i128) -> Value
     number_in(ty, i128::from(whole(mine).unwrap_or(0)) + by)
 }
 
-/// The result of a group of which this is kept: its key, and then its aggregates.
-fn result_of(alloc: Global, group: &Key, mine: &[Value]) -> Result<Option<Row>, AllocError>
-    ensures { IfOk result (λ row. row ≡ result_of group.now mine.now) }
+/// The result of a group of which this is kept: its key, then its aggregates, and then the start and the end of its window.
+fn result_of(
+    alloc: Global,
+    group: &Key,
+    span: Option<Span>,
+    mine: &[Value],
+) -> Result<Option<Row>, AllocError>
+    requires { IfSome span HasBigBounds }
+    ensures { IfOk result (λ row. row ≡ result_of group.now span mine.now) }
 {
     let [_, worths @ ..] = mine else {
         return Ok(None);
@@ -216,6 +224,10 @@ fn result_of(alloc: Global, group: &Key, mine: &[Value]) -> Result<Option<Row>, 
     let mut row = group.copy(alloc)?.into_items();
     for worth in worths {
         row.push(worth.copy(alloc)?)?;
+    }
+    if let Some(span) = span {
+        row.push(Value::Big(span.start.cast_signed()))?;
+        row.push(Value::Big(span.end.cast_signed()))?;
     }
     Ok(Some(Items::of(row)))
 }

@@ -10,7 +10,6 @@ use Rattle.ksql_program.specs.Sound.{IsSound}
 use Rattle.ksql_program.specs.declared.program.Item.{Item}
 use Rattle.ksql_nodes.specs.declared.node.Node.{Node}
 use Rattle.operator.specs.Holding.{Maps}
-use Rattle.meaning_laws.specs.Windows.{HaveNoWindow}
 use Rattle.meaning_laws.proofs.Lists.{All-weaker}
 use Rattle.topology.specs.Topologies.{subs, topology_of}
 use Rattle.topology.specs.declared.topology.SubInput.{SubInput}
@@ -50,7 +49,7 @@ sides items sound nodes (a ∷ []) is = (omega arith, omega arith)
 sides items sound nodes (a ∷ b ∷ []) is = (omega arith, omega arith)
 sides items sound nodes (a ∷ b ∷ c ∷ more) is = absurd is
 
-module _ (items : List Item) (order : List SourceRecord) (sound : IsSound items) (windowless : HaveNoWindow items) (fits : Fits items order) where
+module _ (items : List Item) (order : List SourceRecord) (sound : IsSound items) (fits : Fits items order) where
   module _ (b : Shelves) (topics : topics_of b ≡ (topology_of items).topics) (front : List Moved) (task : TaskView) (back : List Moved)
       (run : AreRunning items order (shelf_of b) (front ++ idle task ∷ back)) where
     abbrev name : TaskName
@@ -59,23 +58,23 @@ module _ (items : List Item) (order : List SourceRecord) (sound : IsSound items)
     abbrev pub state : State (List Maps)
     state = on_shelf (shelf_of b) (front ++ idle task ∷ back)
 
-    pub is : IsTask (top items order sound windowless fits) task.name
-    is = is-task items order sound windowless fits (shelf_of b) front (idle task) back run
+    pub is : IsTask (top items order sound fits) task.name
+    is = is-task items order sound fits (shelf_of b) front (idle task) back run
 
     pub in-topology : IsTaskIn (topology_of items) task
-    in-topology = mine items order sound windowless fits (shelf_of b) front (idle task) back run
+    in-topology = mine items order sound fits (shelf_of b) front (idle task) back run
 
     pub step : (task.done ≡ (shelf_of b).done task.name) × (task.maps ≡ chain.maps_after (nodes_at (topology_of items) task.name) ((shelf_of b).logs task.name))
-    step = in-step items order sound windowless fits (shelf_of b) front (idle task) back run
+    step = in-step items order sound fits (shelf_of b) front (idle task) back run
 
     -- ---- how far it may go
 
-    pub bound-same : bound_of b task ≡ bound (top items order sound windowless fits) state task.name
+    pub bound-same : bound_of b task ≡ bound (top items order sound fits) state task.name
     bound-same =
         ap₂ (λ (ts : List TopicSpec) (is : List SubInput). lowest b.fed (shelf_closed (routes_of ts) (shelf_of b)) (map (λ (i : SubInput). i.topic) is)) topics in-topology.inputs
 
     pub within : task.done ≤ bound_of b task
-    within = rw (bound-same, step.0) (good-task items order sound windowless fits (shelf_of b) front (idle task) back run).done_within_inputs
+    within = rw (bound-same, step.0) (good-task items order sound fits (shelf_of b) front (idle task) back run).done_within_inputs
 
     -- ---- what it reads
 
@@ -100,40 +99,40 @@ module _ (items : List Item) (order : List SourceRecord) (sound : IsSound items)
     shown topic = (shelf_of b).shown topic task.name.part
 
     -- what it takes next is what the core says
-    pub takes-same : next_entries b task ≡ (top items order sound windowless fits).takes task.name shown task.done (bound_of b task)
+    pub takes-same : next_entries b task ≡ (top items order sound fits).takes task.name shown task.done (bound_of b task)
     takes-same =
         ap₂ (λ (ns : List Node) (is : List SubInput). reads ns is (λ topic. between log_feed task.done (bound_of b task) (shown topic))) in-topology.nodes in-topology.inputs
         ∙ reads-same items sound (nodes_at (topology_of items) task.name) (inputs_at (topology_of items) task.name) (reads-in items sound task.name is)
         (λ topic. between log_feed task.done (bound_of b task) (shown topic))
 
-    takes-next : next_entries b task ≡ some_of items order sound windowless fits task.name task.done (bound_of b task)
+    takes-next : next_entries b task ≡ some_of items order sound fits task.name task.done (bound_of b task)
     takes-next =
-        let mean = d items order sound windowless fits in
-        let taken : mean.entries task.name (bound_of b task) ≡ mean.entries task.name task.done ++ (top items order sound windowless fits).takes task.name shown task.done (bound_of b task) =
-        (means items order sound windowless fits).taken task.name is shown task.done (bound_of b task) within
+        let mean = d items order sound fits in
+        let taken : mean.entries task.name (bound_of b task) ≡ mean.entries task.name task.done ++ (top items order sound fits).takes task.name shown task.done (bound_of b task) =
+        (means items order sound fits).taken task.name is shown task.done (bound_of b task) within
         (λ topic at. (
-          closed (top items order sound windowless fits).routes state topic,
-          rw bound-same (lowest-le state.fed (closed (top items order sound windowless fits).routes state) ((top items order sound windowless fits).inputs task.name) topic at),
-          shown-all (top items order sound windowless fits) mean (means items order sound windowless fits) state run.good topic task.name.part,
+          closed (top items order sound fits).routes state topic,
+          rw bound-same (lowest-le state.fed (closed (top items order sound fits).routes state) ((top items order sound fits).inputs task.name) topic at),
+          shown-all (top items order sound fits) mean (means items order sound fits) state run.good topic task.name.part,
         )) in
         takes-same
-        ∙ append_cancel_left (mean.entries task.name task.done) ((top items order sound windowless fits).takes task.name shown task.done (bound_of b task))
-        (some_of items order sound windowless fits task.name task.done (bound_of b task))
-        (sym taken ∙ parts items order sound windowless fits task.name 0 task.done (bound_of b task) (omega arith) within)
+        ∙ append_cancel_left (mean.entries task.name task.done) ((top items order sound fits).takes task.name shown task.done (bound_of b task))
+        (some_of items order sound fits task.name task.done (bound_of b task))
+        (sym taken ∙ parts items order sound fits task.name 0 task.done (bound_of b task) (omega arith) within)
 
     -- ---- what it can store
 
     can-store : CanBeStored items (topology_of items) order → CanStore b task
     can-store law =
-        let mean = d items order sound windowless fits in
+        let mean = d items order sound fits in
         let nodes : List Node = nodes_at (topology_of items) task.name in
-        let logs = (good-task items order sound windowless fits (shelf_of b) front (idle task) back run).logs_stand in
+        let logs = (good-task items order sound fits (shelf_of b) front (idle task) back run).logs_stand in
         let stands : StandAlong nodes task.maps (mean.entries task.name task.done) =
         subst (λ (ms : List Maps). StandAlong nodes ms (mean.entries task.name task.done)) (sym step.1)
         (subst (λ (n : ℕ). StandAlong nodes (chain.maps_after nodes ((shelf_of b).logs task.name)) (mean.entries task.name n)) (sym step.0) logs) in
         let storable : AreStorable nodes (mean.entries task.name task.done) (next_entries b task) =
         subst (AreStorable nodes (mean.entries task.name task.done)) (sym takes-next)
-        (next-storable items order sound windowless fits task.name is law
+        (next-storable items order sound fits task.name is law
         (subst (All HasFewAggregates) in-topology.nodes in-topology.few) task.done (bound_of b task) within) in (
           mean.entries task.name task.done,
           subst (λ (ns : List Node). StandAlong ns task.maps (mean.entries task.name task.done)) (sym in-topology.nodes) stands,

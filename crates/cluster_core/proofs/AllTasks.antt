@@ -5,7 +5,6 @@ use Rattle.std.specs.List.{AllByRecursion, AllZip}
 use Rattle.ksql_place.specs.declared.change.SourceRecord.{SourceRecord}
 use Rattle.ksql_program.specs.Sound.{IsSound}
 use Rattle.ksql_program.specs.declared.program.Item.{Item}
-use Rattle.meaning_laws.specs.Windows.{HaveNoWindow}
 use Rattle.meaning_laws.proofs.Lists.{Pairwise}
 use Rattle.topology.specs.Topologies.{topology_of}
 use Rattle.core_state.specs.Routes.{Routes}
@@ -74,7 +73,7 @@ settle-fed r (q ∷ os) b c does = by q does.1 (settle-fed r os does.0 c does.2)
     by None same rest = rest ∙ (λ i. (same i).fed)
     by (Some p) applies rest = rest ∙ applies.fed
 
-module _ (items : List Item) (order : List SourceRecord) (sound : IsSound items) (windowless : HaveNoWindow items) (fits : Fits items order) where
+module _ (items : List Item) (order : List SourceRecord) (sound : IsSound items) (fits : Fits items order) where
   pub offers-apart : (b : Shelf) (lost : Option ℕ) (rs : List Ran) → AreRunning items order b (map (λ (r : Ran). r.moved) rs) → Pairwise ProposeApart (map (offered lost) rs)
   offers-apart b lost rs run = apart-all lost rs (all-mapped IsNamed (λ (r : Ran). r.moved) rs run.named) (pairs-of rs run.apart)
 
@@ -85,7 +84,7 @@ module _ (items : List Item) (order : List SourceRecord) (sound : IsSound items)
         AllByRecursion (λ (s : Seat). CanAdvance b s.task) ss
     all-can-advance has law front [] run = tt
     all-can-advance has law front (x ∷ xs) run = (
-      can-advance items order sound windowless fits b topics front x.task (map (λ (s : Seat). idle s.task) xs) run has law,
+      can-advance items order sound fits b topics front x.task (map (λ (s : Seat). idle s.task) xs) run has law,
       all-can-advance has law (front ++ idle x.task ∷ []) xs (subst (AreRunning items order (shelf_of b)) (sym (append_assoc front (idle x.task ∷ []) (map (λ (s : Seat). idle s.task) xs))) run),
     )
 
@@ -96,29 +95,29 @@ module _ (items : List Item) (order : List SourceRecord) (sound : IsSound items)
     all-advanced front (x ∷ xs) [] zip run = absurd zip
     all-advanced front (x ∷ xs) (r ∷ rs) zip run =
         let now : AreRunning items order (shelf_of b) (front ++ r.moved ∷ map (λ (s : Seat). idle s.task) xs) =
-        advanced-task items order sound windowless fits b topics front x.task (map (λ (s : Seat). idle s.task) xs) run r.moved zip.0.moved in
+        advanced-task items order sound fits b topics front x.task (map (λ (s : Seat). idle s.task) xs) run r.moved zip.0.moved in
         subst (AreRunning items order (shelf_of b)) (append_assoc front (r.moved ∷ []) (map (λ (y : Ran). y.moved) rs))
         (all-advanced (front ++ r.moved ∷ []) xs rs zip.1 (subst (AreRunning items order (shelf_of b)) (sym (append_assoc front (r.moved ∷ []) (map (λ (s : Seat). idle s.task) xs))) now))
 
   -- ---- all proposals are committed but those of a worker that is lost
 
   pub all-can-commit : (b : Shelf) (lost : Option ℕ) → ResultsRise items (topology_of items) order → (front : List Moved) (rs : List Ran) → AreRunning items order b (front ++ map (λ (r : Ran). r.moved) rs) →
-      AllByRecursion (λ o. IfSome o (CanCommit (top items order sound windowless fits).routes b)) (map (offered lost) rs)
+      AllByRecursion (λ o. IfSome o (CanCommit (top items order sound fits).routes b)) (map (offered lost) rs)
   all-can-commit b lost rises front [] run = tt
   all-can-commit b lost rises front (r ∷ rs) run = (
     offer (is_with r.worker lost),
     all-can-commit b lost rises (front ++ r.moved ∷ []) rs (subst (AreRunning items order b) (sym (append_assoc front (r.moved ∷ []) (map (λ (x : Ran). x.moved) rs))) run),
   )
     where
-      one : (o : Option Proposal) → r.moved.proposal ≡ o → IfSome o (CanCommit (top items order sound windowless fits).routes b)
+      one : (o : Option Proposal) → r.moved.proposal ≡ o → IfSome o (CanCommit (top items order sound fits).routes b)
       one None is = tt
-      one (Some p) is = can-commit items order sound windowless fits b front r.moved (map (λ (x : Ran). x.moved) rs) run p is rises
+      one (Some p) is = can-commit items order sound fits b front r.moved (map (λ (x : Ran). x.moved) rs) run p is rises
 
-      offer : (c : Bool) → IfSome (if c then None else r.moved.proposal) (CanCommit (top items order sound windowless fits).routes b)
+      offer : (c : Bool) → IfSome (if c then None else r.moved.proposal) (CanCommit (top items order sound fits).routes b)
       offer true = tt
       offer false = one r.moved.proposal refl
 
-  pub all-settled : (lost : Option ℕ) (front : List Moved) (rs : List Ran) (b c : Shelf) → AllSettle (top items order sound windowless fits).routes (map (offered lost) rs) b c →
+  pub all-settled : (lost : Option ℕ) (front : List Moved) (rs : List Ran) (b c : Shelf) → AllSettle (top items order sound fits).routes (map (offered lost) rs) b c →
       AreRunning items order b (front ++ map (λ (r : Ran). r.moved) rs) → AreRunning items order c (front ++ map (after_offer lost) rs)
   all-settled lost front [] b c same run = subst (λ (x : Shelf). AreRunning items order x (front ++ [])) (sym same) run
   all-settled lost front (r ∷ rs) b c does run =
@@ -126,7 +125,7 @@ module _ (items : List Item) (order : List SourceRecord) (sound : IsSound items)
       (all-settled lost (front ++ after_offer lost r ∷ []) rs does.0 c does.2
       (subst (AreRunning items order does.0) (sym (append_assoc front (after_offer lost r ∷ []) (map (λ (x : Ran). x.moved) rs))) (now (is_with r.worker lost) does.1)))
     where
-      now : (l : Bool) → Settles (top items order sound windowless fits).routes (if l then None else r.moved.proposal) b does.0 →
+      now : (l : Bool) → Settles (top items order sound fits).routes (if l then None else r.moved.proposal) b does.0 →
           AreRunning items order does.0 (front ++ (if l then r.moved else idle r.moved.task) ∷ map (λ (x : Ran). x.moved) rs)
       now true same = subst (λ (x : Shelf). AreRunning items order x (front ++ r.moved ∷ map (λ (x : Ran). x.moved) rs)) (sym same) run
-      now false settles = settled items order sound windowless fits b does.0 front r.moved (map (λ (x : Ran). x.moved) rs) settles run
+      now false settles = settled items order sound fits b does.0 front r.moved (map (λ (x : Ran). x.moved) rs) settles run

@@ -6,7 +6,6 @@ use Rattle.std.specs.List.{AllByRecursion}
 use Rattle.ksql_place.specs.declared.change.SourceRecord.{SourceRecord}
 use Rattle.ksql_program.specs.Sound.{IsSound}
 use Rattle.ksql_program.specs.declared.program.Item.{Item}
-use Rattle.meaning_laws.specs.Windows.{HaveNoWindow}
 use Rattle.meaning_laws.proofs.Lists.{All-both, All-weaker, Pairwise}
 use Rattle.topology.specs.Tasks.{tasks_of}
 use Rattle.topology.specs.Topologies.{subs, topology_of}
@@ -43,26 +42,26 @@ others-apart (x ∷ front) m back pairs = (
   others-apart front m back pairs.1,
 )
 
-module _ (items : List Item) (order : List SourceRecord) (sound : IsSound items) (windowless : HaveNoWindow items) (fits : Fits items order) where
+module _ (items : List Item) (order : List SourceRecord) (sound : IsSound items) (fits : Fits items order) where
   -- ---- one of the tasks
 
-  module _ (b c : Shelf) (front : List Moved) (m : Moved) (back : List Moved) (raises : ShelfRaises (top items order sound windowless fits).routes m.task.name b c)
+  module _ (b c : Shelf) (front : List Moved) (m : Moved) (back : List Moved) (raises : ShelfRaises (top items order sound fits).routes m.task.name b c)
       (run : AreRunning items order b (front ++ m ∷ back)) where
     rest-apart : AllByRecursion (λ (x : Moved). AreApart x.task.name m.task.name) (front ++ back)
     rest-apart = others-apart front m back run.apart
 
-    good : Good (top items order sound windowless fits) (d items order sound windowless fits) (on_shelf c (front ++ back))
+    good : Good (top items order sound fits) (d items order sound fits) (on_shelf c (front ++ back))
     good =
-        let is = is-task items order sound windowless fits b front m back run in
-        leave-keeps (top items order sound windowless fits) (d items order sound windowless fits) (means items order sound windowless fits) m.task.name is
+        let is = is-task items order sound fits b front m back run in
+        leave-keeps (top items order sound fits) (d items order sound fits) (means items order sound fits) m.task.name is
         (on_shelf b (front ++ m ∷ back)) (on_shelf c (front ++ back)) run.good
-        (left (top items order sound windowless fits) (means items order sound windowless fits).writes m.task.name is (parts_of b (front ++ m ∷ back)) (parts_of c (front ++ back))
+        (left (top items order sound fits) (means items order sound fits).writes m.task.name is (parts_of b (front ++ m ∷ back)) (parts_of c (front ++ back))
         (record { instance = λ u writes other. instance-without front m back u other; held = λ u writes other. refl })
         [] (All-nil (Proposes ((on_shelf b (front ++ m ∷ back)).tasks m.task.name))) raises
         (instance-none (front ++ back) m.task.name rest-apart) refl).1
 
     still-newest : (x : Moved) → (Contains (tasks_of (subs items)) x.task.name × IsNewest b x) × AreApart x.task.name m.task.name → IsNewest c x
-    still-newest x has = has.0.1 ∙ sym (raises.newest_else x.task.name ((means items order sound windowless fits).writes x.task.name has.0.0) has.1)
+    still-newest x has = has.0.1 ∙ sym (raises.newest_else x.task.name ((means items order sound fits).writes x.task.name has.0.0) has.1)
 
     rest-newest : AllByRecursion (IsNewest c) (front ++ back)
     rest-newest =
@@ -87,7 +86,7 @@ module _ (items : List Item) (order : List SourceRecord) (sound : IsSound items)
 
   pub all-left : (front : List Moved) (ms : List Moved) (seats : List Seat) (stays : List Bool) (b c : Shelf) (notes : List JournalEntry) →
       map (λ (m : Moved). m.task) ms ≡ map (λ (s : Seat). s.task) seats → length stays ≡ length seats →
-      AllLeave (top items order sound windowless fits).routes stays seats b notes c →
+      AllLeave (top items order sound fits).routes stays seats b notes c →
       AreRunning items order b (front ++ ms) → AreRunning items order c (front ++ staying_of stays ms)
   all-left front [] [] [] b c notes same long does run = subst (λ (x : Shelf). AreRunning items order x (front ++ [])) (sym does.0) run
   all-left front [] [] (stays ∷ more) b c notes same long does run = absurd (omega (arith, long))
@@ -103,6 +102,6 @@ module _ (items : List Item) (order : List SourceRecord) (sound : IsSound items)
       (subst (AreRunning items order does.0) (sym (append_assoc front (m ∷ []) ms)) now))
   all-left front (m ∷ ms) (s ∷ ss) (false ∷ more) b c notes same long does run =
       let task : m.task ≡ s.task = ap (λ (ts : List TaskView). get_or ts 0 m.task) same in
-      let raises : ShelfRaises (top items order sound windowless fits).routes m.task.name b does.0 =
-      subst (λ (t : TaskView). ShelfRaises (top items order sound windowless fits).routes t.name b does.0) (sym task) does.3.0 in
+      let raises : ShelfRaises (top items order sound fits).routes m.task.name b does.0 =
+      subst (λ (t : TaskView). ShelfRaises (top items order sound fits).routes t.name b does.0) (sym task) does.3.0 in
       all-left front ms ss more does.0 c does.2 (ap (drop 1) same) (omega (arith, long)) does.4 (left-task b does.0 front m ms raises run)

@@ -8,7 +8,6 @@ use Rattle.ksql_types.specs.declared.relation.TaskName.{TaskName}
 use Rattle.ksql_types.specs.declared.topic.TopicSpec.{TopicSpec}
 use Rattle.ksql_program.specs.Sound.{IsSound}
 use Rattle.ksql_program.specs.declared.program.Item.{Item}
-use Rattle.meaning_laws.specs.Windows.{HaveNoWindow}
 use Rattle.meaning_laws.proofs.Lists.{Pairwise}
 use Rattle.topology.specs.Tasks.{chain_of, tasks_of}
 use Rattle.topology.specs.Topologies.{subs, topology_of}
@@ -63,7 +62,7 @@ staying-kept leaves (s ∷ ss) (m ∷ ms) zip = by (leaves s.task.name) zip.0 (s
     by true still rest = rest
     by false still rest = ap₂ (λ (x : Moved) (xs : List Moved). x ∷ xs) (still refl) rest
 
-module _ (items : List Item) (p : Progress) (ms : List Moved) (c : Cluster) (sound : IsSound items) (windowless : HaveNoWindow items) (h : HasComeWith items p ms c)
+module _ (items : List Item) (p : Progress) (ms : List Moved) (c : Cluster) (sound : IsSound items) (h : HasComeWith items p ms c)
     (leaves : TaskName → Bool) (stays : List Bool) (owners : List Owned) (can : CanMove c.topology leaves stays owners c.seats.items ms) where
   abbrev t : Topology
   t = topology_of items
@@ -84,7 +83,7 @@ module _ (items : List Item) (p : Progress) (ms : List Moved) (c : Cluster) (sou
   owned-now = subst (IsOwned t) (sym h.owners) h.progress.owned
 
   writer : (u : TaskName) → Contains (tasks_of (subs items)) u → IsWriter (routes_of t.topics) u
-  writer u among = (means items p.order sound windowless h.progress.order).writes u among
+  writer u among = (means items p.order sound h.progress.order).writes u among
 
   -- each task of a seat is one of the program's
   seats-among : AllByRecursion (λ (s : Seat). Contains (tasks_of (subs items)) s.task.name) c.seats.items
@@ -113,7 +112,7 @@ module _ (items : List Item) (p : Progress) (ms : List Moved) (c : Cluster) (sou
     leaving = subst (λ (ts : List TopicSpec). AllLeave (routes_of ts) stays c.seats.items (shelf_of c.broker) notes after) topics left
 
     left-run : AreRunning items p.order after (staying_of stays ms)
-    left-run = all-left items p.order sound windowless h.progress.order [] ms c.seats.items stays (shelf_of c.broker) after notes h.running leave-places leaving run
+    left-run = all-left items p.order sound h.progress.order [] ms c.seats.items stays (shelf_of c.broker) after notes h.running leave-places leaving run
 
     -- what making tasks anew asks for
     pub restore-ready : All (CanRestore c.topology (routes_in c.broker) after) owners
@@ -124,7 +123,7 @@ module _ (items : List Item) (p : Progress) (ms : List Moved) (c : Cluster) (sou
       where
         each : (os : List Owned) → AllByRecursion (λ (o : Owned). Contains (tasks_of (subs items)) o.task) os → AllByRecursion (CanRestore t (routes_of t.topics) after) os
         each [] all = tt
-        each (o ∷ os) all = (can-restore items p.order sound windowless h.progress.order after (staying_of stays ms) left-run o all.0, each os all.1)
+        each (o ∷ os) all = (can-restore items p.order sound h.progress.order after (staying_of stays ms) left-run o all.0, each os all.1)
 
   -- ---- after all
 
@@ -150,7 +149,7 @@ module _ (items : List Item) (p : Progress) (ms : List Moved) (c : Cluster) (sou
     next-run : AreRunning items p.order after (map (λ (s : Seat). idle s.task) next.seats.items)
     next-run =
         subst (λ (ss : List Seat). AreRunning items p.order after (map (λ (s : Seat). idle s.task) ss)) (sym seats-next)
-        (all-seated items p.order sound windowless h.progress.order after (All-from_recursion NodesHaveFew (subs items) (few-come items p ms c h)) [] owners kept
+        (all-seated items p.order sound h.progress.order after (All-from_recursion NodesHaveFew (subs items) (few-come items p ms c h)) [] owners kept
         owners-among (owned-apart items owners owned) can.places kept-run)
 
     apart : Pairwise AreApart (map (λ (s : Seat). s.task.name) c.seats.items)

@@ -8,7 +8,6 @@ use Rattle.ksql_types.specs.declared.relation.TaskName.{TaskName}
 use Rattle.ksql_place.specs.declared.change.SourceRecord.{SourceRecord}
 use Rattle.ksql_program.specs.Sound.{IsSound}
 use Rattle.ksql_program.specs.declared.program.Item.{Item}
-use Rattle.meaning_laws.specs.Windows.{HaveNoWindow}
 use Rattle.meaning_laws.proofs.Lists.{Pairwise}
 use Rattle.topology.specs.Tasks.{tasks_of}
 use Rattle.topology.specs.Topologies.{subs, topology_of}
@@ -159,37 +158,37 @@ module _ (r : Routes) (lost : Option ℕ) (b : Shelves) (bound : TaskName → �
 
 -- ---- a cluster's round
 
-module _ (items : List Item) (order : List SourceRecord) (sound : IsSound items) (windowless : HaveNoWindow items) (fits : Fits items order)
+module _ (items : List Item) (order : List SourceRecord) (sound : IsSound items) (fits : Fits items order)
     (b : Shelves) (topics : topics_of b ≡ (topology_of items).topics) (p : Progress) (fed : b.fed ≡ p.fed)
     (dones : (u : TaskName) → Contains (tasks_of (subs items)) u → (shelf_of b).done u ≡ p.done u) where
   -- the broker closes each topic up to the feed that the numbers say
-  pub closed-same : (topic : ℕ) → shelf_closed (top items order sound windowless fits).routes (shelf_of b) topic ≡ progress.closed (topology_of items) p topic
+  pub closed-same : (topic : ℕ) → shelf_closed (top items order sound fits).routes (shelf_of b) topic ≡ progress.closed (topology_of items) p topic
   closed-same topic =
-      lowest-same b.fed p.fed (shelf_of b).done p.done ((top items order sound windowless fits).routes.writers topic) fed
-      (λ w at. dones w ((means items order sound windowless fits).written_by topic w at).0)
+      lowest-same b.fed p.fed (shelf_of b).done p.done ((top items order sound fits).routes.writers topic) fed
+      (λ w at. dones w ((means items order sound fits).written_by topic w at).0)
 
-  core-bound : (ms : List Moved) (u : TaskName) → core.bound (top items order sound windowless fits) (on_shelf (shelf_of b) ms) u ≡ progress.bound (topology_of items) p u
+  core-bound : (ms : List Moved) (u : TaskName) → core.bound (top items order sound fits) (on_shelf (shelf_of b) ms) u ≡ progress.bound (topology_of items) p u
   core-bound ms u =
-      lowest-map b.fed (core.closed (top items order sound windowless fits).routes (on_shelf (shelf_of b) ms)) (λ (i : SubInput). i.topic) (inputs_at (topology_of items) u)
-      ∙ lowest-same b.fed p.fed (λ (i : SubInput). core.closed (top items order sound windowless fits).routes (on_shelf (shelf_of b) ms) i.topic)
+      lowest-map b.fed (core.closed (top items order sound fits).routes (on_shelf (shelf_of b) ms)) (λ (i : SubInput). i.topic) (inputs_at (topology_of items) u)
+      ∙ lowest-same b.fed p.fed (λ (i : SubInput). core.closed (top items order sound fits).routes (on_shelf (shelf_of b) ms) i.topic)
       (λ (i : SubInput). progress.closed (topology_of items) p i.topic) (inputs_at (topology_of items) u) fed (λ i at. closed-same i.topic)
 
   -- each task is ready
   pub all-ready : (front : List Moved) (ss : List Seat) → AreRunning items order (shelf_of b) (front ++ map (λ (s : Seat). idle s.task) ss) →
-      AllByRecursion (IsReady (top items order sound windowless fits).routes b (progress.bound (topology_of items) p)) ss
+      AllByRecursion (IsReady (top items order sound fits).routes b (progress.bound (topology_of items) p)) ss
   all-ready front [] run = tt
   all-ready front (s ∷ ss) run = (
     record {
-      writes = (means items order sound windowless fits).writes s.task.name (is items order sound windowless fits b topics front s.task (map (λ (x : Seat). idle x.task) ss) run);
-      step = (step items order sound windowless fits b topics front s.task (map (λ (x : Seat). idle x.task) ss) run).0;
-      goes = bound-same items order sound windowless fits b topics front s.task (map (λ (x : Seat). idle x.task) ss) run
+      writes = (means items order sound fits).writes s.task.name (is items order sound fits b topics front s.task (map (λ (x : Seat). idle x.task) ss) run);
+      step = (step items order sound fits b topics front s.task (map (λ (x : Seat). idle x.task) ss) run).0;
+      goes = bound-same items order sound fits b topics front s.task (map (λ (x : Seat). idle x.task) ss) run
           ∙ core-bound (front ++ idle s.task ∷ map (λ (x : Seat). idle x.task) ss) s.task.name;
     },
     all-ready (front ++ idle s.task ∷ []) ss (subst (AreRunning items order (shelf_of b)) (sym (append_assoc front (idle s.task ∷ []) (map (λ (x : Seat). idle x.task) ss))) run),
   )
 
   -- what a task's offer is noted as
-  one-noted : (lost : Option ℕ) (s : Seat) (x : Ran) → HasRun b s x → IsReady (top items order sound windowless fits).routes b (progress.bound (topology_of items) p) s → s.task.done ≡ p.done s.task.name →
+  one-noted : (lost : Option ℕ) (s : Seat) (x : Ran) → HasRun b s x → IsReady (top items order sound fits).routes b (progress.bound (topology_of items) p) s → s.task.done ≡ p.done s.task.name →
       noted (offered lost x) ≡ (if takes_part lost (Some s.worker) then progress.committed (topology_of items) p s.task.name else [])
   one-noted lost s x ran ready done = ap (λ (w : ℕ). noted (if is_with w lost then None else x.moved.proposal)) ran.worker ∙ part (is_with s.worker lost)
     where
@@ -212,7 +211,7 @@ module _ (items : List Item) (order : List SourceRecord) (sound : IsSound items)
 
   -- what a round notes
   pub all-noted : (lost : Option ℕ) (ss : List Seat) (rs : List Ran) → AllZip (HasRun b) ss rs →
-      AllByRecursion (IsReady (top items order sound windowless fits).routes b (progress.bound (topology_of items) p)) ss → AllByRecursion (λ (s : Seat). s.task.done ≡ p.done s.task.name) ss →
+      AllByRecursion (IsReady (top items order sound fits).routes b (progress.bound (topology_of items) p)) ss → AllByRecursion (λ (s : Seat). s.task.done ≡ p.done s.task.name) ss →
       flat_map noted (map (offered lost) rs) ≡ flat_map (λ (o : Owned). if takes_part lost (Some o.worker) then progress.committed (topology_of items) p o.task else []) (map owned_of ss)
   all-noted lost [] [] zip ready dones = refl
   all-noted lost [] (x ∷ rs) zip ready dones = absurd zip

@@ -7,7 +7,6 @@ use Rattle.ksql_types.specs.declared.relation.TaskName.{TaskName}
 use Rattle.ksql_types.specs.declared.topic.TopicSpec.{TopicSpec}
 use Rattle.ksql_program.specs.Sound.{IsSound}
 use Rattle.ksql_program.specs.declared.program.Item.{Item}
-use Rattle.meaning_laws.specs.Windows.{HaveNoWindow}
 use Rattle.meaning_laws.proofs.Lists.{Pairwise, all-from_pairwise}
 use Rattle.topology.specs.Tasks.{chain_of, tasks_of}
 use Rattle.topology.specs.Topologies.{subs, topology_of}
@@ -86,7 +85,7 @@ pairs-of-seats (s ∷ ss) pairs = (
   pairs-of-seats ss pairs.1,
 )
 
-module _ (items : List Item) (p : Progress) (c : Cluster) (sound : IsSound items) (windowless : HaveNoWindow items) (h : HasCome items p c) where
+module _ (items : List Item) (p : Progress) (c : Cluster) (sound : IsSound items) (h : HasCome items p c) where
   abbrev waiting : List Moved
   waiting = map (λ (s : Seat). idle s.task) c.seats.items
 
@@ -101,22 +100,22 @@ module _ (items : List Item) (p : Progress) (c : Cluster) (sound : IsSound items
   advance-ready has =
       let fits = h.progress.order in
       All-from_recursion (λ (s : Seat). CanAdvance c.broker s.task) c.seats.items
-      (all-can-advance items p.order sound windowless fits c.broker topics has
-      (can-be-stored items p.order sound windowless fits.fed h.texts fits.in_time fits.short fits.text) [] c.seats.items runs)
+      (all-can-advance items p.order sound fits c.broker topics has
+      (can-be-stored items p.order sound fits.fed h.texts fits.in_time fits.short fits.text) [] c.seats.items runs)
 
   module _ (lost : Option ℕ) (rs : List Ran) (ran : AllZip (HasRun c.broker) c.seats.items rs) where
     run : AreRunning items p.order (shelf_of c.broker) (map (λ (r : Ran). r.moved) rs)
-    run = all-advanced items p.order sound windowless h.progress.order c.broker topics [] c.seats.items rs ran runs
+    run = all-advanced items p.order sound h.progress.order c.broker topics [] c.seats.items rs ran runs
 
     -- each proposal can be committed
     pub commit-ready : All (λ o. IfSome o (CanCommit (routes_in c.broker) (shelf_of c.broker))) (map (offered lost) rs)
     commit-ready =
         All-from_recursion (λ (o : Option Proposal). IfSome o (CanCommit (routes_in c.broker) (shelf_of c.broker))) (map (offered lost) rs)
         (subst (λ (ts : List TopicSpec). AllByRecursion (λ (o : Option Proposal). IfSome o (CanCommit (routes_of ts) (shelf_of c.broker))) (map (offered lost) rs)) (sym topics)
-        (all-can-commit items p.order sound windowless h.progress.order (shelf_of c.broker) lost (results-rising items p.order sound windowless h.progress.order.fed) [] rs run))
+        (all-can-commit items p.order sound h.progress.order (shelf_of c.broker) lost (results-rising items p.order sound h.progress.order.fed) [] rs run))
 
     pub commit-apart : AllPairs ProposeApart (map (offered lost) rs)
-    commit-apart = all-from_pairwise ProposeApart (map (offered lost) rs) (offers-apart items p.order sound windowless h.progress.order (shelf_of c.broker) lost rs run)
+    commit-apart = all-from_pairwise ProposeApart (map (offered lost) rs) (offers-apart items p.order sound h.progress.order (shelf_of c.broker) lost rs run)
 
     -- ---- after the commits
 
@@ -126,7 +125,7 @@ module _ (items : List Item) (p : Progress) (c : Cluster) (sound : IsSound items
       settles = subst (λ (ts : List TopicSpec). AllSettle (routes_of ts) (map (offered lost) rs) (shelf_of c.broker) (shelf_of next.broker)) topics is.settled
 
       ready : AllByRecursion (IsReady (routes_of (topology_of items).topics) c.broker (bound (topology_of items) p)) c.seats.items
-      ready = all-ready items p.order sound windowless h.progress.order c.broker topics p h.fed (done-come items p waiting c h) [] c.seats.items runs
+      ready = all-ready items p.order sound h.progress.order c.broker topics p h.fed (done-come items p waiting c h) [] c.seats.items runs
 
       same-done : (ss : List Seat) → AllByRecursion (λ (s : Seat). (shelf_of c.broker).done s.task.name ≡ (shelf_of c.broker).done s.task.name) ss
       same-done [] = tt
@@ -141,7 +140,7 @@ module _ (items : List Item) (p : Progress) (c : Cluster) (sound : IsSound items
       done-next u among =
           commits-done (routes_of (topology_of items).topics) lost c.broker (bound (topology_of items) p) c.seats.items rs ran ready
           (all-mapped IsNamed (λ (r : Ran). r.moved) rs run.named) (pairs-of-seats c.seats.items runs.apart) (shelf_of c.broker) (shelf_of next.broker)
-          (same-done c.seats.items) settles u ((means items p.order sound windowless h.progress.order).writes u among)
+          (same-done c.seats.items) settles u ((means items p.order sound h.progress.order).writes u among)
           ∙ ap (λ (os : List Owned). if takes_part lost (owner_of os u) then bound (topology_of items) p u else (shelf_of c.broker).done u) h.owners
           ∙ ap (λ (n : ℕ). if takes_part lost (owner_of p.owners u) then bound (topology_of items) p u else n) (done-come items p waiting c h u among)
 
@@ -159,11 +158,11 @@ module _ (items : List Item) (p : Progress) (c : Cluster) (sound : IsSound items
               live = is.live ∙ h.live;
               owners = ap (map owned_of) is.seats ∙ ran-owners c.broker c.seats.items rs ran ∙ h.owners;
               running = ran-tasks lost rs ∙ sym (ap (map (λ (s : Seat). s.task)) is.seats);
-              run = all-settled items p.order sound windowless h.progress.order lost [] rs (shelf_of c.broker) (shelf_of next.broker) settles run;
+              run = all-settled items p.order sound h.progress.order lost [] rs (shelf_of c.broker) (shelf_of next.broker) settles run;
               fed = settle-fed (routes_in c.broker) (map (offered lost) rs) (shelf_of c.broker) (shelf_of next.broker) is.settled ∙ h.fed;
               newest = λ u among.
                   all-newest (routes_of (topology_of items).topics) (map (offered lost) rs) (shelf_of c.broker) (shelf_of next.broker) u
-                  ((means items p.order sound windowless h.progress.order).writes u among) settles
+                  ((means items p.order sound h.progress.order).writes u among) settles
                   ∙ newest-come items p waiting c h u among;
               done = done-next;
               rounds = is.rounds ∙ ap (λ n. n + 1) h.rounds;
@@ -181,7 +180,7 @@ module _ (items : List Item) (p : Progress) (c : Cluster) (sound : IsSound items
 
           noted-next : flat_map noted (map (offered lost) rs) ≡ flat_map (λ (o : Owned). if takes_part lost (Some o.worker) then committed (topology_of items) p o.task else []) p.owners
           noted-next =
-              all-noted items p.order sound windowless h.progress.order c.broker topics p h.fed (done-come items p waiting c h) lost c.seats.items rs ran ready
+              all-noted items p.order sound h.progress.order c.broker topics p h.fed (done-come items p waiting c h) lost c.seats.items rs ran ready
               (own-done c.seats.items runs.among (steps c.seats.items ready))
               ∙ ap (flat_map (λ (o : Owned). if takes_part lost (Some o.worker) then committed (topology_of items) p o.task else [])) h.owners
 

@@ -10,7 +10,6 @@ use Rattle.ksql_program.specs.Sound.{IsSound}
 use Rattle.ksql_program.specs.declared.program.Item.{Item}
 use Rattle.ksql_nodes.specs.declared.node.Node.{Node}
 use Rattle.ksql_nodes.proofs.Lists.{All-append}
-use Rattle.meaning_laws.specs.Windows.{HaveNoWindow}
 use Rattle.meaning_laws.proofs.Lists.{All-weaker, Pairwise}
 use Rattle.topology.specs.Tasks.{tasks_of}
 use Rattle.topology.specs.Topologies.{subs, topology_of}
@@ -60,7 +59,7 @@ names-along : (front : List Moved) (m : Moved) (us : List TaskName) → map (λ 
 names-along [] m us = refl
 names-along (x ∷ front) m us = ap (λ vs. x.task.name ∷ vs) (names-along front m us)
 
-module _ (items : List Item) (order : List SourceRecord) (sound : IsSound items) (windowless : HaveNoWindow items) (fits : Fits items order) where
+module _ (items : List Item) (order : List SourceRecord) (sound : IsSound items) (fits : Fits items order) where
   -- ---- one task
 
   module _ (b : Shelf) (front back : List Moved) (u : TaskName) (among : Contains (tasks_of (subs items)) u) (few : All HasFewAggregates (nodes_at (topology_of items) u))
@@ -76,11 +75,11 @@ module _ (items : List Item) (order : List SourceRecord) (sound : IsSound items)
         All-weaker (λ (m : Moved). AreApart m.task.name u) (λ (m : Moved). AreApart u m.task.name) (λ m other same. other (sym same)) back
         (all-after (λ (m : Moved). AreApart m.task.name u) front back apart)
 
-    good : Good (top items order sound windowless fits) (d items order sound windowless fits) (on_shelf b (front ++ made ∷ back))
+    good : Good (top items order sound fits) (d items order sound fits) (on_shelf b (front ++ made ∷ back))
     good =
-        restore-keeps (top items order sound windowless fits) (d items order sound windowless fits) (means items order sound windowless fits) u among
+        restore-keeps (top items order sound fits) (d items order sound fits) (means items order sound fits) u among
         (on_shelf b (front ++ back)) (on_shelf b (front ++ made ∷ back)) run.good
-        (restored (top items order sound windowless fits) (means items order sound windowless fits).writes u among (parts_of b (front ++ back)) (parts_of b (front ++ made ∷ back))
+        (restored (top items order sound fits) (means items order sound fits).writes u among (parts_of b (front ++ back)) (parts_of b (front ++ made ∷ back))
         (record { instance = λ v writes other. sym (instance-without front made back v other); held = λ v writes other. refl })
         (λ i is. absurd (none-some i (sym (instance-none (front ++ back) u apart) ∙ is))) refl (instance-here front made back before) refl).1
 
@@ -148,10 +147,10 @@ module _ (items : List Item) (order : List SourceRecord) (sound : IsSound items)
 
   -- each task of the program can be made anew, whoever runs
   pub can-restore : (b : Shelf) (running : List Moved) → AreRunning items order b running → (o : Owned) → Contains (tasks_of (subs items)) o.task →
-      CanRestore (topology_of items) (top items order sound windowless fits).routes b o
+      CanRestore (topology_of items) (top items order sound fits).routes b o
   can-restore b running run o among = record {
-    writer = (means items order sound windowless fits).writes o.task among;
+    writer = (means items order sound fits).writes o.task among;
     sub = slice_get_within (subs items) o.task.sub (sub-at items sound o.task among).0 (sub-got items sound o.task among);
-    operators = task-operators items sound windowless o.task;
+    operators = task-operators items sound o.task;
     loadable = (run.good.good_tasks o.task among).logs_load;
   }

@@ -15,7 +15,6 @@ use Rattle.ksql_program.specs.declared.program.Item.{Item}
 use Rattle.ksql_nodes.specs.declared.node.Node.{Node}
 use Rattle.ksql_nodes.specs.Entries.{Entry, through}
 use Rattle.ksql_nodes.specs.Nodes.{gives}
-use Rattle.meaning_laws.specs.Windows.{HaveNoWindow}
 use Rattle.meaning_laws.proofs.Lists.{Pairwise, Pairwise-from_all, all-from_pairwise}
 use Rattle.topology.specs.Contents.{task_entries}
 use Rattle.topology.specs.Contents as topology
@@ -60,7 +59,7 @@ unfolding given
 given-through [] es = refl
 given-through (n ∷ ns) es = given-through ns _
 
-module _ (items : List Item) (order : List SourceRecord) (sound : IsSound items) (windowless : HaveNoWindow items) (fits : Fits items order) where
+module _ (items : List Item) (order : List SourceRecord) (sound : IsSound items) (fits : Fits items order) where
   abbrev t : Topology
   t = topology_of items
 
@@ -113,7 +112,7 @@ module _ (items : List Item) (order : List SourceRecord) (sound : IsSound items)
 
     all-are : all_of u ≡ task_entries sub.inputs (topology.contents items t order) u.part
     all-are =
-        inputs-agree items order sound windowless fits.fed (nodes_at t u) (inputs_at t u) u.part (reads-in items sound u is) (λ i reads writes. same-contents items order sound windowless fits.fed i writes)
+        inputs-agree items order sound fits.fed (nodes_at t u) (inputs_at t u) u.part (reads-in items sound u is) (λ i reads writes. same-contents items order sound fits.fed i writes)
         ∙ ap (λ inputs. task_entries inputs (topology.contents items t order) u.part) (inputs-are items sound u is)
 
     -- what a task reads next can be stored after what it read

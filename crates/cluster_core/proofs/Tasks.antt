@@ -10,7 +10,6 @@ use Rattle.ksql_program.specs.Sound.{IsSound}
 use Rattle.ksql_program.specs.declared.program.Item.{Item}
 use Rattle.ksql_nodes.specs.Entries.{Entry}
 use Rattle.operator.specs.Holding.{Maps}
-use Rattle.meaning_laws.specs.Windows.{HaveNoWindow}
 use Rattle.meaning_laws.proofs.Lists.{Pairwise}
 use Rattle.topology.specs.Tasks.{tasks_of}
 use Rattle.topology.specs.Topologies.{subs, topology_of}
@@ -61,7 +60,7 @@ front-apart (x ∷ front) m back pairs = (
   front-apart front m back pairs.1,
 )
 
-module _ (items : List Item) (order : List SourceRecord) (sound : IsSound items) (windowless : HaveNoWindow items) (fits : Fits items order) where
+module _ (items : List Item) (order : List SourceRecord) (sound : IsSound items) (fits : Fits items order) where
   abbrev pub t : Topology
   t = topology_of items
 
@@ -128,7 +127,7 @@ module _ (items : List Item) (order : List SourceRecord) (sound : IsSound items)
         writer = subst (IsWriter top.routes) (sym name) (means.writes m.task.name is-task);
         proposal = record {
           rises = due.rises;
-          ascends = subst (Rises change_cmp) (sym due.outputs) (results-rising items order sound windowless fits m.task.name is-task rises p.from p.to (omega (arith, due.rises)));
+          ascends = subst (Rises change_cmp) (sym due.outputs) (results-rising items order sound fits m.task.name is-task rises p.from p.to (omega (arith, due.rises)));
           within = subst (All (λ x. (p.from < feed_of x) × (feed_of x ≤ p.to))) (sym due.outputs) (means.within m.task.name is-task p.from p.to);
         };
         newest = stepped.0 ∙ newest ∙ sym (ap b.newest name);

@@ -5,7 +5,6 @@ ghost use Rattle.std.specs.List.Sorted.{IsStrictlyIncreasing};
 ghost use Rattle.ksql_types.specs.declared.relation.TaskName.{TaskName as OneTask};
 ghost use Rattle.ksql_program.specs.Sound.{IsSound};
 ghost use Rattle.ksql_program.specs.declared.program.Item.{Item as OneItem};
-ghost use Rattle.meaning_laws.specs.Windows.{HaveNoWindow};
 ghost use Rattle.topology.specs.Tasks.{chain_of};
 ghost use Rattle.topology.specs.Topologies.{topology_of};
 ghost use Rattle.feed_laws.specs.Fitting.{AreFilesOf};
@@ -45,7 +44,7 @@ pub struct Cluster {
 
 impl Cluster {
     /// A program's topology before its first step, with so many live workers and with the records of the topic files of its
-    /// declared relations, one file for each. The program is sound and has no window. A node of 2^32 aggregates, as no script
+    /// declared relations, one file for each. The program is sound. A node of 2^32 aggregates, as no script
     /// makes, is out of memory.
     pub fn new(
         alloc: Global,
@@ -55,7 +54,6 @@ impl Cluster {
         workers: u32,
     ) -> Result<Cluster, AllocError>
         requires sound { IsSound program.now.items }
-        requires windowless { HaveNoWindow program.now.items }
         requires topology { topology ≡ topology_of program.now.items }
         requires files { AreFilesOf program.now.items files.items }
         ensures { IfOk result (HasCome program.now.items (opening (topology_of program.now.items) program.now.items files.items workers)) }
@@ -72,7 +70,6 @@ impl Cluster {
         files: Vec<TopicLines>,
     ) -> Result<Cluster, AllocError>
         requires sound { IsSound program.now.items }
-        requires windowless { HaveNoWindow program.now.items }
         requires topology { topology ≡ topology_of program.now.items }
         requires files { AreFilesOf program.now.items files.items }
         ensures { IfOk result (HasCome program.now.items (before_workers program.now.items files.items)) }
@@ -98,8 +95,8 @@ impl Cluster {
     /// out of memory.
     pub fn step(self, alloc: Global, step: &Lined) -> Result<Cluster, AllocError>
         requires built { IsBuilt step.now.step }
-        requires come { (items : List OneItem) × (p : Progress) × IsSound items × HaveNoWindow items × HasCome items p self }
-        ensures { IfOk result (λ next. (items : List OneItem) (p : Progress) → IsSound items → HaveNoWindow items → HasCome items p self →
+        requires come { (items : List OneItem) × (p : Progress) × IsSound items × HasCome items p self }
+        ensures { IfOk result (λ next. (items : List OneItem) (p : Progress) → IsSound items → HasCome items p self →
             HasCome items (after_line self.topology p step.now) next) }
     {
         let mut cluster = self;
@@ -181,8 +178,8 @@ impl Cluster {
 
     /// The cluster after as many rounds as the longest path has.
     fn drained(self, alloc: Global) -> Result<Cluster, AllocError>
-        requires come { (items : List OneItem) × (p : Progress) × IsSound items × HaveNoWindow items × HasCome items p self }
-        ensures { IfOk result (λ next. (items : List OneItem) (p : Progress) → IsSound items → HaveNoWindow items → HasCome items p self →
+        requires come { (items : List OneItem) × (p : Progress) × IsSound items × HasCome items p self }
+        ensures { IfOk result (λ next. (items : List OneItem) (p : Progress) → IsSound items → HasCome items p self →
             HasCome items (rounds self.topology (chain_of self.topology.subs) p) next) }
     {
         let chain = self.chain;
@@ -195,8 +192,8 @@ impl Cluster {
 
     /// The cluster after a round in which a worker may be lost, and is then gone.
     fn round_losing(self, alloc: Global, lost: Option<u32>) -> Result<Cluster, AllocError>
-        requires come { (items : List OneItem) × (p : Progress) × IsSound items × HaveNoWindow items × HasCome items p self }
-        ensures { IfOk result (λ next. (items : List OneItem) (p : Progress) → IsSound items → HaveNoWindow items → HasCome items p self →
+        requires come { (items : List OneItem) × (p : Progress) × IsSound items × HasCome items p self }
+        ensures { IfOk result (λ next. (items : List OneItem) (p : Progress) → IsSound items → HasCome items p self →
             HasCome items (after_loss lost self.topology (round lost self.topology p)) next) }
     {
         let cluster = self.round(alloc, lost)?;
@@ -208,9 +205,9 @@ impl Cluster {
 
     /// The cluster after a round. What the tasks of a lost worker propose is lost; they are still where they were.
     fn round(self, alloc: Global, lost: Option<u32>) -> Result<Cluster, AllocError>
-        requires come { (items : List OneItem) × (p : Progress) × IsSound items × HaveNoWindow items × HasCome items p self }
+        requires come { (items : List OneItem) × (p : Progress) × IsSound items × HasCome items p self }
         ensures topology { IfOk result (λ next. next.topology ≡ self.topology) }
-        ensures next { IfOk result (λ next. (items : List OneItem) (p : Progress) → IsSound items → HaveNoWindow items → HasCome items p self →
+        ensures next { IfOk result (λ next. (items : List OneItem) (p : Progress) → IsSound items → HasCome items p self →
             (ms : List OneMoved) × HasComeWith items (round lost self.topology p) ms next × AllZip (IsIdleBut lost) next.seats.items ms) }
     {
         let Cluster {
@@ -245,8 +242,8 @@ impl Cluster {
 
     /// The cluster with another live worker.
     fn with(self, alloc: Global, worker: u32) -> Result<Cluster, AllocError>
-        requires come { (items : List OneItem) × (p : Progress) × IsSound items × HaveNoWindow items × HasCome items p self }
-        ensures { IfOk result (λ next. (items : List OneItem) (p : Progress) → IsSound items → HaveNoWindow items → HasCome items p self →
+        requires come { (items : List OneItem) × (p : Progress) × IsSound items × HasCome items p self }
+        ensures { IfOk result (λ next. (items : List OneItem) (p : Progress) → IsSound items → HasCome items p self →
             HasCome items (after_assignment self.topology (with_worker worker p.live) p) next) }
     {
         let live = with_worker(alloc, self.live.as_slice(), worker)?;
@@ -255,9 +252,9 @@ impl Cluster {
 
     /// The cluster without a worker. What its tasks proposed is lost.
     fn without(self, alloc: Global, worker: u32) -> Result<Cluster, AllocError>
-        requires come { (items : List OneItem) × (p : Progress) × (ms : List OneMoved) × IsSound items × HaveNoWindow items × HasComeWith items p ms self
+        requires come { (items : List OneItem) × (p : Progress) × (ms : List OneMoved) × IsSound items × HasComeWith items p ms self
             × AllZip (IsIdleBut (Some worker)) self.seats.items ms }
-        ensures { IfOk result (λ next. (items : List OneItem) (p : Progress) (ms : List OneMoved) → IsSound items → HaveNoWindow items → HasComeWith items p ms self →
+        ensures { IfOk result (λ next. (items : List OneItem) (p : Progress) (ms : List OneMoved) → IsSound items → HasComeWith items p ms self →
             AllZip (IsIdleBut (Some worker)) self.seats.items ms → HasCome items (after_assignment self.topology (without_worker worker p.live) p) next) }
     {
         let live = without_worker(alloc, self.live.as_slice(), worker)?;
@@ -267,9 +264,9 @@ impl Cluster {
     /// The cluster with other live workers, to which the tasks are assigned anew.
     fn assigned(self, alloc: Global, live: Vec<u32>) -> Result<Cluster, AllocError>
         requires rises { IsStrictlyIncreasing live.items }
-        requires come { (items : List OneItem) × (p : Progress) × (ms : List OneMoved) × IsSound items × HaveNoWindow items × HasComeWith items p ms self
+        requires come { (items : List OneItem) × (p : Progress) × (ms : List OneMoved) × IsSound items × HasComeWith items p ms self
             × AllZip (IsIdleAt live.items) self.seats.items ms }
-        ensures { IfOk result (λ next. (items : List OneItem) (p : Progress) (ms : List OneMoved) → IsSound items → HaveNoWindow items → HasComeWith items p ms self →
+        ensures { IfOk result (λ next. (items : List OneItem) (p : Progress) (ms : List OneMoved) → IsSound items → HasComeWith items p ms self →
             AllZip (IsIdleAt live.items) self.seats.items ms → HasCome items (after_assignment self.topology live.items p) next) }
     {
         let tasks = tasks_of(alloc, &self.topology)?;
@@ -283,8 +280,8 @@ impl Cluster {
 
     /// The cluster after a task is lost: it is made anew at its owner, where it has one.
     fn losing(self, alloc: Global, task: TaskName) -> Result<Cluster, AllocError>
-        requires come { (items : List OneItem) × (p : Progress) × IsSound items × HaveNoWindow items × HasCome items p self }
-        ensures { IfOk result (λ next. (items : List OneItem) (p : Progress) → IsSound items → HaveNoWindow items → HasCome items p self →
+        requires come { (items : List OneItem) × (p : Progress) × IsSound items × HasCome items p self }
+        ensures { IfOk result (λ next. (items : List OneItem) (p : Progress) → IsSound items → HasCome items p self →
             HasCome items (after_moves (is_task task) p.owners p) next) }
     {
         let owners = owners_of(alloc, self.seats.as_slice())?;
@@ -295,9 +292,9 @@ impl Cluster {
     /// The cluster after some tasks left their owners: each task that has one of these owners then, and no instance, is made
     /// anew.
     fn moved(self, alloc: Global, stays: &[bool], owners: &[Owned]) -> Result<Cluster, AllocError>
-        requires come { (items : List OneItem) × (p : Progress) × (ms : List OneMoved) × (leaves : OneTask → Bool) × IsSound items × HaveNoWindow items
+        requires come { (items : List OneItem) × (p : Progress) × (ms : List OneMoved) × (leaves : OneTask → Bool) × IsSound items
             × HasComeWith items p ms self × CanMove self.topology leaves stays.now owners.now self.seats.items ms }
-        ensures { IfOk result (λ next. (items : List OneItem) (p : Progress) (ms : List OneMoved) (leaves : OneTask → Bool) → IsSound items → HaveNoWindow items →
+        ensures { IfOk result (λ next. (items : List OneItem) (p : Progress) (ms : List OneMoved) (leaves : OneTask → Bool) → IsSound items →
             HasComeWith items p ms self → CanMove self.topology leaves stays.now owners.now self.seats.items ms → HasCome items (after_moves leaves owners.now p) next) }
     {
         let Cluster {
@@ -336,7 +333,6 @@ pub fn drive(
     schedule: &Schedule,
 ) -> Result<Cluster, AllocError>
     requires sound { IsSound program.now.items }
-    requires windowless { HaveNoWindow program.now.items }
     requires topology { topology ≡ topology_of program.now.items }
     requires files { AreFilesOf program.now.items files.items }
     requires built { All (λ l. IsBuilt l.step) schedule.now.steps }

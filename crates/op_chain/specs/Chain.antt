@@ -10,7 +10,7 @@ use Rattle.ksql_nodes.specs.Nodes.{gives}
 use Rattle.operator.specs.Holding.{Held, IsBaseOf, IsLoadable, Maps, committed, is_store_of, maps_of, no_maps, replayed}
 use Rattle.operator.specs.StandsFor.{StandsFor}
 use Rattle.operator.specs.Storable.{IsStorable}
-use Rattle.agg_ops.specs.Totals.{is_stream_aggregate, is_table_aggregate}
+use Rattle.agg_ops.specs.Totals.{is_stream_aggregate, is_table_aggregate, is_window_aggregate}
 use Rattle.join_ops.specs.Kinds.{is_stream_join, is_table_join}
 use Rattle.row_ops.specs.Kinds.{is_filter, is_rekey, is_select, is_table}
 use Rattle.op_chain.specs.declared.chain.Entry.{Entry as Taken}
@@ -58,10 +58,11 @@ MayLoad nodes entry = All (λ n. IsLoadable n (entry ∷ [])) nodes
 abbrev pub HaveOwnStores : List Node → Type 0
 HaveOwnStores nodes = AllPairs (λ n m. (number : ℕ) → IsTrue (is_store_of n number) → is_store_of m number ≡ false) nodes
 
--- a node that has an operator: any but a windowed aggregate
+-- a node that has an operator: any but an aggregate with a window that isn't sound, or with one over a table
 abbrev pub has_operator : Node → Bool
 has_operator n =
-    is_rekey n || is_table n || is_stream_join n || is_table_join n || is_filter n || is_stream_aggregate n || is_table_aggregate n || is_select n
+    is_rekey n || is_table n || is_stream_join n || is_table_join n || is_filter n || is_stream_aggregate n || is_table_aggregate n
+    || is_window_aggregate n || is_select n
 
 -- ---- operators in a row
 

@@ -44,7 +44,7 @@ impl Model for Chain {
 }
 
 impl Chain {
-    /// The operators of some nodes, before any entry. Each node has an operator: it is no windowed aggregate.
+    /// The operators of some nodes, before any entry. Each node has an operator: a window is sound, and over a stream.
     pub fn new(alloc: Global, nodes: &[Node]) -> Result<Chain, AllocError>
         requires { All (λ n. IsTrue (has_operator n)) nodes.now }
         ensures fresh { IfOk result (λ chain. chain ≡ at_rest nodes.now (maps_after nodes.now [])) }

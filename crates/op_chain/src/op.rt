@@ -5,7 +5,7 @@ ghost use Rattle.operator.specs.StandsFor.{StandsFor};
 ghost use Rattle.op_chain.specs.Chain.{has_operator};
 ghost use Rattle.op_chain.specs.declared.op.Op.TheVariants as ops;
 
-use agg_ops::{AggOp, TableAggOp};
+use agg_ops::{AggOp, TableAggOp, WindowAggOp};
 use join_ops::{StreamTableOp, TableTableOp};
 use ksql_nodes::Node;
 use ksql_place::Change;
@@ -24,6 +24,7 @@ pub enum Op {
     Filter(FilterOp),
     Agg(AggOp),
     TableAgg(TableAggOp),
+    WindowAgg(WindowAggOp),
     Select(SelectOp),
 }
 
@@ -51,6 +52,7 @@ impl Operator for Op {
       | ops.Filter op ↦ ⟦<FilterOp as Operator>⟧.node op
       | ops.Agg op ↦ ⟦<AggOp as Operator>⟧.node op
       | ops.TableAgg op ↦ ⟦<TableAggOp as Operator>⟧.node op
+      | ops.WindowAgg op ↦ ⟦<WindowAggOp as Operator>⟧.node op
       | ops.Select op ↦ ⟦<SelectOp as Operator>⟧.node op
     ] };
 
@@ -62,6 +64,7 @@ impl Operator for Op {
       | ops.Filter op ↦ ⟦<FilterOp as Operator>⟧.held op
       | ops.Agg op ↦ ⟦<AggOp as Operator>⟧.held op
       | ops.TableAgg op ↦ ⟦<TableAggOp as Operator>⟧.held op
+      | ops.WindowAgg op ↦ ⟦<WindowAggOp as Operator>⟧.held op
       | ops.Select op ↦ ⟦<SelectOp as Operator>⟧.held op
     ] };
 
@@ -73,6 +76,7 @@ impl Operator for Op {
       | ops.Filter op ↦ ⟦<FilterOp as Operator>⟧.failed op
       | ops.Agg op ↦ ⟦<AggOp as Operator>⟧.failed op
       | ops.TableAgg op ↦ ⟦<TableAggOp as Operator>⟧.failed op
+      | ops.WindowAgg op ↦ ⟦<WindowAggOp as Operator>⟧.failed op
       | ops.Select op ↦ ⟦<SelectOp as Operator>⟧.failed op
     ] };
 
@@ -91,6 +95,7 @@ impl Operator for Op {
             Op::Filter(op) => op.step(alloc, side, change, out),
             Op::Agg(op) => op.step(alloc, side, change, out),
             Op::TableAgg(op) => op.step(alloc, side, change, out),
+            Op::WindowAgg(op) => op.step(alloc, side, change, out),
             Op::Select(op) => op.step(alloc, side, change, out),
         }
     }
@@ -104,6 +109,7 @@ impl StoredOperator for Op {
             Op::TableTable(op) => op.changes(alloc),
             Op::Agg(op) => op.changes(alloc),
             Op::TableAgg(op) => op.changes(alloc),
+            Op::WindowAgg(op) => op.changes(alloc),
             // These have no stores.
             Op::Rekey(_) | Op::Filter(_) | Op::Select(_) => Ok(Changelog::of(Vec::new(alloc))),
         }
@@ -116,6 +122,7 @@ impl StoredOperator for Op {
             Op::TableTable(op) => op.load(alloc, log),
             Op::Agg(op) => op.load(alloc, log),
             Op::TableAgg(op) => op.load(alloc, log),
+            Op::WindowAgg(op) => op.load(alloc, log),
             Op::Rekey(_) | Op::Filter(_) | Op::Select(_) => Ok(()),
         }
     }
@@ -143,8 +150,13 @@ fn operator_of(alloc: Global, node: &Node) -> Result<Op, AllocError>
             window: None,
             ..
         } => Ok(Op::TableAgg(TableAggOp::new(alloc, node)?)),
+        Node::Aggregate {
+            over: Kind::Stream,
+            window: Some(_),
+            ..
+        } => Ok(Op::WindowAgg(WindowAggOp::new(alloc, node)?)),
         Node::Select { .. } => Ok(Op::Select(SelectOp::new(alloc, node)?)),
-        // No operator is for a windowed aggregate.
+        // Windows are over streams alone.
         Node::Aggregate { .. } => unreachable!(),
     }
 }

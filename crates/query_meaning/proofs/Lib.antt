@@ -1,3 +1,4 @@
 pub mod ChangeByChange
 pub mod EachBuilt
+pub mod EachWindowless
 pub mod QuerySteps

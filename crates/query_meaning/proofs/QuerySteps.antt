@@ -26,7 +26,7 @@ use Rattle.ksql_nodes.specs.Entries.{Entry, Step, from_side, results, through}
 use Rattle.ksql_nodes.specs.Nodes.{gives}
 use Rattle.ksql_nodes.specs.TableAggregates.{aggregate_of_table}
 use Rattle.node_steps.specs.Steps.{is_run}
-use Rattle.query_meaning.specs.Built.{is_built_shape}
+use Rattle.query_meaning.specs.Windowless.{is_windowless_shape}
 use Rattle.query_meaning.specs.Plain.{changes_of, grouping_steps, joined_changes, plain_gives}
 use Rattle.query_meaning.specs.Queries.{after_aggregate, changes_at, entry_cmp, filter_of, join_of, join_over, key_columns, kind_at, leftmost, partitions_at, query_changes, read_entries, shape_steps, side_at, steps_of, whole_changes}
 use Rattle.query_meaning.specs.declared.meaning.Listed.{Listed}
@@ -131,11 +131,11 @@ no-window (Some w) h = cc
 
 -- a shape with a grouping: its groups, and then HAVING and the items
 pub shape-grouped : (n : ℕ) (over : Kind) (shape : Shape) (keys : List Typed) (window : Option Window) (aggs : List Agg) (having : Option Typed) (values : List Typed)
-    (changes : List Change) → shape ≡ Group keys window aggs having values → IsTrue (is_built_shape shape) →
+    (changes : List Change) → shape ≡ Group keys window aggs having values → IsTrue (is_windowless_shape shape) →
     through (shape_steps n over shape) (from_side 0 changes)
     ≡ through (map (gives n) (after_aggregate having values)) (from_side 0 (through (grouping_steps n over keys aggs) (from_side 0 changes)))
 shape-grouped n over shape keys window aggs having values changes is built =
-    let none : window ≡ None = no-window window (subst (λ (s : Shape). IsTrue (is_built_shape s)) is built) in
+    let none : window ≡ None = no-window window (subst (λ (s : Shape). IsTrue (is_windowless_shape s)) is built) in
     ap (λ (s : Shape). through (shape_steps n over s) (from_side 0 changes)) (is ∙ ap (λ (w : Option Window). Group keys w aggs having values) none)
     ∙ ap (λ (steps : List Step). through steps (from_side 0 changes)) (grouped-steps n over keys aggs having values)
     ∙ through-append (grouping_steps n over keys aggs) (map (gives n) (after_aggregate having values)) changes

@@ -1,36 +1,18 @@
--- The forms that are run as yet: streams and tables of JSON values, and queries without windows.
-use Rattle.std.specs.Prelude.{ℕ, ◌+◌, Bool, true, false, not, ◌&&◌, if◌then◌else◌, IsTrue, List, [], ◌∷◌, Option, Some, None, is_none}
+-- The forms that are run as yet: streams and tables of JSON values.
+use Rattle.std.specs.Prelude.{ℕ, ◌+◌, Bool, true, false, if◌then◌else◌, IsTrue, List, [], ◌∷◌, Option, Some, None, is_none}
 use Rattle.ksql_types.specs.declared.relation.Format.{Format}
 use Rattle.ksql_types.specs.declared.relation.Format.TheVariants.{Json, Delimited}
-use Rattle.ksql_types.specs.declared.relation.Kind.{Kind}
-use Rattle.ksql_types.specs.declared.relation.Kind.TheVariants.{Windowed}
 use Rattle.ksql_types.specs.declared.relation.Relation.{Relation}
+use Rattle.ksql_program.specs.Program.{relation_of}
 use Rattle.ksql_program.specs.declared.program.Item.{Item}
-use Rattle.ksql_program.specs.declared.program.Item.TheVariants.{Declared, Started}
-use Rattle.ksql_program.specs.declared.query.Shape.{Shape}
-use Rattle.ksql_program.specs.declared.query.Shape.TheVariants.{Plain, Group}
-
-abbrev pub is_windowed : Kind → Bool
-is_windowed Windowed = true
-is_windowed _ = false
 
 abbrev pub is_json : Format → Bool
 is_json Json = true
 is_json Delimited = false
 
--- whether a relation is a stream or a table of JSON values
-abbrev pub is_built_relation : Relation → Bool
-is_built_relation r = not (is_windowed r.kind) && is_json r.format
-
--- whether a shape is run: one without a window
-abbrev pub is_built_shape : Shape → Bool
-is_built_shape (Plain keys values) = true
-is_built_shape (Group keys window aggs having values) = is_none window
-
--- whether an item is run
+-- whether an item is run: its relation has JSON values
 abbrev pub is_built : Item → Bool
-is_built (Declared r) = is_built_relation r
-is_built (Started q) = is_built_shape q.shape && is_built_relation q.out
+is_built i = is_json (relation_of i).format
 
 -- the number of the first of some items that isn't run, where the first of them has this number
 abbrev pub first_unbuilt_from : ℕ → List Item → Option ℕ

@@ -2,3 +2,4 @@ pub mod Built
 pub mod Meaning
 pub mod Plain
 pub mod Queries
+pub mod Windowless

@@ -6,6 +6,7 @@ mod meaning;
 mod plain;
 mod queries;
 mod steps;
+mod windowless;
 
 pub use built::first_unbuilt;
 pub use ksql_nodes::{Node, Nodes, Side};
@@ -15,6 +16,7 @@ pub use ksql_program::{
 pub use ksql_types::Window;
 pub use meaning::{Listed, Lists, partition_of, slow_meaning};
 pub use operator::{Operator, StoredOperator};
+pub use windowless::have_no_window;
 
 #[cfg(test)]
 mod tests;

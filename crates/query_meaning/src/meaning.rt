@@ -1,7 +1,7 @@
-ghost use Rattle.std.specs.Prelude.{◌≡◌, ◌<◌, ◌≤◌, map, IfOk, IsTrue};
-ghost use Rattle.query_meaning.specs.Built.{is_built, is_built_relation, AreBuilt};
+ghost use Rattle.std.specs.Prelude.{◌≡◌, ◌<◌, ◌≤◌, not, map, IfOk, IsTrue};
 ghost use Rattle.query_meaning.specs.Meaning.{declared_changes, item_changes, meaning, partition_of};
 ghost use Rattle.query_meaning.specs.Plain.{changes_of};
+ghost use Rattle.query_meaning.specs.Windowless.{HaveNoWindow, is_windowed, is_windowless};
 
 use crate::queries::query_changes;
 use crate::steps::table_changes;
@@ -30,7 +30,7 @@ pub fn slow_meaning<'a>(
     program: &Program,
     order: &'a [SourceRecord],
 ) -> Result<Lists<'a>, AllocError>
-    requires built { AreBuilt program.now.items }
+    requires windowless { HaveNoWindow program.now.items }
     ensures { IfOk result (λ lists. map changes_of lists.items ≡ meaning program.now.items order.now) }
 {
     let mut lists = Vec::new(alloc);
@@ -60,7 +60,7 @@ fn item_changes<'a>(
     lists: &[Listed<'a>],
     item: &Item,
 ) -> Result<Listed<'a>, AllocError>
-    requires { IsTrue (is_built item.now) }
+    requires { IsTrue (is_windowless item.now) }
     ensures { IfOk result (λ listed. changes_of listed ≡ item_changes program.now.items order.now (map changes_of lists.now) item.now) }
 {
     match item {
@@ -78,7 +78,7 @@ fn declared_changes<'a>(
     relation: &Relation,
     order: &'a [SourceRecord],
 ) -> Result<Listed<'a>, AllocError>
-    requires { IsTrue (is_built_relation relation.now) }
+    requires { IsTrue (not (is_windowed relation.now.kind)) }
     ensures { IfOk result (λ listed. changes_of listed ≡ declared_changes relation.now order.now) }
 {
     let number = relation.number;

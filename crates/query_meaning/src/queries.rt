@@ -6,7 +6,7 @@ ghost use Rattle.ksql_place.specs.Ascending.{ascending};
 ghost use Rattle.ksql_nodes.specs.Entries.{from_side, results, through};
 ghost use Rattle.ksql_nodes.specs.TableAggregates.{aggregate_of_table};
 ghost use Rattle.node_steps.specs.Steps.{entry_of};
-ghost use Rattle.query_meaning.specs.Built.{is_built_shape};
+ghost use Rattle.query_meaning.specs.Windowless.{is_windowless_shape};
 ghost use Rattle.query_meaning.specs.Plain.{changes_of, grouping_steps, joined_changes, plain_gives, relation_of_side};
 ghost use Rattle.query_meaning.specs.Queries.{changes_at, entry_cmp, join_over, key_columns, kind_at, leftmost, partitions_at, query_changes, shape_steps, side_at, whole_changes};
 
@@ -33,7 +33,7 @@ pub fn query_changes(
     lists: &[Listed],
     query: &Query,
 ) -> Result<Vec<Change>, AllocError>
-    requires { IsTrue (is_built_shape query.now.shape) }
+    requires { IsTrue (is_windowless_shape query.now.shape) }
     ensures { IfOk result (λ changes. changes.items ≡ query_changes program.now.items (map changes_of lists.now) query.now) }
 {
     match (&query.from, &query.shape) {
@@ -79,7 +79,7 @@ fn changes_by_steps(
     lists: &[Listed],
     query: &Query,
 ) -> Result<Vec<Change>, AllocError>
-    requires { IsTrue (is_built_shape query.now.shape) }
+    requires { IsTrue (is_windowless_shape query.now.shape) }
     ensures { IfOk result (λ changes. changes.items ≡ query_changes program.now.items (map changes_of lists.now) query.now) }
 {
     let number = leftmost(&query.from);
@@ -214,7 +214,7 @@ fn shape_changes(
     shape: &Shape,
     changes: Vec<Change>,
 ) -> Result<Vec<Change>, AllocError>
-    requires { IsTrue (is_built_shape shape.now) }
+    requires { IsTrue (is_windowless_shape shape.now) }
     ensures { IfOk result (λ made. made.items ≡ through (shape_steps lanes over shape.now) (from_side 0 changes.items)) }
 {
     match shape {

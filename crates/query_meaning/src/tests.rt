@@ -187,7 +187,7 @@ fn push_listed(
 }
 
 fn lines(alloc: Global, program: &Program, order: &[SourceRecord]) -> Result<String, Fail> {
-    if first_unbuilt(program).is_some() {
+    if !have_no_window(program) {
         return Err(Fail::from("a meaning"));
     }
     let lists = slow_meaning(alloc, program, order)?;
@@ -209,13 +209,13 @@ fn a_row_without_a_key_stays_in_its_records_partition(rt: HostRuntime) -> Result
 }
 
 #[test]
-fn a_windowed_table_has_no_meaning_yet(rt: HostRuntime) -> Result<(), Fail> {
+fn a_windowed_table_has_no_plain_meaning(rt: HostRuntime) -> Result<(), Fail> {
     let alloc = rt.alloc();
     let mut items = Vec::new(alloc);
     for (number, kind) in [(0, Kind::Stream), (1, Kind::Table), (2, Kind::Windowed)] {
         items.push(Item::Declared(relation(alloc, number, kind)?))?;
     }
     let items = Items::of(items);
-    assert!(rt; first_unbuilt(&Program { items }) == Some(3));
+    assert!(rt; !have_no_window(&Program { items }));
     Ok(())
 }

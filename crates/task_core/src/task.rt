@@ -56,7 +56,8 @@ pub struct Moved {
 }
 
 impl Task {
-    /// A task that went over nothing yet. Each node of the sub-topology has an operator: it is no windowed aggregate.
+    /// A task that went over nothing yet. Each node of the sub-topology has an operator: a window is sound, and
+    /// over a stream.
     pub fn fresh(
         alloc: Global,
         sub: &Sub,

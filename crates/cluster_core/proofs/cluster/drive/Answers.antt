@@ -22,7 +22,7 @@ step-requires c =
       built =
           subst (λ (l : Lined). IsBuilt l.step) (sym c.step-item.is)
           (subst (All (λ (l : Lined). IsBuilt l.step)) (sym c.items-step-items.ensures) c.requires.built c.loop-step.step-index c.step-item.result c.loop-step-test.true);
-      come = (items, driven.p, c.requires.sound, c.requires.windowless, driven.come);
+      come = (items, driven.p, c.requires.sound, driven.come);
     }
 
 pub loop-step-preserved : goal.loop-step-preserved
@@ -32,7 +32,7 @@ loop-step-preserved c =
     let lines : List Lined = c.items-step-items.result.now in
     let driven : IsDriven items files c.args.workers lines c.loop-step.step-index c.loop-step.cluster = c.loop-step.invariant in
     driven-next items files c.args.workers lines c.loop-step.step-index c.loop-step.cluster c.in_ok-cluster-2.cluster c.step-item.result c.loop-step-test.true c.step-item.is driven
-    (c.in_ok-cluster-2.ensures items driven.p c.requires.sound c.requires.windowless driven.come)
+    (c.in_ok-cluster-2.ensures items driven.p c.requires.sound driven.come)
 
 pub returns : goal.returns
 returns c =

@@ -1,22 +1,22 @@
 use Rattle.std.proofs.Common.{◌≡◌, ◌∙◌, ◌+◌, ◌++◌, ◌∷◌, [], ap, sym, subst, List, map, drop}
-use Rattle.std.specs.Prelude.{IsTrue, is_none}
+use Rattle.std.specs.Prelude.{IsTrue}
 use Rattle.std.proofs.lemmas.List.Elements.{All-from_recursion}
 use Rattle.std.proofs.lemmas.List.{at_drop_more, at_drop_all, map-append}
 use Rattle.ksql_place.specs.declared.change.Change.{Change}
 use Rattle.ksql_program.specs.declared.program.Item.{Item}
-use Rattle.query_meaning.specs.Built.{first_unbuilt_from, is_built}
 use Rattle.query_meaning.specs.Meaning.{meaning_from, item_changes}
 use Rattle.query_meaning.specs.Plain.{changes_of}
+use Rattle.query_meaning.specs.Windowless.{HaveNoWindow, is_windowless}
 use Rattle.query_meaning.specs.declared.meaning.Listed.{Listed}
-use Rattle.query_meaning.proofs.EachBuilt.{each-built}
+use Rattle.query_meaning.proofs.EachWindowless.{each-windowless}
 use Rattle.query_meaning.proofs.meaning.slow_meaning.Goals as goal
 
 pub item_changes-requires : goal.item_changes-requires
 item_changes-requires c =
     let listed = c.items-item-items.result.now in
-    let built = subst (λ (is : List Item). IsTrue (is_none (first_unbuilt_from 1 is))) (sym c.items-item-items.ensures) c.requires.built in
-    subst (λ (item : Item). IsTrue (is_built item)) (sym c.item-item.is)
-    (All-from_recursion (λ i. IsTrue (is_built i)) listed (each-built 1 listed built) c.loop-item.item-index c.item-item.result c.loop-item-test.true)
+    let windowless : HaveNoWindow listed = subst HaveNoWindow (sym c.items-item-items.ensures) c.requires.windowless in
+    subst (λ (item : Item). IsTrue (is_windowless item)) (sym c.item-item.is)
+    (All-from_recursion (λ i. IsTrue (is_windowless i)) listed (each-windowless listed windowless) c.loop-item.item-index c.item-item.result c.loop-item-test.true)
 
 pub loop-item-preserved : goal.loop-item-preserved
 unfolding meaning_from

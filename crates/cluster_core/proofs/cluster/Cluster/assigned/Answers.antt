@@ -29,10 +29,9 @@ moved-requires c =
         come.2,
         has_left come.1.owners owners,
         come.3,
-        come.4,
         same-come come.0 come.1 come.2 old _ live come.1.journal
-            (record { topology = refl; chain = refl; broker = refl; these = refl; seats = refl; sources = refl; rounds = refl; notes = come.5.journal }) c.requires.rises come.5,
-        assign-moves come.0 come.1 come.2 old come.5 live c.requires.rises come.6 owners c.as_slice-5.result.now is same,
+            (record { topology = refl; chain = refl; broker = refl; these = refl; seats = refl; sources = refl; rounds = refl; notes = come.4.journal }) c.requires.rises come.4,
+        assign-moves come.0 come.1 come.2 old come.4 live c.requires.rises come.5 owners c.as_slice-5.result.now is same,
       );
     }
 
@@ -48,10 +47,10 @@ returns c =
     let same : c.as_slice-5.result.now ≡ are_at owners old.seats.items =
     c.as_slice-5.ensures.value ∙ c.in_ok-stays.ensures ∙ (λ i. are_at ((c.items.ensures ∙ sym c.items-2.ensures) i) (c.as_slice-4.ensures.value i)) in
     ok-more c.moved.result
-    (λ next has items p ms sound windowless h idle.
+    (λ next has items p ms sound h idle.
     subst (λ (os : List Owned). HasCome items (after_moves (has_left p.owners os) os (record p { live = live })) next)
     (is ∙ ap (λ (os : List Owned). assignment os live (tasks_of old.topology.subs)) h.owners)
-    (has items (record p { live = live; journal = p.journal }) ms (has_left p.owners owners) sound windowless
+    (has items (record p { live = live; journal = p.journal }) ms (has_left p.owners owners) sound
     (same-come items p ms old _ live p.journal
     (record { topology = refl; chain = refl; broker = refl; these = refl; seats = refl; sources = refl; rounds = refl; notes = h.journal }) c.requires.rises h)
     (assign-moves items p ms old h live c.requires.rises idle owners c.as_slice-5.result.now is same)))

@@ -12,15 +12,15 @@ pub round-requires : goal.round-requires
 round-requires c =
     let come = c.requires.come in
     let n : ℕ = c.loop-turn._turn in
-    record { come = (come.0, rounds c.args.self.topology n come.1, come.2, come.3, c.loop-turn.invariant.come come.0 come.1 come.2 come.3 come.4) }
+    record { come = (come.0, rounds c.args.self.topology n come.1, come.2, c.loop-turn.invariant.come come.0 come.1 come.2 come.3) }
 
 pub loop-turn-preserved : goal.loop-turn-preserved
 loop-turn-preserved c = record {
   topology = c.in_ok-cluster.ensures.topology ∙ c.loop-turn.invariant.topology;
-  come = λ items p sound windowless h.
+  come = λ items p sound h.
       let t : Topology = c.args.self.topology in
       let n : ℕ = c.loop-turn._turn in
-      let next = c.in_ok-cluster.ensures.next items (rounds t n p) sound windowless (c.loop-turn.invariant.come items p sound windowless h) in
+      let next = c.in_ok-cluster.ensures.next items (rounds t n p) sound (c.loop-turn.invariant.come items p sound h) in
       subst (λ (q : Progress). HasCome items q c.in_ok-cluster.cluster) (sym (rounds-next t n p))
       (subst (λ (s : Topology). HasCome items (round None s (rounds t n p)) c.in_ok-cluster.cluster) c.loop-turn.invariant.topology
       (subst (λ (ms : List Moved). HasComeWith items (round None c.loop-turn.cluster.topology (rounds t n p)) ms c.in_ok-cluster.cluster)
@@ -28,6 +28,6 @@ loop-turn-preserved c = record {
 }
 
 pub returns : goal.returns
-returns c items p sound windowless h =
+returns c items p sound h =
     let end : c.loop-turn._turn ≡ c.args.self.chain = omega arith in
-    subst (λ n. HasCome items (rounds c.args.self.topology n p) c.loop-turn.cluster) (end ∙ h.chain) (c.loop-turn.invariant.come items p sound windowless h)
+    subst (λ n. HasCome items (rounds c.args.self.topology n p) c.loop-turn.cluster) (end ∙ h.chain) (c.loop-turn.invariant.come items p sound h)

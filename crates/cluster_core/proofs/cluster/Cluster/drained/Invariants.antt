@@ -1,7 +1,6 @@
 use Rattle.std.proofs.Common.{◌≡◌, List}
 use Rattle.ksql_program.specs.Sound.{IsSound}
 use Rattle.ksql_program.specs.declared.program.Item.{Item}
-use Rattle.meaning_laws.specs.Windows.{HaveNoWindow}
 use Rattle.cluster_core.specs.Cluster.{HasCome}
 use Rattle.cluster_core.specs.Progress.{Progress, rounds}
 use Rattle.cluster_core.proofs.cluster.Cluster.drained.Given as goal
@@ -10,5 +9,5 @@ use Rattle.cluster_core.proofs.cluster.Cluster.drained.Given as goal
 abbrev pub invariant-loop-turn : goal.invariant-loop-turn
 invariant-loop-turn l = record {
   topology : l.cluster.topology ≡ l.fn.self.topology;
-  come : (items : List Item) (p : Progress) → IsSound items → HaveNoWindow items → HasCome items p l.fn.self → HasCome items (rounds l.fn.self.topology l._turn p) l.cluster;
+  come : (items : List Item) (p : Progress) → IsSound items → HasCome items p l.fn.self → HasCome items (rounds l.fn.self.topology l._turn p) l.cluster;
 }

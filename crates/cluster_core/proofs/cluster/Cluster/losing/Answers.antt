@@ -21,8 +21,7 @@ moved-requires c =
         is_task c.args.task,
         come.2,
         come.3,
-        come.4,
-        can-lose come.0 come.1 old come.4 c.args.task c.as_slice-3.result.now c.items.result.now
+        can-lose come.0 come.1 old come.3 c.args.task c.as_slice-3.result.now c.items.result.now
             (c.as_slice-3.ensures.value ∙ c.in_ok-stays.ensures ∙ ap (map (λ (s : Seat). not (is_task c.args.task s.task.name))) c.as_slice-2.ensures.value)
             (c.items.ensures ∙ c.in_ok-owners.ensures ∙ ap (map owned_of) c.as_slice.ensures.value),
       );
@@ -33,9 +32,9 @@ returns c =
     let old : Cluster = c.args.self in
     let whole : c.items.result.now ≡ map owned_of old.seats.items = c.items.ensures ∙ c.in_ok-owners.ensures ∙ ap (map owned_of) c.as_slice.ensures.value in
     ok-more c.moved.result
-    (λ next has items p sound windowless h.
+    (λ next has items p sound h.
     subst (λ (os : List Owned). HasCome items (after_moves (is_task c.args.task) os p) next) (whole ∙ h.owners)
-    (has items p (map (λ (s : Seat). idle s.task) old.seats.items) (is_task c.args.task) sound windowless h
+    (has items p (map (λ (s : Seat). idle s.task) old.seats.items) (is_task c.args.task) sound h
     (can-lose items p old h c.args.task c.as_slice-3.result.now c.items.result.now
     (c.as_slice-3.ensures.value ∙ c.in_ok-stays.ensures ∙ ap (map (λ (s : Seat). not (is_task c.args.task s.task.name))) c.as_slice-2.ensures.value) whole)))
     c.moved.ensures

@@ -12,11 +12,11 @@ use Rattle.cluster_core.proofs.cluster.Cluster.moved.Goals as goal
 
 pub leave_all-requires-clause-writers : goal.leave_all-requires-clause-writers
 leave_all-requires-clause-writers c =
-    let come = c.requires.come in leave-ready come.0 come.1 come.2 c.args.self come.4 come.5 come.6 come.3 c.args.stays.now c.args.owners.now come.7
+    let come = c.requires.come in leave-ready come.0 come.1 come.2 c.args.self come.4 come.5 come.3 c.args.stays.now c.args.owners.now come.6
 
 pub leave_all-requires-clause-places : goal.leave_all-requires-clause-places
 leave_all-requires-clause-places c =
-    let come = c.requires.come in leave-places come.0 come.1 come.2 c.args.self come.4 come.5 come.6 come.3 c.args.stays.now c.args.owners.now come.7
+    let come = c.requires.come in leave-places come.0 come.1 come.2 c.args.self come.4 come.5 come.3 c.args.stays.now c.args.owners.now come.6
 
 pub seat_all-requires : goal.seat_all-requires
 seat_all-requires c =
@@ -24,10 +24,10 @@ seat_all-requires c =
     let left = c.in_ok-kept.ensures.left in
     let after = shelf_of c.leave_all.new.broker in
     subst (λ (ts : List TopicSpec). All (CanRestore c.args.self.topology (routes_of ts) after) c.args.owners.now) (sym c.in_ok-kept.ensures.topics)
-    (restore-ready come.0 come.1 come.2 c.args.self come.4 come.5 come.6 come.3 c.args.stays.now c.args.owners.now come.7 after left.0 left.1)
+    (restore-ready come.0 come.1 come.2 c.args.self come.4 come.5 come.3 c.args.stays.now c.args.owners.now come.6 after left.0 left.1)
 
 pub returns : goal.returns
-returns c items p ms leaves sound windowless h can =
+returns c items p ms leaves sound h can =
     let old : Cluster = c.args.self in
     let left = c.in_ok-kept.ensures.left in
     let after = shelf_of c.leave_all.new.broker in
@@ -41,7 +41,7 @@ returns c items p ms leaves sound windowless h can =
       rounds = old.rounds;
       journal = c.seat_all.new.journal;
     } in
-    after-moving items p ms old sound windowless h leaves c.args.stays.now c.args.owners.now can left.0 next
+    after-moving items p ms old sound h leaves c.args.stays.now c.args.owners.now can left.0 next
     (record {
       left = left.1;
       seats = c.in_ok-seats.ensures.seats ∙ ap (λ (kept : List (Option Seat)). seated old.topology after c.args.owners.now kept) c.in_ok-kept.ensures.kept;

@@ -24,7 +24,6 @@ assigned-requires-clause-come c =
       before_workers items c.args.files.items,
       map (λ (s : Seat). idle s.task) empty.seats.items,
       c.requires.sound,
-      c.requires.windowless,
       c.in_ok-empty.ensures,
       idle-live c.in_ok-first_workers.field-0.items empty.seats.items,
     )
@@ -39,6 +38,6 @@ returns c =
     (λ next has.
     subst (λ (live : List ℕ). HasCome items (after_assignment (topology_of items) live (before_workers items files)) next) c.in_ok-first_workers.ensures
     (subst (λ (t : Topology). HasCome items (after_assignment t c.in_ok-first_workers.field-0.items (before_workers items files)) next) come.topology
-    (has items (before_workers items files) (map (λ (s : Seat). idle s.task) empty.seats.items) c.requires.sound c.requires.windowless come
+    (has items (before_workers items files) (map (λ (s : Seat). idle s.task) empty.seats.items) c.requires.sound come
     (idle-live c.in_ok-first_workers.field-0.items empty.seats.items))))
     c.assigned.ensures

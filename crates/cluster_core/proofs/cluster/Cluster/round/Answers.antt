@@ -12,24 +12,24 @@ use Rattle.cluster_core.proofs.Topics.{are-topics}
 use Rattle.cluster_core.proofs.cluster.Cluster.round.Goals as goal
 
 pub ask_parts-requires-clause-topics : goal.ask_parts-requires-clause-topics
-ask_parts-requires-clause-topics c = c.requires.come.4.topics ∙ sym c.items.ensures
+ask_parts-requires-clause-topics c = c.requires.come.3.topics ∙ sym c.items.ensures
 
 pub ask_parts-requires-clause-numbered : goal.ask_parts-requires-clause-numbered
 ask_parts-requires-clause-numbered c =
     let come = c.requires.come in
-    subst AreTopics (ap (λ (t : Topology). t.topics) (sym come.4.topology) ∙ sym c.items.ensures) (are-topics come.0 come.2)
+    subst AreTopics (ap (λ (t : Topology). t.topics) (sym come.3.topology) ∙ sym c.items.ensures) (are-topics come.0 come.2)
 
 pub advance_all-requires : goal.advance_all-requires
-advance_all-requires c = let come = c.requires.come in advance-ready come.0 come.1 c.args.self come.2 come.3 come.4 c.ask_parts.ensures
+advance_all-requires c = let come = c.requires.come in advance-ready come.0 come.1 c.args.self come.2 come.3 c.ask_parts.ensures
 
 pub commit_all-requires-clause-each : goal.commit_all-requires-clause-each
-commit_all-requires-clause-each c = let come = c.requires.come in commit-ready come.0 come.1 c.args.self come.2 come.3 come.4 c.args.lost c.in_ok-rans.rans.items c.in_ok-rans.ensures
+commit_all-requires-clause-each c = let come = c.requires.come in commit-ready come.0 come.1 c.args.self come.2 come.3 c.args.lost c.in_ok-rans.rans.items c.in_ok-rans.ensures
 
 pub commit_all-requires-clause-apart : goal.commit_all-requires-clause-apart
-commit_all-requires-clause-apart c = let come = c.requires.come in commit-apart come.0 come.1 c.args.self come.2 come.3 come.4 c.args.lost c.in_ok-rans.rans.items c.in_ok-rans.ensures
+commit_all-requires-clause-apart c = let come = c.requires.come in commit-apart come.0 come.1 c.args.self come.2 come.3 c.args.lost c.in_ok-rans.rans.items c.in_ok-rans.ensures
 
 pub returns-clause-next : goal.returns-clause-next
-returns-clause-next c items p sound windowless h =
+returns-clause-next c items p sound h =
     let old : Cluster = c.args.self in
     let rans : List Ran = c.in_ok-rans.rans.items in
     let next : Cluster = record {
@@ -43,7 +43,7 @@ returns-clause-next c items p sound windowless h =
       journal = c.commit_all.new.journal;
     } in
     let made =
-    after-round items p old sound windowless h c.args.lost rans c.in_ok-rans.ensures next
+    after-round items p old sound h c.args.lost rans c.in_ok-rans.ensures next
     (record {
       ran = c.in_ok-rans.ensures;
       settled = c.in_ok-seats.ensures.settled;

@@ -17,9 +17,8 @@ round_losing-requires c =
         come.0,
         record come.1 { journal = come.1.journal ++ entry.Step c.args.step.now.line ∷ [] },
         come.2,
-        come.3,
         begun come.0 come.1 c.args.self _ c.args.step.now.line
-            (record { topology = refl; chain = refl; broker = refl; these = refl; seats = refl; sources = refl; rounds = refl; notes = c.in_ok-push.ensures.items }) come.4,
+            (record { topology = refl; chain = refl; broker = refl; these = refl; seats = refl; sources = refl; rounds = refl; notes = c.in_ok-push.ensures.items }) come.3,
       );
     }
 
@@ -31,9 +30,8 @@ with-requires c =
         come.0,
         record come.1 { journal = come.1.journal ++ entry.Step c.args.step.now.line ∷ [] },
         come.2,
-        come.3,
         begun come.0 come.1 c.args.self _ c.args.step.now.line
-            (record { topology = refl; chain = refl; broker = refl; these = refl; seats = refl; sources = refl; rounds = refl; notes = c.in_ok-push.ensures.items }) come.4,
+            (record { topology = refl; chain = refl; broker = refl; these = refl; seats = refl; sources = refl; rounds = refl; notes = c.in_ok-push.ensures.items }) come.3,
       );
     }
 
@@ -46,9 +44,8 @@ without-requires c =
         record come.1 { journal = come.1.journal ++ entry.Step c.args.step.now.line ∷ [] },
         map (λ (s : Seat). idle s.task) c.args.self.seats.items,
         come.2,
-        come.3,
         begun come.0 come.1 c.args.self _ c.args.step.now.line
-            (record { topology = refl; chain = refl; broker = refl; these = refl; seats = refl; sources = refl; rounds = refl; notes = c.in_ok-push.ensures.items }) come.4,
+            (record { topology = refl; chain = refl; broker = refl; these = refl; seats = refl; sources = refl; rounds = refl; notes = c.in_ok-push.ensures.items }) come.3,
         idle-but (Some c.in-Stop.worker) c.args.self.seats.items,
       );
     }
@@ -61,9 +58,8 @@ losing-requires c =
         come.0,
         record come.1 { journal = come.1.journal ++ entry.Step c.args.step.now.line ∷ [] },
         come.2,
-        come.3,
         begun come.0 come.1 c.args.self _ c.args.step.now.line
-            (record { topology = refl; chain = refl; broker = refl; these = refl; seats = refl; sources = refl; rounds = refl; notes = c.in_ok-push.ensures.items }) come.4,
+            (record { topology = refl; chain = refl; broker = refl; these = refl; seats = refl; sources = refl; rounds = refl; notes = c.in_ok-push.ensures.items }) come.3,
       );
     }
 
@@ -75,9 +71,8 @@ drained-requires c =
         come.0,
         record come.1 { journal = come.1.journal ++ entry.Step c.args.step.now.line ∷ [] },
         come.2,
-        come.3,
         begun come.0 come.1 c.args.self _ c.args.step.now.line
-            (record { topology = refl; chain = refl; broker = refl; these = refl; seats = refl; sources = refl; rounds = refl; notes = c.in_ok-push.ensures.items }) come.4,
+            (record { topology = refl; chain = refl; broker = refl; these = refl; seats = refl; sources = refl; rounds = refl; notes = c.in_ok-push.ensures.items }) come.3,
       );
     }
 
@@ -90,7 +85,7 @@ fed-requires c =
         record come.1 { journal = come.1.journal ++ entry.Step c.args.step.now.line ∷ [] },
         come.2,
         begun come.0 come.1 c.args.self _ c.args.step.now.line
-            (record { topology = refl; chain = refl; broker = refl; these = refl; seats = refl; sources = refl; rounds = refl; notes = c.in_ok-push.ensures.items }) come.4,
+            (record { topology = refl; chain = refl; broker = refl; these = refl; seats = refl; sources = refl; rounds = refl; notes = c.in_ok-push.ensures.items }) come.3,
       );
     }
 
@@ -103,63 +98,63 @@ fed-requires-in-Feed c =
         record come.1 { journal = come.1.journal ++ entry.Step c.args.step.now.line ∷ [] },
         come.2,
         begun come.0 come.1 c.args.self _ c.args.step.now.line
-            (record { topology = refl; chain = refl; broker = refl; these = refl; seats = refl; sources = refl; rounds = refl; notes = c.in_ok-push.ensures.items }) come.4,
+            (record { topology = refl; chain = refl; broker = refl; these = refl; seats = refl; sources = refl; rounds = refl; notes = c.in_ok-push.ensures.items }) come.3,
       );
     }
 
 pub returns-in-Round : goal.returns-in-Round
 returns-in-Round c = ok-more c.round_losing.result
-    (λ next has items p sound windowless h.
+    (λ next has items p sound h.
     let now : Progress = record p { journal = p.journal ++ entry.Step c.args.step.now.line ∷ [] } in
     subst (λ (s : Step). HasCome items (after_step c.args.self.topology now s) next) (sym c.in-Round.is)
-    (has items now sound windowless
+    (has items now sound
     (begun items p c.args.self _ c.args.step.now.line
     (record { topology = refl; chain = refl; broker = refl; these = refl; seats = refl; sources = refl; rounds = refl; notes = c.in_ok-push.ensures.items }) h)))
     c.round_losing.ensures
 
 pub returns-in-Start : goal.returns-in-Start
 returns-in-Start c = ok-more c.with.result
-    (λ next has items p sound windowless h.
+    (λ next has items p sound h.
     let now : Progress = record p { journal = p.journal ++ entry.Step c.args.step.now.line ∷ [] } in
     subst (λ (s : Step). HasCome items (after_step c.args.self.topology now s) next) (sym c.in-Start.is)
-    (has items now sound windowless
+    (has items now sound
     (begun items p c.args.self _ c.args.step.now.line
     (record { topology = refl; chain = refl; broker = refl; these = refl; seats = refl; sources = refl; rounds = refl; notes = c.in_ok-push.ensures.items }) h)))
     c.with.ensures
 
 pub returns-in-Stop : goal.returns-in-Stop
 returns-in-Stop c = ok-more c.without.result
-    (λ next has items p sound windowless h.
+    (λ next has items p sound h.
     let now : Progress = record p { journal = p.journal ++ entry.Step c.args.step.now.line ∷ [] } in
     subst (λ (s : Step). HasCome items (after_step c.args.self.topology now s) next) (sym c.in-Stop.is)
-    (has items now (map (λ (s : Seat). idle s.task) c.args.self.seats.items) sound windowless
+    (has items now (map (λ (s : Seat). idle s.task) c.args.self.seats.items) sound
     (begun items p c.args.self _ c.args.step.now.line
     (record { topology = refl; chain = refl; broker = refl; these = refl; seats = refl; sources = refl; rounds = refl; notes = c.in_ok-push.ensures.items }) h) (idle-but (Some c.in-Stop.worker) c.args.self.seats.items)))
     c.without.ensures
 
 pub returns-in-Lose : goal.returns-in-Lose
 returns-in-Lose c = ok-more c.losing.result
-    (λ next has items p sound windowless h.
+    (λ next has items p sound h.
     let now : Progress = record p { journal = p.journal ++ entry.Step c.args.step.now.line ∷ [] } in
     subst (λ (s : Step). HasCome items (after_step c.args.self.topology now s) next) (sym c.in-Lose.is)
-    (has items now sound windowless
+    (has items now sound
     (begun items p c.args.self _ c.args.step.now.line
     (record { topology = refl; chain = refl; broker = refl; these = refl; seats = refl; sources = refl; rounds = refl; notes = c.in_ok-push.ensures.items }) h)))
     c.losing.ensures
 
 pub returns-in-Drain : goal.returns-in-Drain
 returns-in-Drain c = ok-more c.drained.result
-    (λ next has items p sound windowless h.
+    (λ next has items p sound h.
     let now : Progress = record p { journal = p.journal ++ entry.Step c.args.step.now.line ∷ [] } in
     subst (λ (s : Step). HasCome items (after_step c.args.self.topology now s) next) (sym c.in-Drain.is)
-    (has items now sound windowless
+    (has items now sound
     (begun items p c.args.self _ c.args.step.now.line
     (record { topology = refl; chain = refl; broker = refl; these = refl; seats = refl; sources = refl; rounds = refl; notes = c.in_ok-push.ensures.items }) h)))
     c.drained.ensures
 
 pub returns-in-FeedAll : goal.returns-in-FeedAll
 returns-in-FeedAll c = ok-more c.fed.result
-    (λ next has items p sound windowless h.
+    (λ next has items p sound h.
     let now : Progress = record p { journal = p.journal ++ entry.Step c.args.step.now.line ∷ [] } in
     subst (λ (s : Step). HasCome items (feed (taken s) now) next → HasCome items (after_step c.args.self.topology now s) next) (sym c.in-FeedAll.is) (λ x. x)
     (has items now sound
@@ -169,7 +164,7 @@ returns-in-FeedAll c = ok-more c.fed.result
 
 pub returns-in-Feed : goal.returns-in-Feed
 returns-in-Feed c = ok-more c.fed-in-Feed.result
-    (λ next has items p sound windowless h.
+    (λ next has items p sound h.
     let now : Progress = record p { journal = p.journal ++ entry.Step c.args.step.now.line ∷ [] } in
     subst (λ (s : Step). HasCome items (feed (taken s) now) next → HasCome items (after_step c.args.self.topology now s) next) (sym c.in-Feed.is) (λ x. x)
     (has items now sound

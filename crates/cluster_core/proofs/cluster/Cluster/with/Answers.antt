@@ -11,19 +11,19 @@ use Rattle.cluster_core.proofs.cluster.Cluster.with.Goals as goal
 pub assigned-requires-clause-rises : goal.assigned-requires-clause-rises
 assigned-requires-clause-rises c =
     let come = c.requires.come in
-    subst IsStrictlyIncreasing (sym (c.in_ok-live.ensures ∙ ap (with_worker c.args.worker) (c.as_slice.ensures.value ∙ come.4.live)))
-    (with-rising c.args.worker come.1.live come.4.progress.live)
+    subst IsStrictlyIncreasing (sym (c.in_ok-live.ensures ∙ ap (with_worker c.args.worker) (c.as_slice.ensures.value ∙ come.3.live)))
+    (with-rising c.args.worker come.1.live come.3.progress.live)
 
 pub assigned-requires-clause-come : goal.assigned-requires-clause-come
 assigned-requires-clause-come c =
     let come = c.requires.come in
-    (come.0, come.1, map (λ (s : Seat). idle s.task) c.args.self.seats.items, come.2, come.3, come.4, idle-live c.in_ok-live.live.items c.args.self.seats.items)
+    (come.0, come.1, map (λ (s : Seat). idle s.task) c.args.self.seats.items, come.2, come.3, idle-live c.in_ok-live.live.items c.args.self.seats.items)
 
 pub returns : goal.returns
 returns c =
     let old : Cluster = c.args.self in
     ok-more c.assigned.result
-    (λ next has items p sound windowless h.
+    (λ next has items p sound h.
     subst (λ (live : List ℕ). HasCome items (after_assignment old.topology live p) next) (c.in_ok-live.ensures ∙ ap (with_worker c.args.worker) (c.as_slice.ensures.value ∙ h.live))
-    (has items p (map (λ (s : Seat). idle s.task) old.seats.items) sound windowless h (idle-live c.in_ok-live.live.items old.seats.items)))
+    (has items p (map (λ (s : Seat). idle s.task) old.seats.items) sound h (idle-live c.in_ok-live.live.items old.seats.items)))
     c.assigned.ensures

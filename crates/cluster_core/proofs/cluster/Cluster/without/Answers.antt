@@ -11,8 +11,8 @@ use Rattle.cluster_core.proofs.cluster.Cluster.without.Goals as goal
 pub assigned-requires-clause-rises : goal.assigned-requires-clause-rises
 assigned-requires-clause-rises c =
     let come = c.requires.come in
-    subst IsStrictlyIncreasing (sym (c.in_ok-live.ensures ∙ ap (without_worker c.args.worker) (c.as_slice.ensures.value ∙ come.5.live)))
-    (without-rising c.args.worker come.1.live come.5.progress.live)
+    subst IsStrictlyIncreasing (sym (c.in_ok-live.ensures ∙ ap (without_worker c.args.worker) (c.as_slice.ensures.value ∙ come.4.live)))
+    (without-rising c.args.worker come.1.live come.4.progress.live)
 
 pub assigned-requires-clause-come : goal.assigned-requires-clause-come
 assigned-requires-clause-come c =
@@ -23,18 +23,17 @@ assigned-requires-clause-come c =
       come.2,
       come.3,
       come.4,
-      come.5,
-      subst (λ (live : List ℕ). AllZip (IsIdleAt live) old.seats.items come.2) (sym (c.in_ok-live.ensures ∙ ap (without_worker c.args.worker) (c.as_slice.ensures.value ∙ come.5.live)))
-          (idle-without c.args.worker come.1.live old.seats.items come.2 come.6),
+      subst (λ (live : List ℕ). AllZip (IsIdleAt live) old.seats.items come.2) (sym (c.in_ok-live.ensures ∙ ap (without_worker c.args.worker) (c.as_slice.ensures.value ∙ come.4.live)))
+          (idle-without c.args.worker come.1.live old.seats.items come.2 come.5),
     )
 
 pub returns : goal.returns
 returns c =
     let old : Cluster = c.args.self in
     ok-more c.assigned.result
-    (λ next has items p ms sound windowless h idle.
+    (λ next has items p ms sound h idle.
     let live = c.in_ok-live.ensures ∙ ap (without_worker c.args.worker) (c.as_slice.ensures.value ∙ h.live) in
     subst (λ (now : List ℕ). HasCome items (after_assignment old.topology now p) next) live
-    (has items p ms sound windowless h
+    (has items p ms sound h
     (subst (λ (now : List ℕ). AllZip (IsIdleAt now) old.seats.items ms) (sym live) (idle-without c.args.worker p.live old.seats.items ms idle))))
     c.assigned.ensures

@@ -1,0 +1,63 @@
+//! One more change of a group, in the bytes that are kept of it.
+ghost use Rattle.std.specs.Prelude.{◌≡◌, suc, ◌<◌, ◌≤◌, ◌^◌, List, [], Option, All, IfOk, IfSome, length, option_copied, option_map, unwrap_or};
+ghost use Rattle.ksql_types.specs.declared.value.Value.{Value as OneValue};
+ghost use Rattle.record_codec.specs.Spelling.{values, AreSpellable, IsShort};
+ghost use Rattle.operator.specs.Storable.{HasShortArguments};
+ghost use Rattle.agg_ops.specs.Totals.{next_totals};
+
+use crate::totals::next_totals;
+use ksql_place::Change;
+use ksql_program::Agg;
+use ksql_types::{Bytes, Kind, Value};
+use record_codec::{decode_values, encode_values};
+use std::alloc::{AllocError, Global};
+
+/// What was kept of a group before a change, what is after it, and the bytes of that.
+#[derive(Drop)]
+pub(crate) struct Turn {
+    pub(crate) before: Vec<Value>,
+    pub(crate) after: Vec<Value>,
+    pub(crate) bytes: Bytes,
+}
+
+/// Adds a change to a group of which these bytes are kept, where any are.
+pub(crate) fn turned(
+    alloc: Global,
+    over: Kind,
+    aggs: &[Agg],
+    bytes: Option<&[u8]>,
+    change: &Change,
+) -> Result<Turn, AllocError>
+    requires time { change.now.time ≤ 2 ^ 53 }
+    requires few { suc (length aggs.now) < 2 ^ 32 }
+    requires short { HasShortArguments aggs.now change.now }
+    ensures before { (kept : Option (List OneValue)) → IfSome kept AreSpellable → option_copied bytes.entry ≡ option_map values kept →
+        IfOk result (λ turn. turn.before.items ≡ unwrap_or kept []) }
+    ensures after { IfOk result (λ turn. turn.after.items ≡ next_totals over aggs.now change.now turn.before.items) }
+    ensures bytes { IfOk result (λ turn. turn.bytes ≡ values turn.after.items) }
+    ensures spellable { IfOk result (λ turn. AreSpellable turn.after.items) }
+{
+    let before = kept_in(alloc, bytes)?;
+    let after = next_totals(alloc, over, aggs, before.as_slice(), change)?;
+    let bytes = encode_values(alloc, after.as_slice())?;
+    Ok(Turn {
+        before,
+        after,
+        bytes,
+    })
+}
+
+/// What is kept in some bytes; nothing where there are none, and also where they spell no values.
+fn kept_in(alloc: Global, bytes: Option<&[u8]>) -> Result<Vec<Value>, AllocError>
+    ensures value { (kept : Option (List OneValue)) → IfSome kept AreSpellable → option_copied bytes.entry ≡ option_map values kept →
+        IfOk result (λ found. found.items ≡ unwrap_or kept []) }
+    ensures short { IfOk result (λ found. All IsShort found.items) }
+{
+    let Some(bytes) = bytes else {
+        return Ok(Vec::new(alloc));
+    };
+    match decode_values(alloc, bytes)? {
+        Some(kept) => Ok(kept.into_items()),
+        None => Ok(Vec::new(alloc)),
+    }
+}

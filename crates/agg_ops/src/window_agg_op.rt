@@ -1,0 +1,230 @@
+//! The operator of windowed aggregates.
+ghost use Rattle.std.specs.Prelude.{◌≡◌, ℕ, suc, ◌<◌, ◌≤◌, ◌^◌, false, List, [], ◌∷◌, ◌++◌, Option, Some, All, IfOk, IfSome, IsTrue, OnOk, OnErr, length, option_map, unwrap_or};
+ghost use Rattle.std.specs.FinMap as finite;
+ghost use Rattle.ksql_types.specs.declared.relation.Kind.TheVariants as kinds;
+ghost use Rattle.ksql_types.specs.declared.value.Value.{Value as OneValue};
+ghost use Rattle.ksql_place.specs.declared.change.Change.{Change as OneChange};
+ghost use Rattle.ksql_nodes.specs.declared.node.Node.TheVariants as nodes;
+ghost use Rattle.ksql_nodes.specs.Entries.{Entry, latest_time};
+ghost use Rattle.ksql_nodes.specs.Rows.{at_path};
+ghost use Rattle.ksql_nodes.specs.Windows.{timed, windowed, with_times};
+ghost use Rattle.state_store.specs.Store.{Values, IsBase};
+ghost use Rattle.record_codec.specs.Spelling.{values, AreSpellable, IsShort};
+ghost use Rattle.operator.specs.Holding.{nothing};
+ghost use Rattle.operator.specs.StandsFor.{StandsFor};
+ghost use Rattle.operator.specs.Storable.{HasShortArguments};
+ghost use Rattle.window_store.specs.Windows.{under};
+ghost use Rattle.agg_ops.specs.Totals.{changed, is_sound_window, is_window_aggregate, next_totals, HasBigBounds};
+ghost use Rattle.agg_ops.specs.WindowGroups.{HoldsWindows};
+
+use crate::totals::group_change;
+use crate::turn::{Turn, turned};
+use crate::windows::windows_of;
+use ksql_nodes::Node;
+use ksql_place::{Change, Place};
+use ksql_program::{Agg, Aggs};
+use ksql_types::{Changelog, CopyOf, Items, Kind, Span, StoreEntry, Window};
+use operator::{Operator, StoredOperator, spelled_key, with_number};
+use std::alloc::{AllocError, Global};
+use std::marker::Model;
+use window_store::{WStore, window_key};
+
+/// The operator of the groups of a stream in windows.
+#[derive(Drop)]
+pub struct WindowAggOp {
+    aggs: Aggs,
+    window: Window,
+    kept: WStore,
+    failed: bool,
+}
+
+impl Model for WindowAggOp {
+    ghost use Rattle.agg_ops.specs.WindowAggs.{WindowAggView, window_agg_code, AreWindowsOf};
+
+    ghost Value = { WindowAggView };
+
+    ghost coded = { window_agg_code };
+
+    ghost view = { λ s. record { aggs = s.aggs; window = s.window; windows = s.kept; failed = s.failed } };
+
+    ghost invariant = { λ s. AreWindowsOf s.window s.kept };
+}
+
+impl WindowAggOp {
+    /// The operator of a windowed aggregate, before any entry.
+    pub fn new(alloc: Global, node: &Node) -> Result<WindowAggOp, AllocError>
+        requires { IsTrue (is_window_aggregate node.now) }
+        ensures node { IfOk result (λ made. ⟦<WindowAggOp as Operator>⟧.node made ≡ node.now) }
+        ensures stands { IfOk result (λ made. StandsFor (⟦<WindowAggOp as Operator>⟧.node made) (⟦<WindowAggOp as Operator>⟧.held made) []) }
+        ensures sound { IfOk result (λ made. ⟦<WindowAggOp as Operator>⟧.failed made ≡ false) }
+    {
+        match node {
+            Node::Aggregate {
+                over: Kind::Stream,
+                aggs,
+                window: Some(window),
+            } => Ok(WindowAggOp {
+                aggs: aggs.copy(alloc)?,
+                window: *window,
+                kept: WStore::new(alloc, window.size),
+                failed: false,
+            }),
+            _ => unreachable!(),
+        }
+    }
+}
+
+impl Operator for WindowAggOp {
+    ghost node = { λ s. nodes.Aggregate kinds.Stream s.aggs (Some s.window) };
+
+    ghost held = { λ s. record nothing { windows = s.windows.content; time = s.windows.time } };
+
+    ghost failed = { λ s. s.failed };
+
+    fn step(
+        &mut self,
+        alloc: Global,
+        _side: u32,
+        change: &Change,
+        out: &mut Vec<Change>,
+    ) -> Result<(), AllocError> {
+        if self.failed {
+            return Err(AllocError);
+        }
+        let stepped = give(
+            &mut self.kept,
+            alloc,
+            self.window,
+            self.aggs.items(),
+            change,
+            out,
+        );
+        self.failed = stepped.is_err();
+        stepped
+    }
+}
+
+impl StoredOperator for WindowAggOp {
+    fn changes(&mut self, alloc: Global) -> Result<Changelog, AllocError> {
+        Ok(with_number(self.kept.changes(alloc)?, 2))
+    }
+
+    fn load(&mut self, alloc: Global, log: &[StoreEntry]) -> Result<(), AllocError> {
+        self.kept.load(alloc, 2, log)
+    }
+}
+
+/// Adds a change to those of its windows that stream time leaves open, and gives the change of each.
+fn give(
+    windows: &mut WStore,
+    alloc: Global,
+    window: Window,
+    aggs: &[Agg],
+    change: &Change,
+    out: &mut Vec<Change>,
+) -> Result<(), AllocError>
+    requires sound { IsTrue (is_sound_window window) }
+    requires size { windows.old.size ≡ window.size }
+    requires time { change.now.time ≤ 2 ^ 53 }
+    requires key { All IsShort change.now.key }
+    requires few { suc (length aggs.now) < 2 ^ 32 }
+    requires short { HasShortArguments aggs.now change.now }
+    ensures next { OnOk result ((side : ℕ) (es : List Entry) → windows.old.time ≡ latest_time es → HoldsWindows aggs.now window windows.old.content.map windows.old.time es →
+        let e : Entry = record { side = side; change = change.now } in
+        (out.new.items ≡ out.old.items ++ windowed kinds.Stream aggs.now window (with_times 1 es) (timed 1 es e))
+        × (windows.new.time ≡ latest_time (es ++ e ∷ []))
+        × HoldsWindows aggs.now window windows.new.content.map windows.new.time (es ++ e ∷ [])) }
+    ensures size { windows.new.size ≡ windows.old.size }
+    ensures later { windows.old.time ≤ windows.new.time }
+    ensures base { (base : Values) → IsBase base windows.old.content → IsBase base windows.new.content }
+    ensures out { OnErr result ((some : List OneChange) × (out.new.items ≡ out.old.items ++ some)) }
+{
+    windows.advance_time(change.time);
+    windows.expire(alloc, windows.time().saturating_sub(window.grace))?;
+    let key = spelled_key(alloc, &change.key)?;
+    let spans = windows_of(alloc, window, change.time)?;
+    for (index, span) in spans.iter().enumerate() {
+        if windows.time() < span.end + window.grace {
+            let given = add_to(
+                windows,
+                alloc,
+                aggs,
+                key.items(),
+                *span,
+                index as u32,
+                change,
+            )?;
+            out.push(given)?;
+        }
+    }
+    Ok(())
+}
+
+/// Adds a change to one of its windows, and answers the change of the window, whose index among them ends the path.
+fn add_to(
+    windows: &mut WStore,
+    alloc: Global,
+    aggs: &[Agg],
+    key: &[u8],
+    span: Span,
+    index: u32,
+    change: &Change,
+) -> Result<Change, AllocError>
+    requires time { change.now.time ≤ 2 ^ 53 }
+    requires few { suc (length aggs.now) < 2 ^ 32 }
+    requires short { HasShortArguments aggs.now change.now }
+    requires start { span.start ≤ 2 ^ 56 }
+    requires end { span.end < 2 ^ 63 }
+    ensures next { IfOk result (λ made. (kept : Option (List OneValue)) → IfSome kept AreSpellable → finite.get windows.old.content.map (under key.now span.start) ≡ option_map values kept →
+        let before = unwrap_or kept [] in
+        let after = next_totals kinds.Stream aggs.now change.now before in
+        (made ≡ at_path (change.now.place.path ++ index ∷ []) (changed change.now (Some span) before after))
+        × AreSpellable after
+        × (windows.new.content.map ≡ finite.insert windows.old.content.map (under key.now span.start) (values after))) }
+    ensures size { windows.new.size ≡ windows.old.size }
+    ensures time { windows.new.time ≡ windows.old.time }
+    ensures base { (base : Values) → IsBase base windows.old.content → IsBase base windows.new.content }
+{
+    let at = window_key(alloc, key, span.start)?;
+    let turn = turned(alloc, Kind::Stream, aggs, windows.get(at.items()), change)?;
+    windows.set(alloc, at.items(), turn.bytes.items())?;
+    window_change(alloc, change, span, index, &turn)
+}
+
+/// The change of one of a change's windows, whose index among them ends the path.
+fn window_change(
+    alloc: Global,
+    change: &Change,
+    span: Span,
+    index: u32,
+    turn: &Turn,
+) -> Result<Change, AllocError>
+    requires { HasBigBounds span }
+    ensures { IfOk result (λ made. made ≡ at_path (change.now.place.path ++ index ∷ []) (changed change.now (Some span) turn.now.before.items turn.now.after.items)) }
+{
+    let Change {
+        place,
+        time,
+        key,
+        span,
+        body,
+    } = group_change(
+        alloc,
+        change,
+        Some(span),
+        turn.before.as_slice(),
+        turn.after.as_slice(),
+    )?;
+    let mut path = place.path.into_items();
+    path.push(index)?;
+    Ok(Change {
+        place: Place {
+            stamp: place.stamp,
+            path: Items::of(path),
+        },
+        time,
+        key,
+        span,
+        body,
+    })
+}
