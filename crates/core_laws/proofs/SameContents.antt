@@ -20,7 +20,6 @@ use Rattle.ksql_program.specs.declared.query.Query.{Query}
 use Rattle.ksql_nodes.specs.declared.node.Node.{Node}
 use Rattle.ksql_nodes.specs.Entries.{Entry, from_side, results, through}
 use Rattle.ksql_nodes.specs.Nodes.{gives}
-use Rattle.meaning_laws.specs.Windows.{HaveNoWindow}
 use Rattle.meaning_laws.proofs.Lists.{Pairwise, Pairwise-from_all}
 use Rattle.topology.specs.Contents as topology
 use Rattle.topology.specs.Topologies.{subs, topology_of}
@@ -86,7 +85,7 @@ flat-tasks : {A B C : Type 0} (f : B → List C) (g : A → B) (xs : List A) →
 flat-tasks f g [] = refl
 flat-tasks f g (x ∷ xs) = ap (λ rest. f (g x) ++ rest) (flat-tasks f g xs)
 
-module _ (items : List Item) (order : List SourceRecord) (sound : IsSound items) (windowless : HaveNoWindow items) (fed : IsFed items order) where
+module _ (items : List Item) (order : List SourceRecord) (sound : IsSound items) (fed : IsFed items order) where
   abbrev t : Topology
   t = topology_of items
 
@@ -103,7 +102,7 @@ module _ (items : List Item) (order : List SourceRecord) (sound : IsSound items)
   -- ---- one topic
 
   rise : (topic part : ℕ) → Pairwise IsBelow (in_topology topic part)
-  rise topic part = Pairwise-from_all (λ c d. place_cmp c.place d.place ≡ Less) (in_topology topic part) (placed items order sound windowless fed topic part).0
+  rise topic part = Pairwise-from_all (λ c d. place_cmp c.place d.place ≡ Less) (in_topology topic part) (placed items order sound fed topic part).0
 
   source-core : (topic part : ℕ) → ¬ Contains (written_topics items) topic → in_core topic part ≡ map Fed (filter (is_in topic part) order)
   source-core topic part unwritten = stays (wiring_of t) (gives-well t) (source_contents order) (written_topics items) topic part unwritten

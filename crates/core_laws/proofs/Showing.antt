@@ -11,7 +11,6 @@ use Rattle.ksql_program.specs.declared.program.Item.TheVariants.{Started}
 use Rattle.ksql_program.specs.declared.query.Query.{Query}
 use Rattle.operator.specs.Holding.{Maps}
 use Rattle.meaning_laws.specs.Bounds.{IsRecordOf}
-use Rattle.meaning_laws.specs.Windows.{HaveNoWindow}
 use Rattle.meaning_laws.proofs.Lists.{All-filter, Pairwise-filter, Pairwise-from_all, all-from_pairwise}
 use Rattle.topology.specs.Topologies.{topology_of}
 use Rattle.topology.specs.declared.topology.Topology.{Topology}
@@ -30,12 +29,12 @@ use Rattle.core_laws.proofs.Steps.{one_of, steps-well}
 use Rattle.core_laws.proofs.SubReads.{result-written}
 use Rattle.core_laws.proofs.Wirings.{staged}
 
-pub core-contents : (items : List Item) (order : List SourceRecord) → IsSound items → HaveNoWindow items → IsFed items order → HasItsContents items order
-core-contents items order sound windowless fed = λ topic part writes. same-contents items order sound windowless fed topic writes part
+pub core-contents : (items : List Item) (order : List SourceRecord) → IsSound items → IsFed items order → HasItsContents items order
+core-contents items order sound fed = λ topic part writes. same-contents items order sound fed topic writes part
 
-pub core-queries : (items : List Item) (order : List SourceRecord) → IsSound items → HaveNoWindow items → IsFed items order → HasItsQueries items order
-core-queries items order sound windowless fed = λ number q at part.
-    query-contents items order sound windowless fed number q at part ∙ ap (map Said) (means items order sound windowless fed number q at part)
+pub core-queries : (items : List Item) (order : List SourceRecord) → IsSound items → IsFed items order → HasItsQueries items order
+core-queries items order sound fed = λ number q at part.
+    query-contents items order sound fed number q at part ∙ ap (map Said) (means items order sound fed number q at part)
 
 -- ---- the records up to a feed
 
@@ -55,17 +54,17 @@ fed-upto items order feed fed =
 -- ---- what is shown
 
 -- a good state shows what the queries mean of the records up to the feed that all writers have committed
-pub good-shows : (items : List Item) (order : List SourceRecord) → IsSound items → HaveNoWindow items → AreCounted order → IsFed items order → (s : State (List Maps)) →
+pub good-shows : (items : List Item) (order : List SourceRecord) → IsSound items → AreCounted order → IsFed items order → (s : State (List Maps)) →
     Good (core_of (topology_of items)) (meaning_in_core items order) s → (number : ℕ) (q : Query) → slice_get items number ≡ Some (Started q) → (part : ℕ) →
     s.shown number part ≡ map Said (meant_in_part items (order_upto (closed (wiring_of (topology_of items)).routes s number) order) number q part)
-good-shows items order sound windowless counted fed s good number q at part =
+good-shows items order sound counted fed s good number q at part =
     let t : Topology = topology_of items in
     let feed : ℕ = closed (wiring_of t).routes s number in
     let alike : CutsAlike (wiring_of t) (written_topics items) = cuts-alike (wiring_of t) (one_of t) (written_topics items) (steps-well t) (staged items sound) in
     good.written_shown number part ((staged items sound).only number (result-written items sound number q at))
     ∙ sym (alike order counted feed number part)
-    ∙ core-queries items (order_upto feed order) sound windowless (fed-upto items order feed fed) number q at part
+    ∙ core-queries items (order_upto feed order) sound (fed-upto items order feed fed) number q at part
 
-pub shows-queries : (items : List Item) → IsSound items → HaveNoWindow items → ShowsItsQueries items
-shows-queries items sound windowless = λ es s last counted fed opens happen number q at part.
-    good-shows items _ sound windowless counted fed last (stays-good items sound es s last counted opens happen) number q at part
+pub shows-queries : (items : List Item) → IsSound items → ShowsItsQueries items
+shows-queries items sound = λ es s last counted fed opens happen number q at part.
+    good-shows items _ sound counted fed last (stays-good items sound es s last counted opens happen) number q at part

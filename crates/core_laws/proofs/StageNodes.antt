@@ -1,16 +1,18 @@
 -- The nodes of a program's sub-topologies have operators, and no two of one sub-topology have stores of one number.
-use Rattle.std.proofs.Common.{◌≡◌, ◌∙◌, refl, sym, subst, ℕ, ◌<◌, List, [], ◌∷◌, ◌++◌, true, false, ne_eqb, true≢false, inl, inr, arith}
-use Rattle.std.proofs.lemmas.Bool.{eqb-true}
+use Rattle.std.proofs.Common.{◌≡◌, ◌∙◌, refl, sym, subst, ℕ, ◌<◌, ◌≤◌, ◌*◌, Bool, List, [], ◌∷◌, ◌++◌, true, false, ne_eqb, true≢false, inl, inr, arith}
+use Rattle.std.proofs.lemmas.Bool.{eqb-true, lt-ltb, ltb-true}
 use Rattle.std.proofs.lemmas.Bool.Decides.{nat_tests}
 use Rattle.std.proofs.lemmas.List.Elements.{All-from_recursion, All-nil}
-use Rattle.std.specs.Prelude.{◌⊎◌, ◌==◌, All, IsTrue, Option, Some, None, is_none, nat_lt, option_map, slice_get, take, unwrap_or}
+use Rattle.std.specs.Prelude.{◌⊎◌, ◌==◌, ◌^◌, ◌&&◌, ◌||◌, not, All, IsTrue, Option, Some, None, is_none, nat_lt, option_map, slice_get, take, unwrap_or}
 use Rattle.std.specs.List.{AllByRecursion}
 use Rattle.ksql_types.specs.declared.relation.Kind.{Kind}
 use Rattle.ksql_types.specs.declared.relation.Kind.TheVariants as kind
+use Rattle.ksql_types.specs.declared.relation.Relation.{Relation}
 use Rattle.ksql_types.specs.declared.relation.TaskName.{TaskName}
 use Rattle.ksql_types.specs.declared.relation.Window.{Window}
+use Rattle.ksql_types.specs.declared.value.SqlType.{SqlType}
 use Rattle.ksql_expr.specs.declared.typed.Typed.{Typed}
-use Rattle.ksql_program.specs.Sound.{IsSound, IsSoundItem, IsSoundQuery, query as of_query}
+use Rattle.ksql_program.specs.Sound.{IsSound, IsSoundItem, IsSoundQuery, IsSoundWindow, IsWindowed, Makes, grouped, plain, query as of_query}
 use Rattle.ksql_program.specs.declared.program.Item.{Item}
 use Rattle.ksql_program.specs.declared.program.Item.TheVariants.{Started}
 use Rattle.ksql_program.specs.declared.query.Agg.{Agg}
@@ -26,8 +28,6 @@ use Rattle.ksql_nodes.specs.declared.node.Side.{Side}
 use Rattle.ksql_nodes.proofs.Lists.{All-append}
 use Rattle.operator.specs.Holding.{is_store_of}
 use Rattle.query_meaning.specs.Queries.{after_aggregate, filter_of, join_of, join_over, kind_at, leftmost, side_at}
-use Rattle.query_meaning.specs.Built.{is_built_shape}
-use Rattle.meaning_laws.specs.Windows.{HaveNoWindow, is_windowless}
 use Rattle.meaning_laws.proofs.EachRelation.{AreAmong}
 use Rattle.meaning_laws.proofs.Lists.{All-of, All-weaker, Pairwise, all-from_pairwise}
 use Rattle.meaning_laws.proofs.RelationTables.{reads-kind, reads-unwindowed}
@@ -37,6 +37,7 @@ use Rattle.topology.specs.declared.stage.Stage.{Stage}
 use Rattle.topology.specs.declared.topology.Sub.{Sub}
 use Rattle.topology_laws.proofs.ItemLists.{before-among, sound-at}
 use Rattle.topology_laws.proofs.Paths.{holds-of}
+use Rattle.agg_ops.specs.Totals.{is_sound_window}
 use Rattle.op_chain.specs.Chain.{HaveOwnStores, has_operator}
 use Rattle.task_core.specs.Core.{nodes_at}
 use Rattle.core_laws.proofs.Members.{at-member}
@@ -134,33 +135,64 @@ others-run = record {
   select = λ keys values. refl;
 }
 
-aggregate-runs : (over : Kind) (aggs : List Agg) (window : Option Window) → (over ≡ kind.Windowed → ⊥) → IsTrue (is_none window) → IsTrue (has_operator (Aggregate over aggs window))
-aggregate-runs kind.Stream aggs None un none = refl
-aggregate-runs kind.Table aggs None un none = refl
-aggregate-runs kind.Windowed aggs None un none = absurd (un refl)
-aggregate-runs over aggs (Some w) un none = absurd (true≢false (sym none))
+both-true : (a b : Bool) → IsTrue a → IsTrue b → IsTrue (a && b)
+both-true true b first second = second
+both-true false b first second = absurd (true≢false (sym first))
 
-query-unwindowed : (before items : List Item) → AreAmong before items → (q : Query) → IsSoundQuery before q → kind_at items (leftmost q.from) ≡ kind.Windowed → ⊥
-query-unwindowed before items among q (of_query reads _ _ _ _) is = reads-unwindowed before reads (sym (reads-kind before items among reads) ∙ is)
+at-most : (m n : ℕ) → m ≤ n → IsTrue (not (nat_lt n m))
+at-most m n le = by (nat_lt n m) refl
+  where
+    by : (b : Bool) → nat_lt n m ≡ b → IsTrue (not b)
+    by false is = refl
+    by true is = absurd (omega (arith, le, ltb-true n m is))
+
+either : (b : Bool) → IsTrue b → IsTrue (b || false)
+either true is = refl
+either false is = absurd (true≢false (sym is))
+
+window-sound : (w : Window) → IsSoundWindow w → IsTrue (is_sound_window w)
+window-sound w h =
+    both-true _ _
+    (both-true _ _
+    (both-true _ _ (both-true _ _ (lt-ltb 0 w.advance h.moves) (at-most w.advance w.size h.covers)) (at-most w.size (2 ^ 53) h.short))
+    (at-most w.size (64 * w.advance) h.few))
+    (at-most w.grace (2 ^ 53) h.waits)
+
+aggregate-runs : (over : Kind) (aggs : List Agg) (window : Option Window) → (over ≡ kind.Windowed → ⊥) → IsWindowed over window → IsTrue (has_operator (Aggregate over aggs window))
+aggregate-runs kind.Stream aggs None un windowed = refl
+aggregate-runs kind.Table aggs None un windowed = refl
+aggregate-runs kind.Windowed aggs window un windowed = absurd (un refl)
+aggregate-runs kind.Stream aggs (Some w) un windowed = either (is_sound_window w) (window-sound w windowed.0)
+aggregate-runs kind.Table aggs (Some w) un windowed = absurd (table-apart windowed.1)
+  where
+    table-apart : kind.Table ≡ kind.Stream → ⊥
+    table-apart is = cc
+
+-- the aggregate of a sound query has an operator
+query-runs : (before items : List Item) → AreAmong before items → (q : Query) → IsSoundQuery before q → OfAggregates (λ n. IsTrue (has_operator n)) items q q.shape
+query-runs before items among q (of_query {left = l} reads _ makes _ _) = by makes
+  where
+    over : kind_at items (leftmost q.from) ≡ l.kind
+    over = reads-kind before items among reads
+
+    by : {types : List (Option SqlType)} {form : Shape} {out : Relation} → Makes l types form out → OfAggregates (λ n. IsTrue (has_operator n)) items q form
+    by (plain _ _ _) = tt
+    by (grouped {w = w} {gs = gs} _ _ _ _ _ _ windowed _ _ _) =
+        aggregate-runs (kind_at items (leftmost q.from)) gs w (λ is. reads-unwindowed before reads (sym over ∙ is))
+        (subst (λ (k : Kind). IsWindowed k w) (sym over) windowed)
 
 abbrev RunsNodes : Sub → Type 0
 RunsNodes s = All (λ n. IsTrue (has_operator n)) s.nodes
 
 -- each node of a sub-topology has an operator
-pub has-operators : (items : List Item) → IsSound items → HaveNoWindow items → AllByRecursion RunsNodes (subs items)
-has-operators items sound windowless = subs-all items (λ (s : Stage). AllByRecursion (λ n. IsTrue (has_operator n)) s.nodes) RunsNodes
+pub has-operators : (items : List Item) → IsSound items → AllByRecursion RunsNodes (subs items)
+has-operators items sound = subs-all items (λ (s : Stage). AllByRecursion (λ n. IsTrue (has_operator n)) s.nodes) RunsNodes
     (λ query first cuts number s all. All-from_recursion (λ n. IsTrue (has_operator n)) s.nodes all) by
   where
-    built : (form : Shape) → IsTrue (is_built_shape form) → (items : List Item) (q : Query) → (kind_at items (leftmost q.from) ≡ kind.Windowed → ⊥) → OfAggregates (λ n. IsTrue (has_operator n)) items q form
-    built (shape.Plain keys values) none items q un = tt
-    built (shape.Group keys window aggs having values) none items q un = aggregate-runs (kind_at items (leftmost q.from)) aggs window un none
-
     by : (number : ℕ) (q : Query) → slice_get items number ≡ Some (Started q) → AllByRecursion (λ (s : Stage). AllByRecursion (λ n. IsTrue (has_operator n)) s.nodes) (stages_of items q)
     by number q at =
         let known : IsSoundItem (take number items) (Started q) = sound-at items number (Started q) sound.sound at in
-        let none : IsTrue (is_built_shape q.shape) = holds-of (λ i. IsTrue (is_windowless i)) items (Started q) windowless (at-member items number (Started q) at) in
-        stages-have (λ n. IsTrue (has_operator n)) items q others-run
-        (built q.shape none items q (query-unwindowed (take number items) items (before-among items number) q known.1))
+        stages-have (λ n. IsTrue (has_operator n)) items q others-run (query-runs (take number items) items (before-among items number) q known.1)
 
 -- ---- stores
 
@@ -277,9 +309,9 @@ nodes-of P none items all u = by (slice_get (subs items) u.sub) refl
     by None at = none
     by (Some s) at = holds-of (λ (x : Sub). P x.nodes) (subs items) s all (at-member (subs items) u.sub s at)
 
-pub task-operators : (items : List Item) → IsSound items → HaveNoWindow items → (u : TaskName) → All (λ n. IsTrue (has_operator n)) (nodes_at (topology_of items) u)
-task-operators items sound windowless u =
-    nodes-of (λ nodes. All (λ n. IsTrue (has_operator n)) nodes) (All-nil (λ n. IsTrue (has_operator n))) items (has-operators items sound windowless) u
+pub task-operators : (items : List Item) → IsSound items → (u : TaskName) → All (λ n. IsTrue (has_operator n)) (nodes_at (topology_of items) u)
+task-operators items sound u =
+    nodes-of (λ nodes. All (λ n. IsTrue (has_operator n)) nodes) (All-nil (λ n. IsTrue (has_operator n))) items (has-operators items sound) u
 
 pub task-stores : (items : List Item) (u : TaskName) → HaveOwnStores (nodes_at (topology_of items) u)
 task-stores items u = nodes-of HaveOwnStores (all-from_pairwise AreApart [] tt) items (own-stores items) u

@@ -3,7 +3,6 @@ ghost use Rattle.std.specs.Prelude.{List};
 ghost use Rattle.ksql_place.specs.declared.change.SourceRecord.{SourceRecord as OneRecord};
 ghost use Rattle.ksql_program.specs.Sound.{IsSound};
 ghost use Rattle.ksql_program.specs.declared.program.Item.{Item as OneItem};
-ghost use Rattle.meaning_laws.specs.Windows.{HaveNoWindow};
 ghost use Rattle.topology_laws.specs.Fed.{IsFed};
 ghost use Rattle.core_laws.specs.Core.{HasItsContents, HasItsQueries, KeepsGoodStates, ShowsItsQueries, StaysGood};
 
@@ -13,15 +12,13 @@ pub fn every_event_keeps_a_good_state()
     ensures runs { (items : List OneItem) → IsSound items → StaysGood items }
 {}
 
-/// What each partition has in the core is what the topology has there, and so what the queries mean. This is said of
-/// programs without windows.
+/// What each partition has in the core is what the topology has there, and so what the queries mean.
 pub fn the_core_means_its_queries()
-    ensures contents { (items : List OneItem) (order : List OneRecord) → IsSound items → HaveNoWindow items → IsFed items order → HasItsContents items order }
-    ensures queries { (items : List OneItem) (order : List OneRecord) → IsSound items → HaveNoWindow items → IsFed items order → HasItsQueries items order }
+    ensures contents { (items : List OneItem) (order : List OneRecord) → IsSound items → IsFed items order → HasItsContents items order }
+    ensures queries { (items : List OneItem) (order : List OneRecord) → IsSound items → IsFed items order → HasItsQueries items order }
 {}
 
-/// Whatever happens, what the topics of the queries show is what the queries mean of the records that were fed. This is said
-/// of programs without windows.
+/// Whatever happens, what the topics of the queries show is what the queries mean of the records that were fed.
 pub fn shown_changes_are_meant()
-    ensures { (items : List OneItem) → IsSound items → HaveNoWindow items → ShowsItsQueries items }
+    ensures { (items : List OneItem) → IsSound items → ShowsItsQueries items }
 {}

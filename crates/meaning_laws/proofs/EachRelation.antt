@@ -50,16 +50,15 @@ at-end : (before after : List Item) (i : Item) → relation_at (before ++ i ∷ 
 at-end [] after i = refl
 at-end (j ∷ before) after i = at-end before after i
 
--- Q is what is known of each item beside its soundness
-module _ (R : Relation → List Change → Type 0) (Q : Item → Type 0) (items : List Item) (order : List SourceRecord)
-    (step : (before : List Item) (lists : List (List Change)) → AreAmong before items → Each R before lists → (i : Item) → Q i →
+module _ (R : Relation → List Change → Type 0) (items : List Item) (order : List SourceRecord)
+    (step : (before : List Item) (lists : List (List Change)) → AreAmong before items → Each R before lists → (i : Item) →
     relation_at items (length before) ≡ Some (relation_of i) → IsSoundItem before i → R (relation_of i) (item_changes items order lists i)) where
-  pub meant-each : (before : List Item) (lists : List (List Change)) → Each R before lists → (after : List Item) → AllByRecursion Q after → AreSoundItems before after → items ≡ before ++ after →
+  pub meant-each : (before : List Item) (lists : List (List Change)) → Each R before lists → (after : List Item) → AreSoundItems before after → items ≡ before ++ after →
       Each R items (meaning_from items order lists after)
   unfolding meaning_from
-  meant-each before lists each [] known sound is = subst (λ x. Each R x lists) (sym (is ∙ append-nil before)) each
-  meant-each before lists each (i ∷ after) known sound is =
+  meant-each before lists each [] sound is = subst (λ x. Each R x lists) (sym (is ∙ append-nil before)) each
+  meant-each before lists each (i ∷ after) sound is =
       meant-each (before ++ i ∷ []) (lists ++ item_changes items order lists i ∷ [])
       (each-push R before lists each i (item_changes items order lists i)
-      (step before lists (subst (AreAmong before) (sym is) (among-more before (i ∷ after))) each i known.0 (subst (λ x. relation_at x (length before) ≡ Some (relation_of i)) (sym is) (at-end before after i)) sound.0))
-      after known.1 sound.1 (is ∙ sym (append_assoc before (i ∷ []) after))
+      (step before lists (subst (AreAmong before) (sym is) (among-more before (i ∷ after))) each i (subst (λ x. relation_at x (length before) ≡ Some (relation_of i)) (sym is) (at-end before after i)) sound.0))
+      after sound.1 (is ∙ sym (append_assoc before (i ∷ []) after))

@@ -1,6 +1,6 @@
 -- The keys and rows of each relation's changes hold values of its columns.
-use Rattle.std.proofs.Common.{◌≡◌, ◌∙◌, ap, refl, sym, subst, subst₂, ℕ, List, [], ◌∷◌, ◌++◌, map, length, true, inl, inr, true≢false}
-use Rattle.std.specs.Prelude.{All, IsTrue, filter, Option, Some, None, option_map, unwrap_or, IfSome}
+use Rattle.std.proofs.Common.{◌≡◌, ◌∙◌, ap, refl, sym, subst, subst₂, ℕ, List, [], ◌∷◌, ◌++◌, map, length, true, inl, inr}
+use Rattle.std.specs.Prelude.{All, filter, Option, Some, None, option_map, unwrap_or, IfSome}
 use Rattle.std.specs.List.{AllByRecursion}
 use Rattle.std.specs.Cmp.{unsigned_Decides}
 use Rattle.std.proofs.lemmas.List.{length-map}
@@ -21,7 +21,7 @@ use Rattle.ksql_place.specs.declared.change.Decoded.TheVariants.{Good, Tombstone
 use Rattle.ksql_place.specs.declared.change.SourceRecord.{SourceRecord}
 use Rattle.ksql_expr.specs.declared.typed.Typed.{Typed}
 use Rattle.ksql_program.specs.Program.{relation_at, relation_of}
-use Rattle.ksql_program.specs.Sound.{Aggregates, AreColumns, AreColumnsFrom, column_types, grouped, HasItsKey, IsJoined, IsKeyed, IsSound, IsSoundItem, IsSoundQuery, IsTablesKey, joined, JoinsTable, Makes, of_stream, of_tables, own, partitioned, plain, query, Reads, row_key, rowkey_types, one}
+use Rattle.ksql_program.specs.Sound.{Aggregates, AreColumns, AreColumnsFrom, column_types, grouped, grouped_kind, HasItsKey, IsJoined, IsKeyed, IsSound, IsSoundItem, IsSoundQuery, IsTablesKey, joined, JoinsTable, Makes, of_stream, of_tables, own, partitioned, plain, query, Reads, row_key, rowkey_types, one, window_types}
 use Rattle.ksql_program.specs.declared.program.Item.{Item}
 use Rattle.ksql_program.specs.declared.program.Item.TheVariants.{Declared, Started}
 use Rattle.ksql_program.specs.declared.query.From.{From}
@@ -37,21 +37,17 @@ use Rattle.ksql_nodes.specs.Entries.{Entry, Step, from_side, results, through}
 use Rattle.ksql_nodes.specs.Nodes.{gives}
 use Rattle.ksql_nodes.specs.TableAggregates.{aggregate_of_table}
 use Rattle.ksql_nodes.proofs.Lists.{All-append}
-use Rattle.query_meaning.specs.Built.{is_built_shape}
 use Rattle.query_meaning.specs.Meaning.{declared_changes, item_changes, meaning, steps_of_declared}
 use Rattle.query_meaning.specs.Queries.{after_aggregate, changes_at, entry_cmp, filter_of, join_of, join_over, kind_at, lanes_of, leftmost, query_changes, read_entries, shape_steps, side_at, steps_of, whole_changes, with_key_cells}
-use Rattle.meaning_laws.specs.Windows.{HaveNoWindow, is_windowless}
 use Rattle.meaning_laws.specs.Bounds.{HasColumnsOf, HaveColumns, IsDecodedOf, IsKeyOf, IsRecordOf}
 use Rattle.meaning_laws.proofs.Lists.{All-ascending, All-both, All-filter, All-map, All-passes, All-weaker}
-use Rattle.meaning_laws.proofs.RowTypes.{BodyHas, Holds, IsChangeOf, KeyOf, WholeKey, aggregate-filled, columns-types, filled-columns, filter-fits, group-fits, having-fits, key-types, own-key, row-types, select-said, select-turned, table-aggregate-filled, table-apart, table-fits, whole-filled}
+use Rattle.meaning_laws.proofs.RowTypes.{BodyHas, Holds, IsChangeOf, KeyOf, WholeKey, aggregate-filled, columns-types, filled-columns, filter-fits, group-fits, grouped-apart, having-fits, key-types, own-key, row-types, select-said, select-turned, table-aggregate-filled, table-apart, table-fits, whole-filled}
 use Rattle.meaning_laws.proofs.JoinedRows.{IsOfSides, key-first, stream-joined, tables-joined, tables-keep}
 use Rattle.meaning_laws.proofs.EachRelation.{AreAmong, Each, each-at, meant-each}
 use Rattle.meaning_laws.proofs.Saying.{placed_at}
 use Rattle.meaning_laws.proofs.Sizes.{All-flat_map, Gives, GivesFor, entries-give, results-give}
 use Rattle.meaning_laws.proofs.Turning.{changed-from-side}
 use Rattle.meaning_laws.proofs.RelationTables.{reads-kind, reads-unwindowed}
-
--- ---- what is built
 
 -- ---- steps in a row
 
@@ -78,21 +74,21 @@ module _ (n : ℕ) (over : Kind) (K : List Value → Type 0) (types : List (Opti
   filter-through (Some e) rest B give changes h =
       give (results (gives n (node.Filter e)) [] (from_side 0 changes)) (step-give (Holds over K types) (Holds over K types) (gives n (node.Filter e)) (filter-fits n e over K types) changes h)
 
--- HAVING and the items, after an aggregate
-module _ (n : ℕ) (gk types : List (Option SqlType)) (having : Option Typed) (values : List Typed) (cs : List Column) (sound : AreColumns kind.Table types values cs) where
-  after-filled : (changes : List Change) → AllByRecursion (IsChangeOf kind.Table gk types) changes →
-      AllByRecursion (IsChangeOf kind.Table gk (column_types cs)) (through (map (gives n) (after_aggregate having values)) (from_side 0 changes))
+-- HAVING and the items, after an aggregate, whose result is no stream
+module _ (n : ℕ) (over : Kind) (apart : over ≡ kind.Stream → ⊥) (gk types : List (Option SqlType)) (having : Option Typed) (values : List Typed) (cs : List Column) (sound : AreColumns over types values cs) where
+  after-filled : (changes : List Change) → AllByRecursion (IsChangeOf over gk types) changes →
+      AllByRecursion (IsChangeOf over gk (column_types cs)) (through (map (gives n) (after_aggregate having values)) (from_side 0 changes))
   after-filled = by having
     where
-      select : Gives (IsChangeOf kind.Table gk types) (IsChangeOf kind.Table gk (column_types cs)) (gives n (node.Select [] values))
-      select = select-turned n kind.Table table-apart types [] values cs sound (WholeKey gk) (WholeKey gk) (λ key h. h)
+      select : Gives (IsChangeOf over gk types) (IsChangeOf over gk (column_types cs)) (gives n (node.Select [] values))
+      select = select-turned n over apart types [] values cs sound (KeyOf over gk) (KeyOf over gk) (λ key h. h)
 
-      by : (having : Option Typed) → (changes : List Change) → AllByRecursion (IsChangeOf kind.Table gk types) changes →
-          AllByRecursion (IsChangeOf kind.Table gk (column_types cs)) (through (map (gives n) (after_aggregate having values)) (from_side 0 changes))
-      by None changes h = last-give (IsChangeOf kind.Table gk types) (IsChangeOf kind.Table gk (column_types cs)) (gives n (node.Select [] values)) select changes h
+      by : (having : Option Typed) → (changes : List Change) → AllByRecursion (IsChangeOf over gk types) changes →
+          AllByRecursion (IsChangeOf over gk (column_types cs)) (through (map (gives n) (after_aggregate having values)) (from_side 0 changes))
+      by None changes h = last-give (IsChangeOf over gk types) (IsChangeOf over gk (column_types cs)) (gives n (node.Select [] values)) select changes h
       by (Some e) changes h =
-          last-give (IsChangeOf kind.Table gk types) (IsChangeOf kind.Table gk (column_types cs)) (gives n (node.Select [] values)) select (results (gives n (node.Having e)) [] (from_side 0 changes))
-          (step-give (IsChangeOf kind.Table gk types) (IsChangeOf kind.Table gk types) (gives n (node.Having e)) (having-fits n e kind.Table (WholeKey gk) types) changes h)
+          last-give (IsChangeOf over gk types) (IsChangeOf over gk (column_types cs)) (gives n (node.Select [] values)) select (results (gives n (node.Having e)) [] (from_side 0 changes))
+          (step-give (IsChangeOf over gk types) (IsChangeOf over gk types) (gives n (node.Having e)) (having-fits n e over (KeyOf over gk) types) changes h)
 
 -- a key of which K holds is a whole one of the key columns of a plain query over a table
 abbrev KeepsKey : (List Value → Type 0) → List (Option SqlType) → Shape → Type 0
@@ -100,43 +96,45 @@ KeepsKey K types (Plain ks vs) = (cs : List Column) → AreColumns kind.Table ty
 KeepsKey K types (Group ks window aggs having values) = Unit {0}
 
 -- the columns after a grouping, by the types of its key columns
-after-columns : (over : Kind) (types : List (Option SqlType)) (ks : List Typed) (kcs : List Column) (ats : List (Option SqlType)) (vs : List Typed) (vcs : List Column) → AreColumns over types ks kcs →
-    AreColumns kind.Table (map (λ k. k.ty) ks ++ ats ++ []) vs vcs → AreColumns kind.Table (column_types kcs ++ ats ++ []) vs vcs
-after-columns over types ks kcs ats vs vcs keys sound = subst (λ ts. AreColumns kind.Table (ts ++ ats ++ []) vs vcs) (columns-types over types ks kcs keys) sound
+after-columns : (over result : Kind) (types : List (Option SqlType)) (ks : List Typed) (kcs : List Column) (ats ws : List (Option SqlType)) (vs : List Typed) (vcs : List Column) → AreColumns over types ks kcs →
+    AreColumns result (map (λ k. k.ty) ks ++ ats ++ ws) vs vcs → AreColumns result (column_types kcs ++ ats ++ ws) vs vcs
+after-columns over result types ks kcs ats ws vs vcs keys sound = subst (λ ts. AreColumns result (ts ++ ats ++ ws) vs vcs) (columns-types over types ks kcs keys) sound
 
 -- what a shape makes of rows of some types
 module _ (n : ℕ) (l : Relation) (types : List (Option SqlType)) (K : List Value → Type 0) where
   shape-filled : (over : Kind) → l.kind ≡ over → (over ≡ kind.Windowed → ⊥) → {shape : Shape} {out : Relation} → Makes l types shape out → (over ≡ kind.Table → KeepsKey K types shape) →
-      IsTrue (is_built_shape shape) → (changes : List Change) → AllByRecursion (Holds over K types) changes → AreChangesOf out (through (shape_steps n over shape) (from_side 0 changes))
-  shape-filled kind.Stream is un (plain {ks = ks} {vs = vs} {out = out} kss vss same) keeps built changes h =
+      (changes : List Change) → AllByRecursion (Holds over K types) changes → AreChangesOf out (through (shape_steps n over shape) (from_side 0 changes))
+  shape-filled kind.Stream is un (plain {ks = ks} {vs = vs} {out = out} kss vss same) keeps changes h =
       subst (λ k. AllByRecursion (IsChangeOf k (column_types out.schema.keys) (column_types out.schema.values)) (through (gives n (node.Select ks vs) ∷ []) (from_side 0 changes))) (sym (same ∙ is))
       (last-give (Holds kind.Stream K types) (IsChangeOf kind.Stream (column_types out.schema.keys) (column_types out.schema.values)) (gives n (node.Select ks vs))
       (select-said n types ks vs out.schema.keys out.schema.values
       (subst (λ k. AreColumns k types ks out.schema.keys) is kss) (subst (λ k. AreColumns k types vs out.schema.values) is vss) K)
       changes h)
-  shape-filled kind.Table is un (plain {ks = ks} {vs = vs} {out = out} kss vss same) keeps built changes h =
+  shape-filled kind.Table is un (plain {ks = ks} {vs = vs} {out = out} kss vss same) keeps changes h =
       subst (λ k. AllByRecursion (IsChangeOf k (column_types out.schema.keys) (column_types out.schema.values)) (through (gives n (node.Select ks vs) ∷ []) (from_side 0 changes))) (sym (same ∙ is))
       (last-give (Holds kind.Table K types) (IsChangeOf kind.Table (column_types out.schema.keys) (column_types out.schema.values)) (gives n (node.Select ks vs))
       (select-turned n kind.Table table-apart types ks vs out.schema.values (subst (λ k. AreColumns k types vs out.schema.values) is vss)
       K (WholeKey (column_types out.schema.keys)) (keeps refl out.schema.keys (subst (λ k. AreColumns k types ks out.schema.keys) is kss)))
       changes h)
-  shape-filled kind.Stream is un (grouped {ks = ks} {vs = vs} {w = None} {gs = gs} {h = having} {out = out} ats _ _ kss _ aggs _ _ vss same) keeps built changes h =
+  shape-filled kind.Stream is un (grouped {ks = ks} {vs = vs} {w = w} {gs = gs} {h = having} {out = out} ats _ _ kss _ aggs _ _ vss same) keeps changes h =
       let gk : List (Option SqlType) = column_types out.schema.keys in
       let groups : List Change = results (gives n (node.Group ks)) [] (from_side 0 changes) in
-      subst (λ k. AllByRecursion (IsChangeOf k gk (column_types out.schema.values)) (through (shape_steps n kind.Stream (Group ks None gs having vs)) (from_side 0 changes))) (sym same)
-      (after-filled n gk (gk ++ ats ++ []) having vs out.schema.values (after-columns l.kind types ks out.schema.keys ats vs out.schema.values kss vss) (results (gives n (node.Aggregate kind.Stream gs None)) [] (from_side 0 groups))
-      (step-give (Holds kind.Stream (WholeKey gk) types) (IsChangeOf kind.Table gk (gk ++ ats ++ [])) (gives n (node.Aggregate kind.Stream gs None))
-      (aggregate-filled n types gk (subst (λ k. Aggregates k types gs ats) is aggs)) groups
+      subst (λ k. AllByRecursion (IsChangeOf k gk (column_types out.schema.values)) (through (shape_steps n kind.Stream (Group ks w gs having vs)) (from_side 0 changes))) (sym same)
+      (after-filled n (grouped_kind w) (grouped-apart w) gk (gk ++ ats ++ window_types w) having vs out.schema.values
+      (after-columns l.kind (grouped_kind w) types ks out.schema.keys ats (window_types w) vs out.schema.values kss vss) (results (gives n (node.Aggregate kind.Stream gs w)) [] (from_side 0 groups))
+      (step-give (Holds kind.Stream (WholeKey gk) types) (IsChangeOf (grouped_kind w) gk (gk ++ ats ++ window_types w)) (gives n (node.Aggregate kind.Stream gs w))
+      (aggregate-filled types gk (subst (λ k. Aggregates k types gs ats) is aggs) n w) groups
       (step-give (Holds kind.Stream K types) (Holds kind.Stream (WholeKey gk) types) (gives n (node.Group ks))
       (group-fits n types ks out.schema.keys (subst (λ k. AreColumns k types ks out.schema.keys) is kss) K) changes h)))
-  shape-filled kind.Table is un (grouped {ks = ks} {vs = vs} {w = None} {gs = gs} {h = having} {out = out} ats _ _ kss _ aggs _ _ vss same) keeps built changes h =
+  shape-filled kind.Table is un (grouped {ks = ks} {vs = vs} {w = None} {gs = gs} {h = having} {out = out} ats _ _ kss _ aggs _ _ vss same) keeps changes h =
       let gk : List (Option SqlType) = column_types out.schema.keys in
       subst (λ k. AllByRecursion (IsChangeOf k gk (column_types out.schema.values)) (through (shape_steps n kind.Table (Group ks None gs having vs)) (from_side 0 changes))) (sym same)
-      (after-filled n gk (gk ++ ats ++ []) having vs out.schema.values (after-columns l.kind types ks out.schema.keys ats vs out.schema.values kss vss) (results (aggregate_of_table ks gs) [] (from_side 0 changes))
+      (after-filled n kind.Table table-apart gk (gk ++ ats ++ []) having vs out.schema.values
+      (after-columns l.kind kind.Table types ks out.schema.keys ats [] vs out.schema.values kss vss) (results (aggregate_of_table ks gs) [] (from_side 0 changes))
       (step-give (Holds kind.Table K types) (IsChangeOf kind.Table gk (gk ++ ats ++ [])) (aggregate_of_table ks gs)
       (table-aggregate-filled types ks out.schema.keys (subst (λ k. AreColumns k types ks out.schema.keys) is kss) (subst (λ k. Aggregates k types gs ats) is aggs) K) changes h))
-  shape-filled over is un (grouped {w = Some w} ats _ _ _ _ _ _ _ _ _) keeps built changes h = absurd (true≢false (sym built))
-  shape-filled kind.Windowed is un makes keeps built changes h = absurd (un refl)
+  shape-filled kind.Table is un (grouped {w = Some w} _ _ _ _ _ _ windowed _ _ _) keeps changes h = absurd (table-apart (sym is ∙ windowed.1))
+  shape-filled kind.Windowed is un makes keeps changes h = absurd (un refl)
 
 -- ---- what a query reads
 
@@ -202,14 +200,14 @@ module _ (items before : List Item) (among : AreAmong before items) (lists : Lis
       (All-map B (with_key_cells (length r.schema.keys)) (changes_at lists number)
       (All-weaker A (λ c. B (with_key_cells (length r.schema.keys) c)) (λ c h. whole-filled r.kind r c h) (changes_at lists number) (each-at AreChangesOf before lists each number r at)))
 
-  module _ (on : Option Typed) {shape : Shape} {out : Relation} (built : IsTrue (is_built_shape shape)) where
+  module _ (on : Option Typed) {shape : Shape} {out : Relation} where
     -- a join, WHERE and a shape
     join-filled : (over : Kind) (K : List Value → Type 0) (l : Relation) (types : List (Option SqlType)) → l.kind ≡ over → (over ≡ kind.Windowed → ⊥) → Makes l types shape out →
         (over ≡ kind.Table → KeepsKey K types shape) → (x : Node) (P : Entry → Type 0) → GivesFor P (Holds over K types) (gives n x) → (es : List Entry) → AllByRecursion P es →
         AreChangesOf out (through (gives n x ∷ (map (gives n) (filter_of on) ++ shape_steps n over shape)) es)
     join-filled over K l types is un makes keeps x P give es h =
         filter-through n over K types on (shape_steps n over shape) (IsChangeOf out.kind (column_types out.schema.keys) (column_types out.schema.values))
-        (shape-filled n l types K over is un makes keeps built) (results (gives n x) [] es) (results-give P (Holds over K types) (gives n x) give [] es tt h)
+        (shape-filled n l types K over is un makes keeps) (results (gives n x) [] es) (results-give P (Holds over K types) (gives n x) give [] es tt h)
 
     joined-filled : (k : JoinKind) (left right : ℕ) (key : Typed) (l r : Relation) → relation_at before left ≡ Some l → relation_at before right ≡ Some r → r.kind ≡ kind.Table → IsJoined k key l r →
         Makes l (column_types (columns l) ++ column_types (columns r) ++ rowkey_types k l) shape out → HasItsKey before (Join k left right key) shape →
@@ -245,18 +243,18 @@ module _ (items before : List Item) (among : AreAmong before items) (lists : Lis
     read-filled (One number) (one {r = l} at unwindowed) makes keyed over is =
         filter-through n over (KeyOf over (column_types l.schema.keys)) (column_types (columns l)) on (shape_steps n over shape) (IsChangeOf out.kind (column_types out.schema.keys) (column_types out.schema.values))
         (shape-filled n l (column_types (columns l)) (KeyOf over (column_types l.schema.keys)) over is (λ windowed. unwindowed (is ∙ windowed)) makes
-        (λ table. subst (λ k. KeepsKey (KeyOf k (column_types l.schema.keys)) (column_types (columns l)) shape) (sym table) (own-keeps before number l at (is ∙ table) shape keyed)) built)
+        (λ table. subst (λ k. KeepsKey (KeyOf k (column_types l.schema.keys)) (column_types (columns l)) shape) (sym table) (own-keeps before number l at (is ∙ table) shape keyed)))
         (whole_changes items lists number) (whole-at number l at over is)
     read-filled (Join k left right key) (joined {l = l} {r = r} at_left at_right apart table same j) makes keyed over is =
         subst (λ o. AreChangesOf out (through (map (gives n) (join_over items k left right key o ++ filter_of on) ++ shape_steps n over shape) (read_entries items lists (Join k left right key))))
         (sym (ap (λ o. unwrap_or (option_map (λ r. r.kind) o) kind.Stream) (among left l at_left) ∙ is))
         (joined-filled k left right key l r at_left at_right table j makes keyed over is (λ windowed. reads-unwindowed before (joined at_left at_right apart table same j) (is ∙ windowed)))
 
-  query-filled : (q : Query) → n ≡ lanes_of items q → IsTrue (is_built_shape q.shape) → IsSoundQuery before q → AreChangesOf q.out (query_changes items lists q)
+  query-filled : (q : Query) → n ≡ lanes_of items q → IsSoundQuery before q → AreChangesOf q.out (query_changes items lists q)
   unfolding query_changes steps_of
-  query-filled q is built (query reads condition makes keyed _) =
+  query-filled q is (query reads condition makes keyed _) =
       subst (λ m. AreChangesOf q.out (through (map (gives m) (join_of items q.from ++ filter_of q.filter) ++ shape_steps m (kind_at items (leftmost q.from)) q.shape) (read_entries items lists q.from))) is
-      (read-filled q.filter built q.from reads makes keyed (kind_at items (leftmost q.from)) (sym (reads-kind before items among reads)))
+      (read-filled q.filter q.from reads makes keyed (kind_at items (leftmost q.from)) (sym (reads-kind before items among reads)))
 
 -- ---- declared relations
 
@@ -303,18 +301,18 @@ module _ (items : List Item) (order : List SourceRecord) (records : AllByRecursi
   declared-filled r at =
       declared-through r.kind r.number (column_types r.schema.keys) (column_types r.schema.values) (said r order) (said-filled r at)
 
-  item-filled : (before : List Item) (lists : List (List Change)) → AreAmong before items → Each AreChangesOf before lists → (i : Item) → IsTrue (is_windowless i) →
+  item-filled : (before : List Item) (lists : List (List Change)) → AreAmong before items → Each AreChangesOf before lists → (i : Item) →
       relation_at items (length before) ≡ Some (relation_of i) → IsSoundItem before i → AreChangesOf (relation_of i) (item_changes items order lists i)
-  item-filled before lists among each (Declared r) built at sound = declared-filled r (ap (relation_at items) sound.0.numbered ∙ at)
-  item-filled before lists among each (Started q) built at sound = query-filled items before among lists each (lanes_of items q) q refl built sound.1
+  item-filled before lists among each (Declared r) at sound = declared-filled r (ap (relation_at items) sound.0.numbered ∙ at)
+  item-filled before lists among each (Started q) at sound = query-filled items before among lists each (lanes_of items q) q refl sound.1
 
 -- the changes of each relation have keys and rows of its columns
-pub meant-changes : (items : List Item) (order : List SourceRecord) → IsSound items → HaveNoWindow items → All (IsRecordOf items) order → Each AreChangesOf items (meaning items order)
-meant-changes items order sound windowless records =
-    meant-each AreChangesOf (λ i. IsTrue (is_windowless i)) items order (item-filled items order (recursion_from_All (IsRecordOf items) order records)) [] [] tt items windowless sound.sound refl
+pub meant-changes : (items : List Item) (order : List SourceRecord) → IsSound items → All (IsRecordOf items) order → Each AreChangesOf items (meaning items order)
+meant-changes items order sound records =
+    meant-each AreChangesOf items order (item-filled items order (recursion_from_All (IsRecordOf items) order records)) [] [] tt items sound.sound refl
 
-pub meant-filled : (items : List Item) (order : List SourceRecord) → IsSound items → HaveNoWindow items → All (IsRecordOf items) order → HaveColumns items (meaning items order)
-meant-filled items order sound windowless records number r at =
+pub meant-filled : (items : List Item) (order : List SourceRecord) → IsSound items → All (IsRecordOf items) order → HaveColumns items (meaning items order)
+meant-filled items order sound records number r at =
     All-from_recursion (HasColumnsOf r) (changes_at (meaning items order) number)
     (All-weaker (IsChangeOf r.kind (column_types r.schema.keys) (column_types r.schema.values)) (HasColumnsOf r) (filled-columns r) (changes_at (meaning items order) number)
-    (each-at AreChangesOf items (meaning items order) (meant-changes items order sound windowless records) number r at))
+    (each-at AreChangesOf items (meaning items order) (meant-changes items order sound records) number r at))

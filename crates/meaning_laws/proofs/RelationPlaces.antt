@@ -32,7 +32,7 @@ use Rattle.ksql_nodes.proofs.Lists.{All-append}
 use Rattle.query_meaning.specs.Meaning.{declared_changes, item_changes, meaning, steps_of_declared}
 use Rattle.query_meaning.specs.Queries.{after_aggregate, changes_at, filter_of, join_of, join_over, key_columns, kind_at, lanes_of, leftmost, query_changes, read_entries, shape_steps, side_at, steps_of, whole_changes, with_key_cells}
 use Rattle.meaning_laws.specs.Places.{ArePlaced}
-use Rattle.meaning_laws.proofs.Lists.{All-of, All-weaker, Pairwise, Pairwise-filter, Pairwise-from_all, Pairwise-map}
+use Rattle.meaning_laws.proofs.Lists.{All-weaker, Pairwise, Pairwise-filter, Pairwise-from_all, Pairwise-map}
 use Rattle.meaning_laws.proofs.Forks.{IsBefore, Rise, rise-placed}
 use Rattle.meaning_laws.proofs.EachRelation.{AreAmong, Each, each-at, meant-each}
 use Rattle.meaning_laws.proofs.Rising.{IsPlain, RiseAt, aggregate-rising, base, gives-rising, results-rise, rise-next, through-rise, triggers}
@@ -139,10 +139,10 @@ module _ (items before : List Item) (lists : List (List Change)) (each : Each (�
 -- ---- each relation
 
 module _ (items : List Item) (order : List SourceRecord) (rises : Pairwise (λ a b. record_cmp a b ≡ Less) order) where
-  item-rise : (before : List Item) (lists : List (List Change)) → AreAmong before items → Each (λ r. Rise) before lists → (i : Item) → Unit {0} →
+  item-rise : (before : List Item) (lists : List (List Change)) → AreAmong before items → Each (λ r. Rise) before lists → (i : Item) →
       relation_at items (length before) ≡ Some (relation_of i) → IsSoundItem before i → Rise (item_changes items order lists i)
-  item-rise before lists among each (Declared r) _ at sound = declared-rise r order rises
-  item-rise before lists among each (Started q) _ at sound = query-rise items before lists each (lanes_of items q) q refl sound.1
+  item-rise before lists among each (Declared r) at sound = declared-rise r order rises
+  item-rise before lists among each (Started q) at sound = query-rise items before lists each (lanes_of items q) q refl sound.1
 
 each-placed : (items : List Item) (lists : List (List Change)) → Each (λ r. Rise) items lists → AllByRecursion ArePlaced lists
 each-placed [] [] each = tt
@@ -152,7 +152,7 @@ each-placed (i ∷ is) (l ∷ lists) each = (rise-placed l each.0, each-placed i
 
 pub meant-rise : (items : List Item) (order : List SourceRecord) → IsSound items → Rises record_cmp order → Each (λ r. Rise) items (meaning items order)
 meant-rise items order sound rises =
-    meant-each (λ r. Rise) (λ i. Unit {0}) items order (item-rise items order (Pairwise-from_all (λ a b. record_cmp a b ≡ Less) order rises)) [] [] tt items (All-of items (λ i. tt)) sound.sound refl
+    meant-each (λ r. Rise) items order (item-rise items order (Pairwise-from_all (λ a b. record_cmp a b ≡ Less) order rises)) [] [] tt items sound.sound refl
 
 pub meant-placed : (items : List Item) (order : List SourceRecord) → IsSound items → Rises record_cmp order → All ArePlaced (meaning items order)
 meant-placed items order sound rises =

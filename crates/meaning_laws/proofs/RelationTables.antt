@@ -33,7 +33,6 @@ use Rattle.ksql_nodes.proofs.Lists.{All-append}
 use Rattle.query_meaning.specs.Meaning.{declared_changes, item_changes, meaning, steps_of_declared}
 use Rattle.query_meaning.specs.Queries.{after_aggregate, changes_at, filter_of, join_of, join_over, key_columns, kind_at, lanes_of, leftmost, query_changes, read_entries, shape_steps, side_at, steps_of, whole_changes}
 use Rattle.meaning_laws.specs.Tables.{TablesTurn}
-use Rattle.meaning_laws.proofs.Lists.{All-of}
 use Rattle.meaning_laws.proofs.JoinedTables.{joined-turned}
 use Rattle.meaning_laws.proofs.EachRelation.{AreAmong, Each, each-at, meant-each}
 use Rattle.meaning_laws.proofs.Rowwise.{filter-keeps, grouped-turned, having-keeps, select-keeps, table-aggregate-keeps, whole-turned}
@@ -167,15 +166,15 @@ declared-turned k number changes is =
     (subst AreTurned (sym (changed-from-side (results (gives 1 (node.Table number)) [] (from_side 0 changes)))) (table-turned 1 number (from_side 0 changes)))
 
 module _ (items : List Item) (order : List SourceRecord) where
-  item-turned : (before : List Item) (lists : List (List Change)) → AreAmong before items → Each TurnsIn before lists → (i : Item) → Unit {0} →
+  item-turned : (before : List Item) (lists : List (List Change)) → AreAmong before items → Each TurnsIn before lists → (i : Item) →
       relation_at items (length before) ≡ Some (relation_of i) → IsSoundItem before i → TurnsIn (relation_of i) (item_changes items order lists i)
   unfolding declared_changes
-  item-turned before lists among each (Declared r) _ at sound table = declared-turned r.kind r.number (said r order) table
-  item-turned before lists among each (Started q) _ at sound table = query-turned items before among lists each (lanes_of items q) q refl sound.1 table
+  item-turned before lists among each (Declared r) at sound table = declared-turned r.kind r.number (said r order) table
+  item-turned before lists among each (Started q) at sound table = query-turned items before among lists each (lanes_of items q) q refl sound.1 table
 
 -- the list of each table is that of a table
 pub meant-turned : (items : List Item) (order : List SourceRecord) → IsSound items → Each TurnsIn items (meaning items order)
-meant-turned items order sound = meant-each TurnsIn (λ i. Unit {0}) items order (item-turned items order) [] [] tt items (All-of items (λ i. tt)) sound.sound refl
+meant-turned items order sound = meant-each TurnsIn items order (item-turned items order) [] [] tt items sound.sound refl
 
 pub meant-turning : (items : List Item) (order : List SourceRecord) → IsSound items → TablesTurn items (meaning items order)
 meant-turning items order sound number r at is =

@@ -1,7 +1,7 @@
 -- Rows and keys that hold values of some types, and what steps make of them.
 use Rattle.std.proofs.Common.{◌≡◌, ◌∙◌, ap, ap₂, refl, sym, subst, ℕ, List, [], ◌∷◌, ◌++◌, map, length, length-append, append_assoc, replicate, Bool, true, false}
 use Rattle.std.specs.Prelude.{filter, if◌then◌else◌, Option, Some, None, option_map, option_and_then, unwrap_or, IfSome}
-use Rattle.std.specs.List.{fold, last_or, list_any, AllByRecursion, AllZip}
+use Rattle.std.specs.List.{enumerate_from, fold, last_or, list_any, AllByRecursion, AllZip}
 use Rattle.std.specs.declared.cmp.Ordering.{Ordering}
 use Rattle.std.specs.Ordering.{is_gt, is_lt}
 use Rattle.std.proofs.lemmas.List.{append-nil, length-map, map-append}
@@ -12,6 +12,8 @@ use Rattle.ksql_types.specs.declared.relation.Column.{Column}
 use Rattle.ksql_types.specs.declared.relation.Kind.{Kind}
 use Rattle.ksql_types.specs.declared.relation.Kind.TheVariants as kind
 use Rattle.ksql_types.specs.declared.relation.Relation.{Relation}
+use Rattle.ksql_types.specs.declared.relation.Span.{Span}
+use Rattle.ksql_types.specs.declared.relation.Window.{Window}
 use Rattle.ksql_types.specs.declared.value.SqlType.{SqlType}
 use Rattle.ksql_types.specs.declared.value.SqlType.TheVariants as sql
 use Rattle.ksql_types.specs.declared.value.Value.{Value}
@@ -27,21 +29,22 @@ use Rattle.ksql_expr.specs.declared.typed.AggFun.{AggFun}
 use Rattle.ksql_expr.specs.declared.typed.AggFun.TheVariants.{CountAll, Count, Sum, Min, Max, Latest, Earliest}
 use Rattle.ksql_expr.specs.declared.typed.Typed.{Typed}
 use Rattle.ksql_expr.specs.declared.typed.TypedNode.TheVariants as form
-use Rattle.ksql_program.specs.Sound.{AreColumns, AreColumnsFrom, Aggregates, argument_type, column_types, IsArgument, more, none}
+use Rattle.ksql_program.specs.Sound.{AreColumns, AreColumnsFrom, Aggregates, argument_type, column_types, grouped_kind, IsArgument, more, none, window_types}
 use Rattle.ksql_program.specs.declared.query.Agg.{Agg}
 use Rattle.ksql_nodes.specs.declared.node.Node.TheVariants.{Aggregate, Filter, Group, Having, Select, Table}
-use Rattle.ksql_nodes.specs.Aggregates.{Dated, aggregate, argument, arguments, better, dated, entered, extreme, outcome, present, type_of_agg, unless_none, worth}
+use Rattle.ksql_nodes.specs.Aggregates.{Dated, aggregate, argument, arguments, better, dated, entered, extreme, group_change, outcome, present, type_of_agg, unless_none, window_cells, worth}
 use Rattle.ksql_nodes.specs.Entries.{Entry, Row, is_same_key, of_key, row_after}
 use Rattle.ksql_nodes.specs.Groups.{Member, grouped, in_group, member, moved}
 use Rattle.ksql_nodes.specs.Joins.{rekeyed}
 use Rattle.ksql_nodes.specs.Nodes.{gives}
-use Rattle.ksql_nodes.specs.Rows.{by_rows, key_of, passing, selected, selected_key, turned, values, with_body}
+use Rattle.ksql_nodes.specs.Rows.{at_path, by_rows, key_of, passing, selected, selected_key, turned, values, with_body}
 use Rattle.ksql_nodes.specs.TableAggregates.{aggregate_of_table, held, held_change, held_outcome, held_worth, is_in, standing, touching}
+use Rattle.ksql_nodes.specs.Windows.{Timed, added, is_added, timed, window_change, windows_of, with_times}
 use Rattle.ksql_nodes.proofs.Lists.{All-append}
 use Rattle.query_meaning.specs.Queries.{key_cells, with_key_cells}
 use Rattle.meaning_laws.specs.Bounds.{HasColumnsOf, IsBodyOf, IsKeyOf, IsRowOf}
-use Rattle.meaning_laws.proofs.Lists.{All-filter, All-map, All-weaker}
-use Rattle.meaning_laws.proofs.Sizes.{Gives, last-holds}
+use Rattle.meaning_laws.proofs.Lists.{All-filter, All-map, All-of, All-weaker}
+use Rattle.meaning_laws.proofs.Sizes.{All-flat_map, Gives, last-holds, timed-hold}
 use Rattle.meaning_laws.proofs.TypedValues.{Has, null-has, nothing-has, number-has, typed-has_type, value-column}
 
 -- a row has a value of each type
@@ -494,23 +497,55 @@ unless-fits : (ts : List (Option SqlType)) (es : List Entry) (row : Row) → Row
 unless-fits ts [] row h = tt
 unless-fits ts (e ∷ es) row h = h
 
-pub aggregate-filled : (n : ℕ) (types ks : List (Option SqlType)) {aggs : List Agg} {ats : List (Option SqlType)} → Aggregates kind.Stream types aggs ats →
-    Gives (Holds kind.Stream (WholeKey ks) types) (IsChangeOf kind.Table ks (ks ++ ats ++ [])) (gives n (Aggregate kind.Stream aggs None))
-unfolding gives
-aggregate-filled n types ks {aggs = aggs} {ats = ats} sound before past e now =
-    ((now.0, (outcome-fits mine olds, outcome-fits (mine ++ e ∷ []) (more-rows kind.Stream types mine e olds now.1))), tt)
-  where
-    mine : List Entry
-    mine = of_key e.change.key before
+-- the cells of a group's window
+abbrev CellsFit : Option Window → Option Span → Type 0
+CellsFit w span = RowHas (window_types w) (window_cells span)
 
-    olds : BringRows kind.Stream types mine
-    olds = of_key-rows kind.Stream types e.change.key before (bring-rows kind.Stream (WholeKey ks) types before past)
+module _ (types ks : List (Option SqlType)) {aggs : List Agg} {ats : List (Option SqlType)} (sound : Aggregates kind.Stream types aggs ats) where
+  outcome-fits : (w : Option Window) (span : Option Span) → CellsFit w span → (key : List Value) → RowHas ks key → (es : List Entry) → BringRows kind.Stream types es →
+      IfSome (outcome kind.Stream aggs key span es) (RowHas (ks ++ ats ++ window_types w))
+  outcome-fits w span cells key k es h =
+      unless-fits (ks ++ ats ++ window_types w) es (key ++ map (worth kind.Stream es) aggs ++ window_cells span)
+      (zip-append (ks ++ ats) (window_types w) (key ++ map (worth kind.Stream es) aggs) (window_cells span)
+      (zip-append ks ats key (map (worth kind.Stream es) aggs) k (worths-fit kind.Stream types sound (entered es) (entered-fit kind.Stream types es h))) cells)
 
-    outcome-fits : (es : List Entry) → BringRows kind.Stream types es → IfSome (outcome kind.Stream aggs e.change.key None es) (RowHas (ks ++ ats ++ []))
-    outcome-fits es h =
-        unless-fits (ks ++ ats ++ []) es (e.change.key ++ map (worth kind.Stream es) aggs ++ [])
-        (zip-append (ks ++ ats) [] (e.change.key ++ map (worth kind.Stream es) aggs) []
-        (zip-append ks ats e.change.key (map (worth kind.Stream es) aggs) now.0.0 (worths-fit kind.Stream types sound (entered es) (entered-fit kind.Stream types es h))) tt)
+  -- a group's change turns rows, as a table's does
+  group-change-fits : (w : Option Window) (span : Option Span) → CellsFit w span → (mine : List Entry) → BringRows kind.Stream types mine → (e : Entry) → Holds kind.Stream (WholeKey ks) types e.change →
+      IsChangeOf kind.Table ks (ks ++ ats ++ window_types w) (group_change kind.Stream aggs span mine e)
+  group-change-fits w span cells mine olds e now =
+      (now.0, (outcome-fits w span cells e.change.key now.0.0 mine olds, outcome-fits w span cells e.change.key now.0.0 (mine ++ e ∷ []) (more-rows kind.Stream types mine e olds now.1)))
+
+  window-change-fits : (w : Window) (before : List Timed) → AllByRecursion (λ t. BodyHas kind.Stream types t.entry.change.body) before → (t : Timed) → Holds kind.Stream (WholeKey ks) types t.entry.change →
+      (p : ℕ × Span) → AllByRecursion (IsChangeOf kind.Windowed ks (ks ++ ats ++ window_types (Some w))) (window_change kind.Stream aggs w before t p)
+  window-change-fits w before olds t now (i, span) = by (is_added w span t)
+    where
+      mine : List Entry
+      mine = added w span t.entry.change.key before
+
+      fits : IsChangeOf kind.Table ks (ks ++ ats ++ window_types (Some w)) (group_change kind.Stream aggs (Some span) mine t.entry)
+      fits =
+          group-change-fits (Some w) (Some span) (refl, (refl, tt)) mine
+          (All-map (λ e. BodyHas kind.Stream types e.change.body) (λ (t : Timed). t.entry) (filter _ before) (All-filter (λ t. BodyHas kind.Stream types t.entry.change.body) _ before olds)) t.entry now
+
+      by : (b : Bool) →
+          AllByRecursion (IsChangeOf kind.Windowed ks (ks ++ ats ++ window_types (Some w)))
+          (if b then at_path (t.entry.change.place.path ++ i ∷ []) (group_change kind.Stream aggs (Some span) mine t.entry) ∷ [] else [])
+      by true = (fits, tt)
+      by false = tt
+
+  pub aggregate-filled : (n : ℕ) (w : Option Window) → Gives (Holds kind.Stream (WholeKey ks) types) (IsChangeOf (grouped_kind w) ks (ks ++ ats ++ window_types w)) (gives n (Aggregate kind.Stream aggs w))
+  unfolding gives
+  aggregate-filled n None before past e now =
+      (group-change-fits None None tt (of_key e.change.key before) (of_key-rows kind.Stream types e.change.key before (bring-rows kind.Stream (WholeKey ks) types before past)) e now, tt)
+  aggregate-filled n (Some w) before past e now =
+      All-flat_map (IsChangeOf kind.Windowed ks (ks ++ ats ++ window_types (Some w))) (window_change kind.Stream aggs w (with_times n before) (timed n before e)) (λ p. Unit {0})
+      (λ p _. window-change-fits w (with_times n before) (timed-hold (λ e. BodyHas kind.Stream types e.change.body) n [] before (bring-rows kind.Stream (WholeKey ks) types before past)) (timed n before e) now p)
+      (enumerate_from 0 (windows_of w e.change.time)) (All-of (enumerate_from 0 (windows_of w e.change.time)) (λ p. tt))
+
+-- a grouped result is no stream
+pub grouped-apart : (w : Option Window) → grouped_kind w ≡ kind.Stream → ⊥
+grouped-apart None is = table-apart is
+grouped-apart (Some w) is = windowed-apart is
 
 -- the entries that stand are among all
 standing-rows : (over : Kind) (ts : List (Option SqlType)) (es : List Entry) → BringRows over ts es → BringRows over ts (standing es)

@@ -53,6 +53,11 @@ pub last-holds : (P : Entry → Type 0) (o : Option Entry) (es : List Entry) →
 last-holds P o [] h hs = h
 last-holds P o (e ∷ es) h hs = last-holds P (Some e) es hs.0 hs.1
 
+-- the entries of which times are kept
+pub timed-hold : (P : Entry → Type 0) (n : ℕ) (before es : List Entry) → AllByRecursion P es → AllByRecursion (λ t. P t.entry) (results (λ before e. timed n before e ∷ []) before es)
+timed-hold P n before [] h = tt
+timed-hold P n before (e ∷ es) h = (h.0, timed-hold P n (before ++ e ∷ []) es h.1)
+
 -- ---- times
 
 latest-within : (b : ℕ) (es : List Entry) → AllByRecursion (λ e. e.change.time ≤ b) es → latest_time es ≤ b
@@ -128,11 +133,6 @@ module _ (b m k : ℕ) where
   group_change-sized over aggs span mine past e now =
       latest-within b (mine ++ e ∷ [])
       (All-append (λ e. e.change.time ≤ b) mine (e ∷ []) (All-weaker (λ (e : Entry). IsSized b m e.change) (λ e. e.change.time ≤ b) (λ e h. h.0) mine past) (now.0, tt))
-
-  -- the entries of which times are kept
-  timed-hold : (P : Entry → Type 0) (n : ℕ) (before es : List Entry) → AllByRecursion P es → AllByRecursion (λ t. P t.entry) (results (λ before e. timed n before e ∷ []) before es)
-  timed-hold P n before [] h = tt
-  timed-hold P n before (e ∷ es) h = (h.0, timed-hold P n (before ++ e ∷ []) es h.1)
 
   window-sized : (over : Kind) (aggs : List Agg) (w : Window) (before : List Timed) → AllByRecursion (λ t. IsSized b m t.entry.change) before → (t : Timed) → IsSized b m t.entry.change → m + 1 ≤ k →
       (p : ℕ × Span) → AllByRecursion (IsSized b k) (window_change over aggs w before t p)

@@ -10,7 +10,6 @@ ghost use Rattle.meaning_laws.specs.Bounds.{HaveColumns, IsInTime, IsRecordOf, I
 ghost use Rattle.meaning_laws.specs.Places.{ArePlaced};
 ghost use Rattle.meaning_laws.specs.Prefixes.{IsMeantByFeeds};
 ghost use Rattle.meaning_laws.specs.Tables.{TablesTurn};
-ghost use Rattle.meaning_laws.specs.Windows.{HaveNoWindow};
 
 /// What is meant of the records up to a feed is what is meant of all records, up to that feed.
 pub fn prefixes_are_meant()
@@ -35,9 +34,8 @@ pub fn changes_are_small()
         All (λ changes. All IsSmall changes) (meaning items order) }
 {}
 
-/// Where the records have keys and rows of their relations' columns, so has each change. This is said of programs without
-/// windows.
+/// Where the records have keys and rows of their relations' columns, so has each change.
 pub fn changes_have_columns()
-    ensures { (items : List OneItem) (order : List OneRecord) → IsSound items → HaveNoWindow items →
-        All (IsRecordOf items) order → HaveColumns items (meaning items order) }
+    ensures { (items : List OneItem) (order : List OneRecord) → IsSound items → All (IsRecordOf items) order →
+        HaveColumns items (meaning items order) }
 {}

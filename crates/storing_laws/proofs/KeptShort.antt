@@ -15,7 +15,6 @@ use Rattle.ksql_program.specs.declared.program.Item.{Item}
 use Rattle.ksql_nodes.specs.declared.node.Node.{Node}
 use Rattle.ksql_nodes.specs.Entries.{Entry, Row, from_side, results, through}
 use Rattle.ksql_nodes.specs.Nodes.{gives}
-use Rattle.meaning_laws.specs.Windows.{HaveNoWindow}
 use Rattle.meaning_laws.proofs.Lists.{All-map, All-weaker}
 use Rattle.meaning_laws.proofs.Sizes.{entries-give, results-give}
 use Rattle.record_codec.specs.Spelling.{IsShort}
@@ -74,10 +73,10 @@ nodes-keep n nodes keep es h =
 
 -- ---- topics
 
-pub contents-short : (items : List Item) (order : List SourceRecord) → IsSound items → HaveNoWindow items → HoldTexts items → All IsShortRecord order → All IsTextRecord order →
+pub contents-short : (items : List Item) (order : List SourceRecord) → IsSound items → HoldTexts items → All IsShortRecord order → All IsTextRecord order →
     IsShortThroughout items (topology_of items) order
-contents-short items order sound windowless texts short utf8 topic part =
+contents-short items order sound texts short utf8 topic part =
     let has : List Change = contents items (topology_of items) order topic part in
     All-from_recursion IsShortChange has
     (All-weaker IsProperChange IsShortChange proper-short has
-    (recursion_from_All IsProperChange has (contents-proper items order sound windowless texts short utf8 topic part)))
+    (recursion_from_All IsProperChange has (contents-proper items order sound texts short utf8 topic part)))

@@ -1,5 +1,6 @@
 pub mod Texts
 pub mod ShortValues
+pub mod WindowSpans
 pub mod ShortChanges
 pub mod Along
 pub mod StageForms

@@ -1,5 +1,5 @@
--- What stands in the topics of a topology has short values of UTF-8 and no window.
-use Rattle.std.proofs.Common.{refl, ℕ, zero, suc, List, [], ◌∷◌, ◌++◌}
+-- What stands in the topics of a topology has short values of UTF-8, and its windows start before they end.
+use Rattle.std.proofs.Common.{ℕ, zero, suc, List, [], ◌∷◌, ◌++◌}
 use Rattle.std.specs.Prelude.{◌==◌, All, filter, Option, None, Some, IfSome, option_map, slice_get, replicate}
 use Rattle.std.specs.List.{AllByRecursion}
 use Rattle.std.proofs.lemmas.List.Elements.{All-from_recursion, recursion_from_All}
@@ -21,7 +21,6 @@ use Rattle.ksql_program.specs.declared.program.Item.TheVariants.{Declared, Start
 use Rattle.ksql_nodes.specs.Entries.{Row}
 use Rattle.ksql_nodes.proofs.Lists.{All-append}
 use Rattle.query_meaning.specs.Queries.{key_cells, with_key_cells}
-use Rattle.meaning_laws.specs.Windows.{HaveNoWindow}
 use Rattle.meaning_laws.proofs.Lists.{All-both, All-filter, All-weaker}
 use Rattle.meaning_laws.proofs.Saying.{placed_at}
 use Rattle.meaning_laws.proofs.Sizes.{All-flat_map}
@@ -54,7 +53,7 @@ IsProperRecord source = IsShortRecord source × IsTextRecord source
 
 placed-tame : (source : SourceRecord) → IsProperRecord source → (o : Option Body) → IfSome o HasProperRows → AllByRecursion IsTame (placed_at source o)
 placed-tame source proper None h = tt
-placed-tame source proper (Some body) h = ((proper-row source.key proper.0.0 proper.1.0, (h, refl)), tt)
+placed-tame source proper (Some body) h = ((proper-row source.key proper.0.0 proper.1.0, (h, tt)), tt)
 
 said-tame : (r : Relation) (order : List SourceRecord) → AllByRecursion IsProperRecord order → AllByRecursion IsTame (said r order)
 unfolding said
@@ -106,12 +105,12 @@ tame-proper c h = record { key = All-from_recursion IsProper c.key h.0; rows = b
     by (Said row) r = All-from_recursion IsProper row r
     by (Turned old new) r = (tame-some old r.0, tame-some new r.1)
 
-pub contents-proper : (items : List Item) (order : List SourceRecord) → IsSound items → HaveNoWindow items → HoldTexts items → All IsShortRecord order → All IsTextRecord order →
+pub contents-proper : (items : List Item) (order : List SourceRecord) → IsSound items → HoldTexts items → All IsShortRecord order → All IsTextRecord order →
     IsProperThroughout items (topology_of items) order
-contents-proper items order sound windowless texts short utf8 topic part =
+contents-proper items order sound texts short utf8 topic part =
     let has : List Change = contents items (topology_of items) order topic part in
     let records = All-both IsShortRecord IsTextRecord order (recursion_from_All IsShortRecord order short) (recursion_from_All IsTextRecord order utf8) in
     All-from_recursion IsProperChange has
     (All-weaker IsTame IsProperChange tame-proper has
     (contents-hold (λ m c. IsTame c) (λ m k grows c h. h) KeepsProper (λ m x keeps. node-tame 1 x keeps) (λ m columns c h. whole-tame columns c h)
-    (topology_of items).topics (source_contents items order) 0 (source-tame items order records) (subs items) (subs-keep items sound windowless texts) topic part))
+    (topology_of items).topics (source_contents items order) 0 (source-tame items order records) (subs items) (subs-keep items sound texts) topic part))

@@ -10,7 +10,6 @@ use Rattle.ksql_nodes.specs.declared.node.Node.TheVariants as node
 use Rattle.ksql_nodes.specs.Entries.{Entry, results, through}
 use Rattle.ksql_nodes.specs.Nodes.{gives}
 use Rattle.query_meaning.specs.Queries.{side_at}
-use Rattle.meaning_laws.specs.Windows.{HaveNoWindow}
 use Rattle.meaning_laws.proofs.Forks.{IsBefore, Rise, rise-placed}
 use Rattle.meaning_laws.proofs.Lists.{All-weaker, Pairwise-map, Pairwise-weaker}
 use Rattle.meaning_laws.proofs.Rising.{RiseAt, base, gives-rising, results-rise, triggers}
@@ -73,17 +72,17 @@ module _ (items : List Item) (first : ℕ) (cuts : List CutName) (has : Contents
       after (node.JoinTables k (side_at items left) (side_at items right)) rest later (task_entries (map (input_of items first cuts) (link.Relation left ∷ link.Relation right ∷ [])) has part)
       (both-rise left right (read_at (link.Relation left)) (read_at (link.Relation right)) items k apart (read-rise (link.Relation left)) (read-rise (link.Relation right)))
 
-pub results-rising : (items : List Item) (order : List SourceRecord) → IsSound items → HaveNoWindow items → IsFed items order → ResultsRise items (topology_of items) order
-results-rising items order sound windowless fed number s at part = (rise-placed (task_results s has part) whole).0
+pub results-rising : (items : List Item) (order : List SourceRecord) → IsSound items → IsFed items order → ResultsRise items (topology_of items) order
+results-rising items order sound fed number s at part = (rise-placed (task_results s has part) whole).0
   where
     has : Contents
     has = contents items (topology_of items) order
 
     rise : (topic part : ℕ) → Rise (has topic part)
-    rise topic part = placed-rise (has topic part) (placed items order sound windowless fed topic part)
+    rise topic part = placed-rise (has topic part) (placed items order sound fed topic part)
 
     whole : Rise (task_results s has part)
     whole =
-        let formed = all-get (IsFormedSub items) (subs items) (subs-formed items sound windowless) number s at in
+        let formed = all-get (IsFormedSub items) (subs items) (subs-formed items sound) number s at in
         subst (λ inputs. Rise (through (map (gives 1) s.nodes) (task_entries inputs has part))) (sym formed.inputs)
         (form-rise items formed.first formed.cuts has rise part formed.links s.nodes formed.form)

@@ -1,12 +1,14 @@
 -- What nodes give for changes with short values of UTF-8 are such changes.
-use Rattle.std.proofs.Common.{◌≡◌, refl, ℕ, zero, suc, List, [], ◌∷◌, ◌++◌, map, Bool, true, false}
-use Rattle.std.specs.Prelude.{◌==◌, not, max, replicate, if◌then◌else◌, Option, Some, None, option_map, option_and_then, unwrap_or, IfSome}
-use Rattle.std.specs.List.{AllByRecursion, fold, last_or}
+use Rattle.std.proofs.Common.{ℕ, zero, suc, ◌<◌, List, [], ◌∷◌, ◌++◌, map, Bool, true, false}
+use Rattle.std.specs.Prelude.{◌==◌, not, filter, max, replicate, if◌then◌else◌, Option, Some, None, option_map, option_and_then, unwrap_or, IfSome}
+use Rattle.std.specs.List.{AllByRecursion, enumerate_from, fold, last_or}
 use Rattle.std.specs.Ordering.{is_gt, is_lt}
 use Rattle.std.specs.declared.cmp.Ordering.{Ordering}
 use Rattle.ksql_types.specs.Key.{is_key, is_null}
 use Rattle.ksql_types.specs.declared.relation.Kind.{Kind}
 use Rattle.ksql_types.specs.declared.relation.Kind.TheVariants as kind
+use Rattle.ksql_types.specs.declared.relation.Span.{Span}
+use Rattle.ksql_types.specs.declared.relation.Window.{Window}
 use Rattle.ksql_types.specs.declared.value.SqlType.{SqlType}
 use Rattle.ksql_types.specs.declared.value.Value.{Value}
 use Rattle.ksql_types.specs.declared.value.Value.TheVariants.{Null}
@@ -24,17 +26,19 @@ use Rattle.ksql_program.specs.declared.query.JoinKind.TheVariants.{Inner, Left, 
 use Rattle.ksql_nodes.specs.declared.node.Node.{Node}
 use Rattle.ksql_nodes.specs.declared.node.Node.TheVariants.{Rekey, Table, JoinStreamTable, JoinTables, Filter, Group, Aggregate, Having, Select}
 use Rattle.ksql_nodes.specs.declared.node.Side.{Side}
-use Rattle.ksql_nodes.specs.Aggregates.{Dated, aggregate, argument, arguments, better, dated, entered, group_change, outcome, present, type_of_agg, worth}
+use Rattle.ksql_nodes.specs.Aggregates.{Dated, aggregate, argument, arguments, better, dated, entered, group_change, outcome, present, type_of_agg, window_cells, worth}
 use Rattle.ksql_nodes.specs.Entries.{Entry, Row, is_same_key, of_key, of_side, row_after, time_after}
 use Rattle.ksql_nodes.specs.Groups.{Member, grouped, in_group, member, moved}
 use Rattle.ksql_nodes.specs.Joins.{join_key, join_row, join_tables, joined, joined_from, or_nulls, other_side, rekeyed, side_step}
 use Rattle.ksql_nodes.specs.Nodes.{gives}
 use Rattle.ksql_nodes.specs.Rows.{at_path, by_rows, filtered, key_of, passing, selected, selected_key, turned, values, with_body}
+use Rattle.ksql_nodes.specs.Windows.{Timed, added, is_added, timed, window_change, windowed, windows_of, with_times}
 use Rattle.ksql_nodes.proofs.Lists.{All-append}
-use Rattle.meaning_laws.proofs.Lists.{All-filter}
-use Rattle.meaning_laws.proofs.Sizes.{All-flat_map, Gives, last-holds}
+use Rattle.meaning_laws.proofs.Lists.{All-filter, All-map}
+use Rattle.meaning_laws.proofs.Sizes.{All-flat_map, Gives, last-holds, timed-hold}
 use Rattle.storing_laws.specs.Short.{HoldsProperTexts, IsProper, KeepsProper}
 use Rattle.storing_laws.proofs.ShortValues.{first-proper, number-proper, values-proper}
+use Rattle.storing_laws.proofs.WindowSpans.{windows-forward}
 
 -- ---- rows
 
@@ -48,9 +52,13 @@ abbrev pub HasProperRows : Body → Type 0
 HasProperRows (Said row) = IsProperRow row
 HasProperRows (Turned old new) = HasProperRow old × HasProperRow new
 
--- a change with proper values and no window, by recursion
+-- a window, if any, starts before it ends
+abbrev pub IsForward : Option Span → Type 0
+IsForward o = IfSome o (λ s. s.start < s.end)
+
+-- a change with proper values, whose window, if any, starts before it ends, by recursion
 abbrev pub IsTame : Change → Type 0
-IsTame c = IsProperRow c.key × (HasProperRows c.body × (c.span ≡ None))
+IsTame c = IsProperRow c.key × (HasProperRows c.body × IsForward c.span)
 
 abbrev pub IsTameEntry : Entry → Type 0
 IsTameEntry e = IsTame e.change
@@ -95,7 +103,7 @@ turned-proper (Some old) None ho hn = (ho, tt)
 turned-proper (Some old) (Some new) ho hn = (ho, hn)
 
 -- a change with another body
-with-tame : (c : Change) → IsProperRow c.key → c.span ≡ None → (o : Option Body) → IfSome o HasProperRows → AllByRecursion IsTame (with_body c o)
+with-tame : (c : Change) → IsProperRow c.key → IsForward c.span → (o : Option Body) → IfSome o HasProperRows → AllByRecursion IsTame (with_body c o)
 with-tame c key span None h = tt
 with-tame c key span (Some body) h = ((key, (h, span)), tt)
 
@@ -164,7 +172,7 @@ members-proper : (keys : List Typed) (time : ℕ) (o : Option Row) → AllByRecu
 members-proper keys time None fine h = tt
 members-proper keys time (Some row) fine h = member-proper keys time row fine h
 
-moved-tame : (c : Change) → c.span ≡ None → (old new : Option Member) → IfSome old (λ m. IsProperRow m.group × IsProperRow m.row) → IfSome new (λ m. IsProperRow m.group × IsProperRow m.row) →
+moved-tame : (c : Change) → IsForward c.span → (old new : Option Member) → IfSome old (λ m. IsProperRow m.group × IsProperRow m.row) → IfSome new (λ m. IsProperRow m.group × IsProperRow m.row) →
     AllByRecursion IsTame (moved c old new)
 moved-tame c span None None ho hn = tt
 moved-tame c span (Some l) None ho hn = ((ho.0, ((ho.1, tt), span)), tt)
@@ -240,23 +248,45 @@ worths-proper : (over : Kind) (aggs : List Agg) (es : List Entry) → AllByRecur
 worths-proper over [] es fine h = tt
 worths-proper over (a ∷ aggs) es fine h = (worth-proper over es a fine.0 h, worths-proper over aggs es fine.1 h)
 
-outcome-proper : (over : Kind) (aggs : List Agg) (group : List Value) (es : List Entry) → AllByRecursion HasProperArgument aggs → IsProperRow group → AllByRecursion IsTameEntry es →
-    HasProperRow (outcome over aggs group None es)
-outcome-proper over aggs group [] fine g h = tt
-outcome-proper over aggs group (e ∷ es) fine g h =
-    All-append IsProper (group ++ map (worth over (e ∷ es)) aggs) [] (All-append IsProper group (map (worth over (e ∷ es)) aggs) g (worths-proper over aggs (e ∷ es) fine h)) tt
+cells-proper : (span : Option Span) → IsProperRow (window_cells span)
+cells-proper None = tt
+cells-proper (Some s) = ((tt, tt), ((tt, tt), tt))
 
-group-tame : (over : Kind) (aggs : List Agg) → AllByRecursion HasProperArgument aggs → (mine : List Entry) → AllByRecursion IsTameEntry mine → (e : Entry) → IsTameEntry e → IsTame (group_change over aggs None mine e)
-group-tame over aggs fine mine past e now = (
-  now.0,
-  (
+outcome-proper : (over : Kind) (aggs : List Agg) (group : List Value) (span : Option Span) (es : List Entry) → AllByRecursion HasProperArgument aggs → IsProperRow group → AllByRecursion IsTameEntry es →
+    HasProperRow (outcome over aggs group span es)
+outcome-proper over aggs group span [] fine g h = tt
+outcome-proper over aggs group span (e ∷ es) fine g h =
+    All-append IsProper (group ++ map (worth over (e ∷ es)) aggs) (window_cells span)
+    (All-append IsProper group (map (worth over (e ∷ es)) aggs) g (worths-proper over aggs (e ∷ es) fine h)) (cells-proper span)
+
+module _ (over : Kind) (aggs : List Agg) (fine : AllByRecursion HasProperArgument aggs) where
+  group-tame : (span : Option Span) → IsForward span → (mine : List Entry) → AllByRecursion IsTameEntry mine → (e : Entry) → IsTameEntry e → IsTame (group_change over aggs span mine e)
+  group-tame span forward mine past e now = (
+    now.0,
     (
-      outcome-proper over aggs e.change.key mine fine now.0 past,
-      outcome-proper over aggs e.change.key (mine ++ e ∷ []) fine now.0 (All-append IsTameEntry mine (e ∷ []) past (now, tt)),
+      (
+        outcome-proper over aggs e.change.key span mine fine now.0 past,
+        outcome-proper over aggs e.change.key span (mine ++ e ∷ []) fine now.0 (All-append IsTameEntry mine (e ∷ []) past (now, tt)),
+      ),
+      forward,
     ),
-    refl,
-  ),
-)
+  )
+
+  -- the change of one window of an entry
+  window-tame : (w : Window) (before : List Timed) → AllByRecursion (λ t. IsTameEntry t.entry) before → (t : Timed) → IsTameEntry t.entry → (p : ℕ × Span) → p.1.start < p.1.end →
+      AllByRecursion IsTame (window_change over aggs w before t p)
+  window-tame w before past t now (i, span) forward =
+      if-tame (is_added w span t) _ (
+        group-tame (Some span) forward (added w span t.entry.change.key before)
+            (All-map IsTameEntry (λ (t : Timed). t.entry) (filter _ before) (All-filter (λ (t : Timed). IsTameEntry t.entry) _ before past)) t.entry now,
+        tt,
+      )
+
+  -- the changes of all its windows
+  windowed-tame : (w : Window) (before : List Timed) → AllByRecursion (λ t. IsTameEntry t.entry) before → (t : Timed) → IsTameEntry t.entry → AllByRecursion IsTame (windowed over aggs w before t)
+  windowed-tame w before past t now =
+      All-flat_map IsTame (window_change over aggs w before t) (λ p. p.1.start < p.1.end) (window-tame w before past t now)
+      (enumerate_from 0 (windows_of w t.entry.change.time)) (windows-forward w t.entry.change.time)
 
 -- ---- joins
 
@@ -336,7 +366,7 @@ node-tame n (JoinStreamTable kind on l r) fine before past e now =
 node-tame n (JoinTables kind l r) fine before past e now = tables-tame kind l r before past e now
 node-tame n (Filter on) fine before past e now = filtered-tame on e.change now
 node-tame n (Group keys) fine before past e now = grouped-tame keys e.change fine now
-node-tame n (Aggregate over aggs None) fine before past e now = (group-tame over aggs fine (of_key e.change.key before) (All-filter IsTameEntry _ before past) e now, tt)
-node-tame n (Aggregate over aggs (Some w)) fine before past e now = absurd fine
+node-tame n (Aggregate over aggs None) fine before past e now = (group-tame over aggs fine None tt (of_key e.change.key before) (All-filter IsTameEntry _ before past) e now, tt)
+node-tame n (Aggregate over aggs (Some w)) fine before past e now = windowed-tame over aggs fine w (with_times n before) (timed-hold IsTameEntry n [] before past) (timed n before e) now
 node-tame n (Having on) fine before past e now = filtered-tame on e.change now
 node-tame n (Select keys vs) fine before past e now = selected-tame keys vs e.change fine.0 fine.1 now

@@ -1,18 +1,20 @@
 -- What the stages of a sound program look like: their nodes and what they read, and by how much they make paths longer.
-use Rattle.std.proofs.Common.{◌≡◌, ◌∙◌, ap, append_assoc, refl, sym, subst, ℕ, zero, suc, ◌+◌, ◌*◌, ◌≤◌, List, [], ◌∷◌, ◌++◌, map, length, take, Bool, true, false, true≢false, arith}
-use Rattle.std.specs.Prelude.{◌==◌, ◌&&◌, not, if◌then◌else◌, IsTrue, Option, Some, None, slice_get, unwrap_or, option_map}
+use Rattle.std.proofs.Common.{◌≡◌, ◌∙◌, ap, append_assoc, refl, sym, subst, ℕ, zero, suc, ◌+◌, ◌*◌, ◌≤◌, List, [], ◌∷◌, ◌++◌, map, length, take, Bool, true, false, arith}
+use Rattle.std.specs.Prelude.{◌==◌, ◌&&◌, not, if◌then◌else◌, Option, Some, None, slice_get, unwrap_or, option_map}
 use Rattle.std.specs.List.{AllByRecursion}
 use Rattle.std.proofs.lemmas.Option.{none-some, same_Some}
 use Rattle.ksql_types.specs.Columns.{columns}
 use Rattle.ksql_types.specs.declared.relation.Kind.{Kind}
 use Rattle.ksql_types.specs.declared.relation.Kind.TheVariants as kind
 use Rattle.ksql_types.specs.declared.relation.Relation.{Relation}
+use Rattle.ksql_types.specs.declared.relation.Window.{Window}
 use Rattle.ksql_types.specs.declared.value.SqlType.{SqlType}
 use Rattle.ksql_expr.specs.declared.typed.Typed.{Typed}
 use Rattle.ksql_program.specs.Program.{relation_at, relation_of}
-use Rattle.ksql_program.specs.Sound.{IsSound, IsSoundItem, IsSoundQuery, Reads, joined, one, query}
+use Rattle.ksql_program.specs.Sound.{IsSound, IsSoundItem, IsSoundQuery, IsWindowed, Makes, Reads, grouped, joined, one, plain, query}
 use Rattle.ksql_program.specs.declared.program.Item.{Item}
 use Rattle.ksql_program.specs.declared.program.Item.TheVariants.{Declared, Started}
+use Rattle.ksql_program.specs.declared.query.Agg.{Agg}
 use Rattle.ksql_program.specs.declared.query.From.{From}
 use Rattle.ksql_program.specs.declared.query.From.TheVariants.{One, Join}
 use Rattle.ksql_program.specs.declared.query.JoinKind.{JoinKind}
@@ -22,11 +24,10 @@ use Rattle.ksql_program.specs.declared.query.Shape.TheVariants as shape
 use Rattle.ksql_nodes.specs.declared.node.Node.{Node}
 use Rattle.ksql_nodes.specs.declared.node.Node.TheVariants as node
 use Rattle.ksql_nodes.proofs.Lists.{All-append}
-use Rattle.query_meaning.specs.Built.{is_built_shape}
 use Rattle.query_meaning.specs.Queries.{after_aggregate, filter_of, join_of, join_over, key_columns, kind_at, lanes_of, leftmost, side_at}
-use Rattle.meaning_laws.specs.Windows.{HaveNoWindow, is_windowless}
 use Rattle.meaning_laws.proofs.EachRelation.{AreAmong}
-use Rattle.meaning_laws.proofs.Lists.{All-both, All-weaker}
+use Rattle.meaning_laws.proofs.Lists.{All-weaker}
+use Rattle.meaning_laws.proofs.RelationTables.{reads-kind}
 use Rattle.meaning_laws.proofs.Sizes.{growth}
 use Rattle.topology.specs.Stages.{aggregate_nodes, are_own_key, input_nodes, inputs_of, is_column, is_rekeyed, rekey_from, rekey_stages, shape_stages, stages_of, table_of}
 use Rattle.topology.specs.Topologies.{cuts_of, input_of, stages_at, subs, subs_from, subs_of}
@@ -192,6 +193,20 @@ after-still : (having : Option Typed) (values : List Typed) → total growth (af
 after-still None values = refl
 after-still (Some e) values = refl
 
+-- by how many numbers the aggregate of a window makes paths longer
+abbrev window_growth : Option Window → ℕ
+window_growth None = 0
+window_growth (Some w) = 1
+
+window-growth : (over : Kind) (aggs : List Agg) (w : Option Window) → growth (node.Aggregate over aggs w) ≡ window_growth w
+window-growth over aggs None = refl
+window-growth over aggs (Some w) = refl
+
+-- and the nodes of a shape
+abbrev shape_growth : Shape → ℕ
+shape_growth (shape.Plain keys values) = 0
+shape_growth (shape.Group keys w aggs having values) = 1 + window_growth w
+
 module _ (items : List Item) where
   table-still : (from : From) → total growth (table_of items from) ≡ 0
   table-still (One number) = by (kind_at items number)
@@ -215,41 +230,57 @@ module _ (items : List Item) where
   rekey-still q (One number) = omega arith
   rekey-still q (Join k left right on) = if-grows 0 (is_rekeyed items (Join k left right on)) _ _ (omega arith) (omega arith)
 
+  -- a join of a stream makes no path longer
+  stream-still : (from : From) → kind_at items (leftmost from) ≡ kind.Stream → total growth (join_of items from) ≡ 0
+  stream-still (One number) is = refl
+  stream-still (Join k left right on) is = ap (λ over. total growth (join_over items k left right on over)) is
+
   module _ (q : Query) where
-    input-grows : total growth (input_nodes items q) ≤ 1
+    input-grows : total growth (input_nodes items q) ≡ total growth (join_of items q.from)
     input-grows =
         let whole : total growth (input_nodes items q) ≡ total growth (table_of items q.from) + total growth (join_of items q.from ++ filter_of q.filter) = total-append growth (table_of items q.from) (join_of items q.from ++ filter_of q.filter) in
         let rest : total growth (join_of items q.from ++ filter_of q.filter) ≡ total growth (join_of items q.from) + total growth (filter_of q.filter) = total-append growth (join_of items q.from) (filter_of q.filter) in
         let table : total growth (table_of items q.from) ≡ 0 = table-still q.from in
-        let join : total growth (join_of items q.from) ≤ 1 = join-grows q.from in
         let filtered : total growth (filter_of q.filter) ≡ 0 = filter-still q.filter in
-        omega (arith, whole, rest, table, join, filtered)
+        omega (arith, whole, rest, table, filtered)
 
-    shape-grows : (s : Shape) → IsTrue (is_built_shape s) → total stage_growth (shape_stages items q s) ≤ 2
-    shape-grows (shape.Plain keys values) built =
+    shape-grows : (s : Shape) → total stage_growth (shape_stages items q s) ≤ total growth (join_of items q.from) + shape_growth s
+    shape-grows (shape.Plain keys values) =
         let whole : total growth (input_nodes items q ++ node.Select keys values ∷ []) ≡ total growth (input_nodes items q) + 0 = total-append growth (input_nodes items q) (node.Select keys values ∷ []) in
-        let front : total growth (input_nodes items q) ≤ 1 = input-grows in
+        let front : total growth (input_nodes items q) ≡ total growth (join_of items q.from) = input-grows in
         omega (arith, whole, front)
-    shape-grows (shape.Group keys (Some w) aggs having values) built = absurd (true≢false (sym built))
-    shape-grows (shape.Group keys None aggs having values) built =
+    shape-grows (shape.Group keys w aggs having values) =
         let grouping : List Node = input_nodes items q ++ node.Group keys ∷ [] in
-        let rest : List Node = aggregate_nodes items q (shape.Group keys None aggs having values) in
-        let front : total growth (input_nodes items q) ≤ 1 = input-grows in
+        let rest : List Node = aggregate_nodes items q (shape.Group keys w aggs having values) in
+        let front : total growth (input_nodes items q) ≡ total growth (join_of items q.from) = input-grows in
         let first : total growth grouping ≡ total growth (input_nodes items q) + 1 = total-append growth (input_nodes items q) (node.Group keys ∷ []) in
         let whole : total growth (grouping ++ rest) ≡ total growth grouping + total growth rest = total-append growth grouping rest in
+        let own : growth (node.Aggregate (kind_at items (leftmost q.from)) aggs w) ≡ window_growth w = window-growth (kind_at items (leftmost q.from)) aggs w in
         let after : total growth (after_aggregate having values) ≡ 0 = after-still having values in
-        let last : total growth rest ≡ 0 = omega (arith, after) in
-        if-grows 2 (are_own_key items q.from keys) _ _ (omega (arith, front, first, whole, last)) (omega (arith, front, first, last))
+        let last : total growth rest ≡ window_growth w = omega (arith, own, after) in
+        if-grows (total growth (join_of items q.from) + shape_growth (shape.Group keys w aggs having values)) (are_own_key items q.from keys) _ _
+        (omega (arith, front, first, whole, last)) (omega (arith, front, first, last))
 
-  -- a query of a program without windows makes paths longer by at most two numbers
-  query-grows : (q : Query) → IsTrue (is_built_shape q.shape) → total stage_growth (stages_of items q) ≤ 2
+  -- a window is over a stream, and there a join makes no path longer
+  made-grows : (from : From) (l : Relation) (types : List (Option SqlType)) (out : Relation) → kind_at items (leftmost from) ≡ l.kind → (s : Shape) → Makes l types s out →
+      total growth (join_of items from) + shape_growth s ≤ 2
+  made-grows from l types out is s (plain {ks = ks} {vs = vs} _ _ _) = let join : total growth (join_of items from) ≤ 1 = join-grows from in omega (arith, join)
+  made-grows from l types out is s (grouped {ks = ks} {vs = vs} {w = w} {gs = gs} {h = h} _ _ _ _ _ _ windowed _ _ _) = by w windowed
+    where
+      by : (w : Option Window) → IsWindowed l.kind w → total growth (join_of items from) + (1 + window_growth w) ≤ 2
+      by None windowed = let join : total growth (join_of items from) ≤ 1 = join-grows from in omega (arith, join)
+      by (Some w) windowed = let join : total growth (join_of items from) ≡ 0 = stream-still from (is ∙ windowed.1) in omega (arith, join)
+
+  -- a query of a sound program makes paths longer by at most two numbers
+  query-grows : (before : List Item) → AreAmong before items → (q : Query) → IsSoundQuery before q → total stage_growth (stages_of items q) ≤ 2
   unfolding stages_of
-  query-grows q built =
+  query-grows before among q (query {types = types} {left = l} reads _ makes _ _) =
       let whole : total stage_growth (rekey_stages items q ++ shape_stages items q q.shape) ≡ total stage_growth (rekey_stages items q) + total stage_growth (shape_stages items q q.shape) =
       total-append stage_growth (rekey_stages items q) (shape_stages items q q.shape) in
       let rekeyed : total stage_growth (rekey_stages items q) ≤ 0 = rekey-still q q.from in
-      let shaped : total stage_growth (shape_stages items q q.shape) ≤ 2 = shape-grows q q.shape built in
-      omega (arith, whole, rekeyed, shaped)
+      let shaped : total stage_growth (shape_stages items q q.shape) ≤ total growth (join_of items q.from) + shape_growth q.shape = shape-grows q q.shape in
+      let made : total growth (join_of items q.from) + shape_growth q.shape ≤ 2 = made-grows q.from l types q.out (reads-kind before items among reads) q.shape makes in
+      omega (arith, whole, rekeyed, shaped, made)
 
 -- ---- sub-topologies
 
@@ -300,22 +331,18 @@ subs-grow items k first number (i ∷ is) formed =
     let rest : total sub_growth later ≤ 2 * length is = subs-grow items (k + 1) (first + length (cuts_of stages)) (number + length stages) is formed.1 in
     omega (arith, whole, here, two, rest)
 
-module _ (items : List Item) (sound : IsSound items) (windowless : HaveNoWindow items) where
+module _ (items : List Item) (sound : IsSound items) where
   all-formed : AllByRecursion (IsFormedItem items) items
   all-formed =
-      All-weaker Known (IsFormedItem items) formed items
-      (All-both Sound (λ i. IsTrue (is_windowless i)) items
-      (all-at Sound items (λ number i at. (take number items, before-among items number, sound-at items number i sound.sound at))) windowless)
+      All-weaker Sound (IsFormedItem items) formed items
+      (all-at Sound items (λ number i at. (take number items, before-among items number, sound-at items number i sound.sound at)))
     where
       Sound : Item → Type 0
       Sound i = (before : List Item) × AreAmong before items × IsSoundItem before i
 
-      Known : Item → Type 0
-      Known i = Sound i × IsTrue (is_windowless i)
-
-      formed : (i : Item) → Known i → IsFormedItem items i
-      formed (Declared r) known = (tt, omega arith)
-      formed (Started q) ((before, among, is), built) = (query-formed items sound before among q is.1, query-grows items q built)
+      formed : (i : Item) → Sound i → IsFormedItem items i
+      formed (Declared r) sound = (tt, omega arith)
+      formed (Started q) (before, among, is) = (query-formed items sound before among q is.1, query-grows items before among q is.1)
 
   -- each sub-topology has its form, and all of them make paths longer by at most twice as many numbers as there are items
   pub subs-formed : AllByRecursion (IsFormedSub items) (subs items)

@@ -1,6 +1,6 @@
 -- The expressions in the stages of a sound program hold short texts.
-use Rattle.std.proofs.Common.{◌≡◌, ◌∙◌, ap, refl, sym, ℕ, ◌+◌, List, [], ◌∷◌, ◌++◌, length, take, Bool, true, false, true≢false}
-use Rattle.std.specs.Prelude.{◌==◌, ◌&&◌, not, if◌then◌else◌, IsTrue, Option, Some, None, IfSome, unwrap_or, option_map}
+use Rattle.std.proofs.Common.{◌≡◌, ◌∙◌, ap, refl, sym, ℕ, ◌+◌, List, [], ◌∷◌, ◌++◌, length, take, Bool, true, false}
+use Rattle.std.specs.Prelude.{◌==◌, ◌&&◌, not, if◌then◌else◌, Option, Some, None, IfSome, unwrap_or, option_map}
 use Rattle.std.specs.List.{AllByRecursion}
 use Rattle.ksql_types.specs.declared.relation.Column.{Column}
 use Rattle.ksql_types.specs.declared.relation.Kind.{Kind}
@@ -22,9 +22,7 @@ use Rattle.ksql_program.specs.declared.query.Shape.TheVariants as shape
 use Rattle.ksql_nodes.specs.declared.node.Node.{Node}
 use Rattle.ksql_nodes.specs.declared.node.Node.TheVariants as node
 use Rattle.ksql_nodes.proofs.Lists.{All-append}
-use Rattle.query_meaning.specs.Built.{is_built_shape}
 use Rattle.query_meaning.specs.Queries.{after_aggregate, filter_of, join_of, join_over, key_columns, kind_at, lanes_of, leftmost}
-use Rattle.meaning_laws.specs.Windows.{HaveNoWindow, is_windowless}
 use Rattle.meaning_laws.proofs.EachRelation.{AreAmong}
 use Rattle.meaning_laws.proofs.Lists.{All-both, All-weaker}
 use Rattle.topology.specs.Stages.{aggregate_nodes, are_own_key, input_nodes, inputs_of, is_column, rekey_from, rekey_stages, shape_stages, stages_of, table_of}
@@ -136,13 +134,12 @@ module _ (items : List Item) where
           All-append KeepsProper (table_of items q.from) (join_of items q.from ++ filter_of q.filter) first.0
           (All-append KeepsProper (join_of items q.from) (filter_of q.filter) first.1 (filter-keeps q.filter filter_short))
 
-      shape-keeps : (s : Shape) → HoldsInShape HoldsProperTexts s → IsTrue (is_built_shape s) → AllByRecursion KeepTexts (shape_stages items q s)
-      shape-keeps (shape.Plain ks vs) texts built = (All-append KeepsProper (input_nodes items q) (node.Select ks vs ∷ []) input-keeps (texts, tt), tt)
-      shape-keeps (shape.Group ks (Some w) gs having vs) texts built = absurd (true≢false (sym built))
-      shape-keeps (shape.Group ks None gs having vs) texts built = by (are_own_key items q.from ks)
+      shape-keeps : (s : Shape) → HoldsInShape HoldsProperTexts s → AllByRecursion KeepTexts (shape_stages items q s)
+      shape-keeps (shape.Plain ks vs) texts = (All-append KeepsProper (input_nodes items q) (node.Select ks vs ∷ []) input-keeps (texts, tt), tt)
+      shape-keeps (shape.Group ks w gs having vs) texts = by (are_own_key items q.from ks)
         where
           rest : List Node
-          rest = aggregate_nodes items q (shape.Group ks None gs having vs)
+          rest = aggregate_nodes items q (shape.Group ks w gs having vs)
 
           grouping : List Node
           grouping = input_nodes items q ++ node.Group ks ∷ []
@@ -160,12 +157,12 @@ module _ (items : List Item) where
           by true = (All-append KeepsProper grouping rest grouping_keeps rest_keeps, tt)
           by false = (grouping_keeps, (rest_keeps, tt))
 
-    query-keeps : (q : Query) → IsSoundQuery before q → HoldsInItem HoldsTexts (Started q) → IsTrue (is_built_shape q.shape) → AllByRecursion KeepTexts (stages_of items q)
+    query-keeps : (q : Query) → IsSoundQuery before q → HoldsInItem HoldsTexts (Started q) → AllByRecursion KeepTexts (stages_of items q)
     unfolding stages_of
-    query-keeps q (query {types = types} {left = l} reads condition makes _ _) texts built =
+    query-keeps q (query {types = types} {left = l} reads condition makes _ _) texts =
         All-append KeepTexts (rekey_stages items q) (shape_stages items q q.shape)
         (rekey-keeps q q.from reads texts.0)
-        (shape-keeps q types l reads texts.0 (condition-short l.kind types q.filter condition texts.1) q.shape (shape-short l types q.shape q.out makes texts.2) built)
+        (shape-keeps q types l reads texts.0 (condition-short l.kind types q.filter condition texts.1) q.shape (shape-short l types q.shape q.out makes texts.2))
 
 -- ---- sub-topologies
 
@@ -187,21 +184,20 @@ items-keep items k first number (i ∷ after) keep =
     (stages-keep items k first (cuts_of stages) number stages keep.0)
     (items-keep items (k + 1) (first + length (cuts_of stages)) (number + length stages) after keep.1)
 
--- the nodes of each sub-topology of a sound program without windows whose texts are of UTF-8 keep changes proper
-pub subs-keep : (items : List Item) → IsSound items → HaveNoWindow items → HoldTexts items → AllByRecursion KeepsTexts (subs items)
-subs-keep items sound windowless texts =
+-- the nodes of each sub-topology of a sound program whose texts are of UTF-8 keep changes proper
+pub subs-keep : (items : List Item) → IsSound items → HoldTexts items → AllByRecursion KeepsTexts (subs items)
+subs-keep items sound texts =
     items-keep items 0 (length items) 0 items
     (All-weaker Known (λ i. AllByRecursion (λ s. AllByRecursion KeepsProper s.nodes) (stages_at items i)) keep items
-    (All-both Sound (λ i. HoldsInItem HoldsTexts i × IsTrue (is_windowless i)) items
-    (all-at Sound items (λ number i at. (take number items, before-among items number, sound-at items number i sound.sound at)))
-    (All-both (HoldsInItem HoldsTexts) (λ i. IsTrue (is_windowless i)) items texts windowless)))
+    (All-both Sound (HoldsInItem HoldsTexts) items
+    (all-at Sound items (λ number i at. (take number items, before-among items number, sound-at items number i sound.sound at))) texts))
   where
     Sound : Item → Type 0
     Sound i = (before : List Item) × AreAmong before items × IsSoundItem before i
 
     Known : Item → Type 0
-    Known i = Sound i × (HoldsInItem HoldsTexts i × IsTrue (is_windowless i))
+    Known i = Sound i × HoldsInItem HoldsTexts i
 
     keep : (i : Item) → Known i → AllByRecursion (λ s. AllByRecursion KeepsProper s.nodes) (stages_at items i)
     keep (Declared r) known = tt
-    keep (Started q) ((before, among, is), (held, built)) = query-keeps items before among q is.1 held built
+    keep (Started q) ((before, among, is), held) = query-keeps items before among q is.1 held

@@ -7,7 +7,6 @@ use Rattle.std.proofs.lemmas.List.Elements.{All-from_recursion, recursion_from_A
 use Rattle.ksql_types.specs.Columns.{columns}
 use Rattle.ksql_types.specs.declared.relation.Column.{Column}
 use Rattle.ksql_types.specs.declared.relation.Relation.{Relation}
-use Rattle.ksql_types.specs.declared.relation.Span.{Span}
 use Rattle.ksql_types.specs.declared.value.Value.{Value}
 use Rattle.ksql_types.specs.declared.value.Value.TheVariants.{Null}
 use Rattle.ksql_place.specs.Said.{is_of_topic, row_in, said, said_by, saying}
@@ -28,7 +27,6 @@ use Rattle.ksql_nodes.specs.Nodes.{gives}
 use Rattle.ksql_nodes.proofs.Lists.{All-append}
 use Rattle.query_meaning.specs.Queries.{entry_cmp, key_cells, key_columns, with_key_cells}
 use Rattle.meaning_laws.specs.Bounds.{HasColumnsOf, IsBodyOf, IsInTime, IsKeyOf, IsRowOf}
-use Rattle.meaning_laws.specs.Windows.{HaveNoWindow}
 use Rattle.meaning_laws.proofs.Lists.{All-ascending, All-both, All-filter, All-map, All-of, All-weaker}
 use Rattle.meaning_laws.proofs.Saying.{placed_at}
 use Rattle.meaning_laws.proofs.Sizes.{All-flat_map, Gives, IsSized, growth, node-sized}
@@ -167,7 +165,7 @@ row-short m few c h fits = by (row_in c.body) (in-proper c.body h.1.1.0) fits
     by None proper fits = tt
     by (Some row) proper fits = record {
       path = let own = h.0.1 in omega (arith, few, own);
-      span = subst (λ o. IfSome o (λ (s : Span). s.start < s.end)) (sym h.1.1.1) tt;
+      span = h.1.1.1;
       windowed = λ some. refl;
       key = short-key c.key h.1.0;
       body = (tt, (fits, short-key row proper), refl);
@@ -190,8 +188,7 @@ later-short (node.JoinStreamTable kind on l r) later keeps few e h = absurd late
 later-short (node.JoinTables kind l r) later keeps few e h = absurd later
 later-short (node.Filter on) later keeps few e h = tt
 later-short (node.Group keys) later keeps few e h = tt
-later-short (node.Aggregate over aggs None) later keeps few e h = (few, arguments-short aggs keeps e.change h)
-later-short (node.Aggregate over aggs (Some w)) later keeps few e h = absurd keeps
+later-short (node.Aggregate over aggs w) later keeps few e h = (few, arguments-short aggs keeps e.change h)
 later-short (node.Having on) later keeps few e h = tt
 later-short (node.Select keys values) later keeps few e h = tt
 
@@ -275,7 +272,7 @@ module _ (items : List Item) (first : ℕ) (cuts : List CutName) (has : Contents
 
 -- ---- all sub-topologies
 
-module _ (items : List Item) (order : List SourceRecord) (sound : IsSound items) (windowless : HaveNoWindow items) (fed : IsFed items order) (texts : HoldTexts items)
+module _ (items : List Item) (order : List SourceRecord) (sound : IsSound items) (fed : IsFed items order) (texts : HoldTexts items)
     (small : All IsInTime order) (short : All IsShortRecord order) (utf8 : All IsTextRecord order) where
   abbrev has : Contents
   has = contents items (topology_of items) order
@@ -283,8 +280,8 @@ module _ (items : List Item) (order : List SourceRecord) (sound : IsSound items)
   bounded : (topic part : ℕ) → AllByRecursion (IsBounded 400) (has topic part)
   bounded topic part =
       All-weaker (IsBounded (0 + total sub_growth (subs items))) (IsBounded 400)
-      (wider (0 + total sub_growth (subs items)) 400 (let most : total sub_growth (subs items) ≤ 400 = subs-bound items sound windowless in omega (arith, most))) (has topic part)
-      (contents-hold IsBounded wider KeepsProper node-bounded whole-bounded (topology_of items).topics (source_contents items order) 0 begin (subs items) (subs-keep items sound windowless texts) topic part)
+      (wider (0 + total sub_growth (subs items)) 400 (let most : total sub_growth (subs items) ≤ 400 = subs-bound items sound in omega (arith, most))) (has topic part)
+      (contents-hold IsBounded wider KeepsProper node-bounded whole-bounded (topology_of items).topics (source_contents items order) 0 begin (subs items) (subs-keep items sound texts) topic part)
     where
       records : AllByRecursion IsProperRecord order
       records = All-both IsShortRecord IsTextRecord order (recursion_from_All IsShortRecord order short) (recursion_from_All IsTextRecord order utf8)
@@ -296,7 +293,7 @@ module _ (items : List Item) (order : List SourceRecord) (sound : IsSound items)
 
   pub can-be-stored : CanBeStored items (topology_of items) order
   can-be-stored number s at few part =
-      let formed = all-get (IsFormedSub items) (subs items) (subs-formed items sound windowless) number s at in
+      let formed = all-get (IsFormedSub items) (subs items) (subs-formed items sound) number s at in
       subst (λ inputs. AreStorable s.nodes [] (task_entries inputs has part)) (sym formed.inputs)
-      (form-storable items formed.first formed.cuts has bounded (sent-filled items order sound windowless fed.columns).relations part formed.links s.nodes formed.form
-      (all-get KeepsTexts (subs items) (subs-keep items sound windowless texts) number s at) (recursion_from_All HasFewAggregates s.nodes few) formed.grows)
+      (form-storable items formed.first formed.cuts has bounded (sent-filled items order sound fed.columns).relations part formed.links s.nodes formed.form
+      (all-get KeepsTexts (subs items) (subs-keep items sound texts) number s at) (recursion_from_All HasFewAggregates s.nodes few) formed.grows)

@@ -1,5 +1,5 @@
 -- What is short: values, records, changes, and the texts in the expressions of nodes and of programs.
-use Rattle.std.specs.Prelude.{◌≡◌, suc, ◌<◌, ◌^◌, Bool, false, not, List, length, All, None, Some, IfSome}
+use Rattle.std.specs.Prelude.{◌≡◌, suc, ◌<◌, ◌^◌, Bool, false, not, List, length, All, IfSome}
 use Rattle.std.specs.List.{AllByRecursion}
 use Rattle.std.specs.Str.{IsUtf8, is_utf8}
 use Rattle.ksql_types.specs.declared.value.Value.{Value}
@@ -56,13 +56,13 @@ abbrev pub HoldsInRows : (Value → Type 0) → Body → Type 0
 HoldsInRows P (Said row) = All P row
 HoldsInRows P (Turned old new) = IfSome old (All P) × IfSome new (All P)
 
--- something holds of each value of a change, which has no window
+-- something holds of each value of a change, whose window, if any, starts before it ends
 pub record HoldsIn (P : Value → Type 0) (c : Change) : Type 0 where
   pub key : All P c.key
   pub rows : HoldsInRows P c.body
-  pub span : c.span ≡ None
+  pub span : IfSome c.span (λ s. s.start < s.end)
 
--- a change with a short key, short rows, however many values they have, and no window
+-- a change with a short key and short rows, however many values they have, whose window, if any, starts before it ends
 abbrev pub IsShortChange : Change → Type 0
 IsShortChange c = HoldsIn IsShort c
 
@@ -91,7 +91,7 @@ HoldsProperTexts e = HoldsShortTexts e × HoldsTexts e
 
 -- ---- nodes
 
--- each text literal of a node's expressions is short and of UTF-8, and the node has no window
+-- each text literal of a node's expressions is short and of UTF-8
 abbrev pub KeepsProper : Node → Type 0
 KeepsProper (node.Rekey key) = HoldsProperTexts key
 KeepsProper (node.Table relation) = Unit {0}
@@ -99,8 +99,7 @@ KeepsProper (node.JoinStreamTable kind on left right) = HoldsProperTexts on
 KeepsProper (node.JoinTables kind left right) = Unit {0}
 KeepsProper (node.Filter on) = HoldsProperTexts on
 KeepsProper (node.Group keys) = AllByRecursion HoldsProperTexts keys
-KeepsProper (node.Aggregate over aggs None) = AllByRecursion (λ a. IfSome a.arg HoldsProperTexts) aggs
-KeepsProper (node.Aggregate over aggs (Some w)) = ⊥
+KeepsProper (node.Aggregate over aggs window) = AllByRecursion (λ a. IfSome a.arg HoldsProperTexts) aggs
 KeepsProper (node.Having on) = HoldsProperTexts on
 KeepsProper (node.Select keys values) = AllByRecursion HoldsProperTexts keys × AllByRecursion HoldsProperTexts values
 

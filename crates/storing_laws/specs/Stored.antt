@@ -13,15 +13,15 @@ use Rattle.topology.specs.declared.topology.Topology.{Topology}
 use Rattle.op_chain.specs.Chain.{AreStorable}
 use Rattle.storing_laws.specs.Short.{HasFewAggregates, IsProperChange, IsShortChange}
 
--- what some nodes in a row give for entries with short keys and rows, texts of UTF-8 and no windows has such again
+-- what some nodes in a row give for entries with short keys and rows, texts of UTF-8 and windows that start before they end has such again
 abbrev pub KeepProper : ℕ → List Node → Type 0
 KeepProper n nodes = (es : List Entry) → All (λ e. IsProperChange e.change) es → All IsProperChange (through (map (gives n) nodes) es)
 
--- each change in each topic has a short key, short rows, texts of UTF-8 and no window
+-- each change in each topic has a short key, short rows and texts of UTF-8, and its window, if any, starts before it ends
 abbrev pub IsProperThroughout : List Item → Topology → List SourceRecord → Type 0
 IsProperThroughout items t order = (topic part : ℕ) → All IsProperChange (contents items t order topic part)
 
--- each change in each topic has a short key, short rows and no window
+-- each change in each topic has a short key and short rows, and its window, if any, starts before it ends
 abbrev pub IsShortThroughout : List Item → Topology → List SourceRecord → Type 0
 IsShortThroughout items t order = (topic part : ℕ) → All IsShortChange (contents items t order topic part)
 

@@ -9,7 +9,6 @@ ghost use Rattle.ksql_nodes.specs.Entries.{Entry as OneEntry};
 ghost use Rattle.ksql_program.specs.Sound.{IsSound};
 ghost use Rattle.ksql_program.specs.declared.program.Item.{Item as OneItem};
 ghost use Rattle.meaning_laws.specs.Bounds.{IsInTime};
-ghost use Rattle.meaning_laws.specs.Windows.{HaveNoWindow};
 ghost use Rattle.topology.specs.Topologies.{topology_of};
 ghost use Rattle.topology_laws.specs.Fed.{IsFed};
 ghost use Rattle.op_chain.specs.Chain.{AreStorable};
@@ -21,23 +20,23 @@ pub fn values_stay_short()
     ensures { (row : List OneValue) (time : ℕ) (e : OneTyped) → All IsProper row → HoldsProperTexts e → IsProper (value_of row time e) }
 {}
 
-/// Nodes without windows give changes with short values of UTF-8 for such changes.
+/// Nodes give changes with short values of UTF-8 for such changes. A window of these, if any, starts before it ends.
 pub fn nodes_keep_changes_short()
     ensures { (n : ℕ) (nodes : List OneNode) → All KeepsProper nodes → KeepProper n nodes }
 {}
 
-/// Where the records have short values of UTF-8, so has each change in each topic, repartition topics too, and none has a
-/// window. This is said of programs without windows.
+/// Where the records have short values of UTF-8, so has each change in each topic, repartition topics too, and its window, if
+/// any, starts before it ends.
 pub fn topics_are_short()
-    ensures proper { (items : List OneItem) (order : List OneRecord) → IsSound items → HaveNoWindow items → HoldTexts items →
+    ensures proper { (items : List OneItem) (order : List OneRecord) → IsSound items → HoldTexts items →
         All IsShortRecord order → All IsTextRecord order → IsProperThroughout items (topology_of items) order }
-    ensures short { (items : List OneItem) (order : List OneRecord) → IsSound items → HaveNoWindow items → HoldTexts items →
+    ensures short { (items : List OneItem) (order : List OneRecord) → IsSound items → HoldTexts items →
         All IsShortRecord order → All IsTextRecord order → IsShortThroughout items (topology_of items) order }
 {}
 
 /// Whatever comes to a node of a sub-topology can be stored by the node's operator: what is kept of it has a spelling.
 pub fn changes_can_be_stored()
-    ensures { (items : List OneItem) (order : List OneRecord) → IsSound items → HaveNoWindow items → IsFed items order → HoldTexts items →
+    ensures { (items : List OneItem) (order : List OneRecord) → IsSound items → IsFed items order → HoldTexts items →
         All IsInTime order → All IsShortRecord order → All IsTextRecord order → CanBeStored items (topology_of items) order }
 {}
 
@@ -49,6 +48,6 @@ pub fn parts_can_be_stored()
 
 /// What a task gives for all its entries rises strictly by place.
 pub fn results_rise()
-    ensures { (items : List OneItem) (order : List OneRecord) → IsSound items → HaveNoWindow items → IsFed items order →
+    ensures { (items : List OneItem) (order : List OneRecord) → IsSound items → IsFed items order →
         ResultsRise items (topology_of items) order }
 {}

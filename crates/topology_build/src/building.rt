@@ -4,7 +4,6 @@ ghost use Rattle.ksql_place.specs.declared.change.SourceRecord.{SourceRecord as 
 ghost use Rattle.ksql_program.specs.Program.{relation_of, relations};
 ghost use Rattle.ksql_program.specs.Sound.{IsSound};
 ghost use Rattle.query_meaning.specs.Queries.{key_columns};
-ghost use Rattle.meaning_laws.specs.Windows.{HaveNoWindow};
 ghost use Rattle.topology.specs.Stages.{stages_of};
 ghost use Rattle.topology.specs.Topologies.{cut_text, cut_topics, cuts_of, input_of, place_of, relation_topic, repartition_name, stages_at, sub_of, subs, subs_from, topic_of, topics_from, topology_of, writer_of};
 ghost use Rattle.topology_laws.specs.Fed.{IsFed};
@@ -36,14 +35,13 @@ struct Numbering<'a> {
 }
 
 /// The topology of a program. Its sub-topologies are numbered through the script, inputs first. Its topics are those of the
-/// relations, and after them the repartition topics, in the order of the sub-topologies that write them. In a program without
-/// windows each partition of a query's topic has exactly the changes that the query means there, for all records that stand in
-/// their partitions.
+/// relations, and after them the repartition topics, in the order of the sub-topologies that write them. Each
+/// partition of a query's topic has exactly the changes that the query means there, for all records that stand in their
+/// partitions.
 pub fn build(alloc: Global, program: &Program) -> Result<Topology, AllocError>
     requires { IsSound program.now.items }
     ensures exact { IfOk result (λ t. t ≡ topology_of program.now.items) }
-    ensures means { HaveNoWindow program.now.items →
-        IfOk result (λ t. (order : List OneRecord) → IsFed program.now.items order → MeansItsQueries program.now.items t order) }
+    ensures means { IfOk result (λ t. (order : List OneRecord) → IsFed program.now.items order → MeansItsQueries program.now.items t order) }
 {
     topology_of(alloc, program)
 }

@@ -27,7 +27,6 @@ use Rattle.ksql_program.specs.declared.query.Shape.TheVariants.{Plain, Group}
 use Rattle.ksql_nodes.specs.declared.node.Node.TheVariants.{Select}
 use Rattle.ksql_nodes.specs.Entries.{Entry, Step, from_side, results, through}
 use Rattle.ksql_nodes.specs.Nodes.{gives}
-use Rattle.meaning_laws.specs.Windows.{HaveNoWindow}
 use Rattle.query_meaning.specs.Meaning.{meaning}
 use Rattle.query_meaning.specs.Queries.{after_aggregate, changes_at, filter_of, join_of, kind_at, lanes_of, leftmost, query_changes, read_entries, shape_steps, steps_of}
 use Rattle.meaning_laws.proofs.EachRelation.{Each, each-at}
@@ -135,7 +134,7 @@ raw_of order changes None = []
 raw_of order changes (Some (Declared r)) = said r order
 raw_of order changes (Some (Started q)) = changes
 
-module _ (items : List Item) (order : List SourceRecord) (sound : IsSound items) (windowless : HaveNoWindow items) (fed : IsFed items order) where
+module _ (items : List Item) (order : List SourceRecord) (sound : IsSound items) (fed : IsFed items order) where
   abbrev lists : List (List Change)
   lists = meaning items order
 
@@ -146,7 +145,7 @@ module _ (items : List Item) (order : List SourceRecord) (sound : IsSound items)
   topics = (topology_of items).topics
 
   pub each-changes : Each AreChangesOf items lists
-  each-changes = meant-changes items order sound windowless fed.columns
+  each-changes = meant-changes items order sound fed.columns
 
   pub each-rise : Each (λ r. Rise) items lists
   each-rise = meant-rise items order sound fed.rises

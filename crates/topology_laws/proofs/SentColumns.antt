@@ -1,6 +1,6 @@
 -- Keys and rows of what tasks send.
 use Rattle.std.proofs.Common.{◌≡◌, ◌∙◌, ap, refl, sym, subst, ℕ, ◌+◌, List, [], ◌∷◌, ◌++◌, map, length, length-append, take, append_assoc, Bool, true, false, inl, inr, arith}
-use Rattle.std.specs.Prelude.{◌==◌, All, IsTrue, filter, flat_map, if◌then◌else◌, Option, Some, None, option_map, slice_get, IfSome}
+use Rattle.std.specs.Prelude.{◌==◌, All, filter, flat_map, if◌then◌else◌, Option, Some, None, option_map, slice_get, IfSome}
 use Rattle.std.specs.List.{AllByRecursion, range_with_len}
 use Rattle.std.specs.Cmp.{unsigned_Decides}
 use Rattle.std.proofs.lemmas.List.{append-nil, length-map}
@@ -26,9 +26,8 @@ use Rattle.ksql_nodes.specs.Entries.{Row}
 use Rattle.ksql_nodes.proofs.Lists.{All-append}
 use Rattle.query_meaning.specs.Queries.{kind_at, leftmost}
 use Rattle.meaning_laws.specs.Bounds.{HasColumnsOf, IsBodyOf, IsRecordOf, IsRowOf}
-use Rattle.meaning_laws.specs.Windows.{HaveNoWindow, is_windowless}
 use Rattle.meaning_laws.proofs.EachRelation.{AreAmong}
-use Rattle.meaning_laws.proofs.Lists.{All-ascending, All-both, All-filter, All-of, All-weaker}
+use Rattle.meaning_laws.proofs.Lists.{All-ascending, All-filter, All-of, All-weaker}
 use Rattle.meaning_laws.proofs.RelationColumns.{said-filled}
 use Rattle.meaning_laws.proofs.RowTypes.{BodyHas, RowHas, filled-columns}
 use Rattle.meaning_laws.proofs.Sizes.{All-flat_map}
@@ -73,7 +72,7 @@ module _ (items : List Item) where
 
   -- what is known of an item
   abbrev IsKnown : Item → Type 0
-  IsKnown i = (before : List Item) × AreAmong before items × IsSoundItem before i × (relation_at items (relation_of i).number ≡ Some (relation_of i)) × IsTrue (is_windowless i)
+  IsKnown i = (before : List Item) × AreAmong before items × IsSoundItem before i × (relation_at items (relation_of i).number ≡ Some (relation_of i))
 
   items-good : (k first number : ℕ) (front : List (Query × CutName)) (after : List Item) → all_cuts items items ≡ front ++ all_cuts items after → first ≡ length items + length front →
       AllByRecursion IsKnown after → AllByRecursion IsGoodSub (subs_of items k first number after)
@@ -90,10 +89,10 @@ module _ (items : List Item) where
     where
       by : (i : Item) → all_cuts items items ≡ front ++ all_cuts items (i ∷ after) → IsKnown i → AllByRecursion IsGoodSub (subs_from items k first (cuts_of (stages_at items i)) number (stages_at items i))
       by (Declared r) is known = tt
-      by (Started q) is (before, among, sound, here, built) =
+      by (Started q) is (before, among, sound, here) =
           let cuts : List CutName = cuts_of (stages_of items q) in
           stages-good k first cuts number (stages_of items q)
-          (query-good items before among q sound.1 here built first
+          (query-good items before among q sound.1 here first
           (λ name among. cut-use front (item_cuts items (Started q)) (all_cuts items after) first is long (place_of name cuts) (q, name)
           (slice_get-map (λ (x : CutName). (q, x)) cuts (place_of name cuts) ∙ ap (option_map (λ (x : CutName). (q, x))) (place-at name cuts among))))
 
@@ -123,7 +122,7 @@ module _ (items : List Item) where
   contents-in-use topics has all [] good = all
   contents-in-use topics has all (s ∷ ss) good = contents-in-use topics (with_sub topics has s) (sub-in-use topics has all s good.0) ss good.1
 
-  module _ (order : List SourceRecord) (sound : IsSound items) (windowless : HaveNoWindow items) (records : All (IsRecordOf items) order) where
+  module _ (order : List SourceRecord) (sound : IsSound items) (records : All (IsRecordOf items) order) where
     numbered : (number : ℕ) (i : Item) → slice_get items number ≡ Some i → relation_at items (relation_of i).number ≡ Some (relation_of i)
     numbered number i at = ap (relation_at items) (by i at (sound-at items number i sound.sound at) ∙ take-length items number i at) ∙ relation-at items number i at
       where
@@ -142,14 +141,7 @@ module _ (items : List Item) where
             (said-filled items order (recursion_from_All (IsRecordOf items) order records) r (numbered topic (Declared r) at))
 
     known : AllByRecursion IsKnown items
-    known =
-        All-weaker (λ i. Known i × IsTrue (is_windowless i)) IsKnown (λ i h. (h.0.0, h.0.1, h.0.2, h.0.3, h.1)) items
-        (All-both Known (λ i. IsTrue (is_windowless i)) items
-        (all-at Known items (λ number i at. (take number items, before-among items number, sound-at items number i sound.sound at, numbered number i at)))
-        windowless)
-      where
-        Known : Item → Type 0
-        Known i = (before : List Item) × AreAmong before items × IsSoundItem before i × (relation_at items (relation_of i).number ≡ Some (relation_of i))
+    known = all-at IsKnown items (λ number i at. (take number items, before-among items number, sound-at items number i sound.sound at, numbered number i at))
 
     all-in-use : AreInUse items (contents items (topology_of items) order)
     all-in-use =
@@ -176,14 +168,14 @@ body-columns kind.Table cs (Turned old new) h = (option-columns cs old h.0, opti
 body-columns kind.Windowed cs (Said row) h = absurd h
 body-columns kind.Windowed cs (Turned old new) h = (option-columns cs old h.0, option-columns cs new h.1)
 
-pub sent-filled : (items : List Item) (order : List SourceRecord) → IsSound items → HaveNoWindow items → All (IsRecordOf items) order → HasColumnsThroughout items (topology_of items) order
-sent-filled items order sound windowless records = record { relations = of_relations; cuts = of_cuts }
+pub sent-filled : (items : List Item) (order : List SourceRecord) → IsSound items → All (IsRecordOf items) order → HasColumnsThroughout items (topology_of items) order
+sent-filled items order sound records = record { relations = of_relations; cuts = of_cuts }
   where
     has : Contents
     has = contents items (topology_of items) order
 
     all : AreInUse items has
-    all = all-in-use items order sound windowless records
+    all = all-in-use items order sound records
 
     of_relations : (number part : ℕ) (r : Relation) → relation_at items number ≡ Some r → All (HasColumnsOf r) (has number part)
     of_relations number part r at =

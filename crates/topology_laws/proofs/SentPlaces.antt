@@ -28,7 +28,6 @@ use Rattle.ksql_nodes.specs.Nodes.{gives}
 use Rattle.ksql_nodes.proofs.Lists.{All-append}
 use Rattle.query_meaning.specs.Meaning.{meaning}
 use Rattle.query_meaning.specs.Queries.{changes_at, filter_of, join_of, lanes_of, leftmost, partitions_at}
-use Rattle.meaning_laws.specs.Windows.{HaveNoWindow}
 use Rattle.meaning_laws.proofs.EachRelation.{AreAmong, Each}
 use Rattle.meaning_laws.proofs.Forks.{IsBefore, Rise, rise-placed}
 use Rattle.meaning_laws.proofs.Lists.{Pairwise-filter}
@@ -209,23 +208,23 @@ module _ (items before : List Item) (among : AreAmong before items) (lists : Lis
 
 -- ---- all items
 
-module _ (items : List Item) (order : List SourceRecord) (sound : IsSound items) (windowless : HaveNoWindow items) (fed : IsFed items order) where
+module _ (items : List Item) (order : List SourceRecord) (sound : IsSound items) (fed : IsFed items order) where
   -- each partition of each relation's topic has its part, and in all other topics places rise
   abbrev HasRising : ℕ → Contents → Type 0
-  HasRising k has = HasAll items order sound windowless fed k has × ((topic : ℕ) → slice_get items topic ≡ None → RiseIn topic has)
+  HasRising k has = HasAll items order sound fed k has × ((topic : ℕ) → slice_get items topic ≡ None → RiseIn topic has)
 
   source-rises : (topic : ℕ) → slice_get items topic ≡ None → RiseIn topic (source_contents items order)
   source-rises topic none part = subst (λ o. Rise (filter (λ c. c.place.stamp.part == part) (source_changes order o))) (sym none) tt
 
   declared-rises : (k : ℕ) (r : Relation) (has : Contents) → slice_get items k ≡ Some (Declared r) → HasRising k has → HasRising (k + 1) has
-  declared-rises k r has at all = (declared-more items order sound windowless fed k r has at all.0, all.1)
+  declared-rises k r has at all = (declared-more items order sound fed k r has at all.0, all.1)
 
   query-rises : (k first number : ℕ) (q : Query) (has : Contents) → slice_get items k ≡ Some (Started q) → length items ≤ first →
       ((place : ℕ) → place < length (cuts_of (stages_of items q)) → partitions_of (topology_of items).topics (first + place) ≡ lanes_of items q) → HasRising k has →
       HasRising (k + 1) (contents_from (topology_of items).topics has (subs_from items k first (cuts_of (stages_of items q)) number (stages_of items q)))
   unfolding stages_of
   query-rises k first number q has at high counts all =
-      (query-more items order sound windowless fed k first number q has at high counts all.0, λ topic none. by (sound-at items k (Started q) sound.sound at).1 topic none)
+      (query-more items order sound fed k first number q has at high counts all.0, λ topic none. by (sound-at items k (Started q) sound.sound at).1 topic none)
     where
       lists : List (List Change)
       lists = meaning items order
@@ -234,20 +233,20 @@ module _ (items : List Item) (order : List SourceRecord) (sound : IsSound items)
           RiseIn topic (contents_from (topology_of items).topics has (subs_from items k first (cuts_of (stages_of items q)) number (stages_of items q)))
       by (of_query {types = types} {left = l} reading condition makes _ _) topic none =
           from-rises items (take k items) (before-among items k) (take k lists)
-          (each-before AreChangesOf items lists k (each-changes items order sound windowless fed)) (each-before (λ r. Rise) items lists k (each-rise items order sound windowless fed)) (each-before TurnsIn items lists k (each-turned items order sound windowless fed))
-          (numbered-before items order sound windowless fed k) (raws items order sound windowless fed) (raw-before items order sound windowless fed k)
-          q q.shape (topology_of items).topics k first (out-count items order sound windowless fed k first number q has at high counts all.0)
-          topic (λ same. none-some (Started q) (sym none ∙ ap (slice_get items) (same ∙ out-number items order sound windowless fed k first number q has at high counts all.0) ∙ at))
-          has number (reads items order sound windowless fed k first number q has at high counts all.0) (reads-low items order sound windowless fed k first number q has at high counts all.0)
+          (each-before AreChangesOf items lists k (each-changes items order sound fed)) (each-before (λ r. Rise) items lists k (each-rise items order sound fed)) (each-before TurnsIn items lists k (each-turned items order sound fed))
+          (numbered-before items order sound fed k) (raws items order sound fed) (raw-before items order sound fed k)
+          q q.shape (topology_of items).topics k first (out-count items order sound fed k first number q has at high counts all.0)
+          topic (λ same. none-some (Started q) (sym none ∙ ap (slice_get items) (same ∙ out-number items order sound fed k first number q has at high counts all.0) ∙ at))
+          has number (reads items order sound fed k first number q has at high counts all.0) (reads-low items order sound fed k first number q has at high counts all.0)
           (all.1 topic none) q.from types l reading condition makes counts
 
   pub placed : IsPlacedThroughout items (topology_of items) order
   placed topic part = rise-placed (contents items (topology_of items) order topic part) (by (slice_get items topic) refl)
     where
       end : HasRising (length items) (contents items (topology_of items) order)
-      end = kept items order sound windowless fed HasRising declared-rises query-rises (begins items order sound windowless fed, source-rises)
+      end = kept items order sound fed HasRising declared-rises query-rises (begins items order sound fed, source-rises)
 
-      done : (i : Item) → slice_get items topic ≡ Some i → IsDone items order sound windowless fed (length items) topic i
+      done : (i : Item) → slice_get items topic ≡ Some i → IsDone items order sound fed (length items) topic i
       done (Declared r) at = tt
       done (Started q) at = within items topic (Started q) at
 
@@ -255,4 +254,4 @@ module _ (items : List Item) (order : List SourceRecord) (sound : IsSound items)
       by None none = end.1 topic none part
       by (Some i) at =
           subst Rise (sym (end.0 topic i at (done i at) part))
-          (filter-rise (is_to (relation_of i).partitions part) (raws items order sound windowless fed topic) (raw-at items order sound windowless fed topic (relation_of i) (relation-at items topic i at)).1)
+          (filter-rise (is_to (relation_of i).partitions part) (raws items order sound fed topic) (raw-at items order sound fed topic (relation_of i) (relation-at items topic i at)).1)

@@ -12,7 +12,7 @@ use Rattle.ksql_types.specs.declared.value.SqlType.{SqlType}
 use Rattle.ksql_types.specs.declared.value.Value.{Value}
 use Rattle.ksql_place.specs.declared.change.Change.{Change}
 use Rattle.ksql_expr.specs.declared.typed.Typed.{Typed}
-use Rattle.ksql_program.specs.Sound.{AreColumns, Aggregates, AreColumnsFrom, column_types, grouped, IsJoined, IsKeyed, IsTablesKey, joined, JoinsStream, JoinsTable, Makes, of_stream, of_tables, one, own, partitioned, plain, Reads, rowkey_types}
+use Rattle.ksql_program.specs.Sound.{AreColumns, Aggregates, AreColumnsFrom, column_types, grouped, grouped_kind, IsJoined, IsKeyed, IsTablesKey, IsWindowed, joined, JoinsStream, JoinsTable, Makes, of_stream, of_tables, one, own, partitioned, plain, Reads, rowkey_types, window_types}
 use Rattle.ksql_program.specs.declared.program.Item.{Item}
 use Rattle.ksql_program.specs.declared.query.Agg.{Agg}
 use Rattle.ksql_program.specs.declared.query.From.{From}
@@ -24,7 +24,7 @@ use Rattle.ksql_nodes.specs.declared.node.Node.TheVariants as node
 use Rattle.query_meaning.specs.Queries.{after_aggregate}
 use Rattle.meaning_laws.proofs.JoinedRows.{key-first, tables-keep}
 use Rattle.meaning_laws.proofs.RelationColumns.{joins-table}
-use Rattle.meaning_laws.proofs.RowTypes.{Holds, IsChangeOf, WholeKey, aggregate-filled, columns-types, group-fits, having-fits, own-key, select-said, select-turned, table-apart}
+use Rattle.meaning_laws.proofs.RowTypes.{Holds, IsChangeOf, KeyOf, WholeKey, aggregate-filled, columns-types, group-fits, grouped-apart, having-fits, own-key, select-said, select-turned, table-apart}
 use Rattle.topology_laws.proofs.SentTypes.{Leads, leads-more, leads-one, table-balance-fits, table-group-fits}
 
 -- ---- joins
@@ -94,39 +94,41 @@ module _ (l : Relation) (types : List (Option SqlType)) where
       (table-group-fits types ks out.schema.keys (subst (λ k. AreColumns k types ks out.schema.keys) is kss) (KeyIn kind.Table l))
   group-leads kind.Windowed is un makes = absurd (un refl)
 
-  after-leads : (gk ts : List (Option SqlType)) (having : Option Typed) (values : List Typed) (cs : List Column) → AreColumns kind.Table ts values cs →
-      Leads (IsChangeOf kind.Table gk ts) (IsChangeOf kind.Table gk (column_types cs)) (after_aggregate having values)
-  after-leads gk ts having values cs sound = by having
+  after-leads : (result : Kind) → (result ≡ kind.Stream → ⊥) → (gk ts : List (Option SqlType)) (having : Option Typed) (values : List Typed) (cs : List Column) → AreColumns result ts values cs →
+      Leads (IsChangeOf result gk ts) (IsChangeOf result gk (column_types cs)) (after_aggregate having values)
+  after-leads result apart gk ts having values cs sound = by having
     where
-      select : Leads (IsChangeOf kind.Table gk ts) (IsChangeOf kind.Table gk (column_types cs)) (node.Select [] values ∷ [])
+      select : Leads (IsChangeOf result gk ts) (IsChangeOf result gk (column_types cs)) (node.Select [] values ∷ [])
       select =
-          leads-one (IsChangeOf kind.Table gk ts) (IsChangeOf kind.Table gk (column_types cs)) (node.Select [] values)
-          (select-turned 1 kind.Table table-apart ts [] values cs sound (WholeKey gk) (WholeKey gk) (λ key h. h))
+          leads-one (IsChangeOf result gk ts) (IsChangeOf result gk (column_types cs)) (node.Select [] values)
+          (select-turned 1 result apart ts [] values cs sound (KeyOf result gk) (KeyOf result gk) (λ key h. h))
 
-      by : (having : Option Typed) → Leads (IsChangeOf kind.Table gk ts) (IsChangeOf kind.Table gk (column_types cs)) (after_aggregate having values)
+      by : (having : Option Typed) → Leads (IsChangeOf result gk ts) (IsChangeOf result gk (column_types cs)) (after_aggregate having values)
       by None = select
       by (Some e) =
-          leads-more (IsChangeOf kind.Table gk ts) (IsChangeOf kind.Table gk ts) (IsChangeOf kind.Table gk (column_types cs)) (node.Having e) (node.Select [] values ∷ [])
-          (having-fits 1 e kind.Table (WholeKey gk) ts) select
+          leads-more (IsChangeOf result gk ts) (IsChangeOf result gk ts) (IsChangeOf result gk (column_types cs)) (node.Having e) (node.Select [] values ∷ [])
+          (having-fits 1 e result (KeyOf result gk) ts) select
 
-  pub aggregate-leads : (over : Kind) → l.kind ≡ over → (over ≡ kind.Windowed → ⊥) → {ks vs : List Typed} {gs : List Agg} {having : Option Typed} {out : Relation} →
-      Makes l types (shape.Group ks None gs having vs) out →
+  pub aggregate-leads : (over : Kind) → l.kind ≡ over → (over ≡ kind.Windowed → ⊥) → {ks vs : List Typed} {w : Option Window} {gs : List Agg} {having : Option Typed} {out : Relation} →
+      Makes l types (shape.Group ks w gs having vs) out →
       Leads (Holds over (WholeKey (column_types out.schema.keys)) types) (IsChangeOf out.kind (column_types out.schema.keys) (column_types out.schema.values))
-      (node.Aggregate over gs None ∷ after_aggregate having vs)
-  aggregate-leads over is un {ks = ks} {vs = vs} {gs = gs} {having = having} {out = out} (grouped ats _ _ kss _ aggs _ _ vss same) =
-      let gk : List (Option SqlType) = column_types out.schema.keys in
-      let C : Change → Type 0 = IsChangeOf kind.Table gk (column_types out.schema.values) in
-      subst (λ k. Leads (Holds over (WholeKey gk) types) (IsChangeOf k gk (column_types out.schema.values)) (node.Aggregate over gs None ∷ after_aggregate having vs)) (sym same)
-      (by over is un C
-      (after-leads gk (gk ++ ats ++ []) having vs out.schema.values (subst (λ ts. AreColumns kind.Table (ts ++ ats ++ []) vs out.schema.values) (columns-types l.kind types ks out.schema.keys kss) vss)))
+      (node.Aggregate over gs w ∷ after_aggregate having vs)
+  aggregate-leads over is un {ks = ks} {vs = vs} {w = w} {gs = gs} {having = having} {out = out} (grouped ats _ _ kss _ aggs windowed _ vss same) =
+      subst (λ k. Leads (Holds over (WholeKey gk) types) (IsChangeOf k gk (column_types out.schema.values)) (node.Aggregate over gs w ∷ after_aggregate having vs)) (sym same)
+      (by w windowed over is un (IsChangeOf (grouped_kind w) gk (column_types out.schema.values))
+      (after-leads (grouped_kind w) (grouped-apart w) gk (gk ++ ats ++ window_types w) having vs out.schema.values
+      (subst (λ ts. AreColumns (grouped_kind w) (ts ++ ats ++ window_types w) vs out.schema.values) (columns-types l.kind types ks out.schema.keys kss) vss)))
     where
-      by : (over : Kind) → l.kind ≡ over → (over ≡ kind.Windowed → ⊥) → (C : Change → Type 0) →
-          Leads (IsChangeOf kind.Table (column_types out.schema.keys) (column_types out.schema.keys ++ ats ++ [])) C (after_aggregate having vs) →
-          Leads (Holds over (WholeKey (column_types out.schema.keys)) types) C (node.Aggregate over gs None ∷ after_aggregate having vs)
-      by kind.Stream is un C after =
-          leads-more (Holds kind.Stream (WholeKey (column_types out.schema.keys)) types) (IsChangeOf kind.Table (column_types out.schema.keys) (column_types out.schema.keys ++ ats ++ [])) C
-          (node.Aggregate kind.Stream gs None) (after_aggregate having vs) (aggregate-filled 1 types (column_types out.schema.keys) (subst (λ k. Aggregates k types gs ats) is aggs)) after
-      by kind.Table is un C after =
-          leads-more (Holds kind.Table (WholeKey (column_types out.schema.keys)) types) (IsChangeOf kind.Table (column_types out.schema.keys) (column_types out.schema.keys ++ ats ++ [])) C
-          (node.Aggregate kind.Table gs None) (after_aggregate having vs) (table-balance-fits types (column_types out.schema.keys) (subst (λ k. Aggregates k types gs ats) is aggs)) after
-      by kind.Windowed is un C after = absurd (un refl)
+      gk : List (Option SqlType)
+      gk = column_types out.schema.keys
+
+      by : (w : Option Window) → IsWindowed l.kind w → (over : Kind) → l.kind ≡ over → (over ≡ kind.Windowed → ⊥) → (C : Change → Type 0) →
+          Leads (IsChangeOf (grouped_kind w) gk (gk ++ ats ++ window_types w)) C (after_aggregate having vs) → Leads (Holds over (WholeKey gk) types) C (node.Aggregate over gs w ∷ after_aggregate having vs)
+      by w windowed kind.Stream is un C after =
+          leads-more (Holds kind.Stream (WholeKey gk) types) (IsChangeOf (grouped_kind w) gk (gk ++ ats ++ window_types w)) C
+          (node.Aggregate kind.Stream gs w) (after_aggregate having vs) (aggregate-filled types gk (subst (λ k. Aggregates k types gs ats) is aggs) 1 w) after
+      by None windowed kind.Table is un C after =
+          leads-more (Holds kind.Table (WholeKey gk) types) (IsChangeOf kind.Table gk (gk ++ ats ++ [])) C
+          (node.Aggregate kind.Table gs None) (after_aggregate having vs) (table-balance-fits types gk (subst (λ k. Aggregates k types gs ats) is aggs)) after
+      by (Some w) windowed kind.Table is un C after = absurd (table-apart (sym is ∙ windowed.1))
+      by w windowed kind.Windowed is un C after = absurd (un refl)

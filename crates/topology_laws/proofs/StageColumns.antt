@@ -1,6 +1,6 @@
 -- Keys and rows of what the stages of a query send.
 use Rattle.std.proofs.Common.{◌≡◌, ◌∙◌, ap, ap₂, refl, sym, subst, subst₂, ℕ, zero, ◌+◌, List, [], ◌∷◌, ◌++◌, map, length, take, append_assoc, Bool, true, false, true≢false, inl, inr}
-use Rattle.std.specs.Prelude.{◌==◌, ◌&&◌, ◌⊎◌, not, IsTrue, filter, if◌then◌else◌, Option, Some, None, option_map, unwrap_or, slice_get, IfSome}
+use Rattle.std.specs.Prelude.{◌==◌, ◌&&◌, ◌⊎◌, not, filter, if◌then◌else◌, Option, Some, None, option_map, unwrap_or, slice_get, IfSome}
 use Rattle.std.specs.List.{AllByRecursion}
 use Rattle.std.proofs.lemmas.List.{map-append}
 use Rattle.std.proofs.lemmas.Option.{slice_get-map}
@@ -28,7 +28,6 @@ use Rattle.ksql_nodes.specs.Nodes.{gives}
 use Rattle.ksql_nodes.specs.declared.node.Node.{Node}
 use Rattle.ksql_nodes.specs.declared.node.Node.TheVariants as node
 use Rattle.ksql_nodes.proofs.Lists.{All-append}
-use Rattle.query_meaning.specs.Built.{is_built_shape}
 use Rattle.query_meaning.specs.Queries.{after_aggregate, entry_cmp, filter_of, join_of, join_over, key_columns, kind_at, lanes_of, leftmost, side_at}
 use Rattle.meaning_laws.proofs.EachRelation.{AreAmong}
 use Rattle.meaning_laws.proofs.JoinedRows.{IsOfSides, key-first, stream-joined, tables-joined}
@@ -338,8 +337,8 @@ module _ (items : List Item) where
       same-kind : kind_at items (leftmost q.from) ≡ l.kind
       same-kind = reads-kind before items among reads
 
-      shape-good : (s : Shape) → Makes l types s q.out → HasItsKey before q.from s → IsTrue (is_built_shape s) → HasGroupCut first cuts q s → AllByRecursion (IsGood first cuts) (shape_stages items q s)
-      shape-good (shape.Plain ks vs) makes keyed built group_cut = (
+      shape-good : (s : Shape) → Makes l types s q.out → HasItsKey before q.from s → HasGroupCut first cuts q s → AllByRecursion (IsGood first cuts) (shape_stages items q s)
+      shape-good (shape.Plain ks vs) makes keyed group_cut = (
         (
           inl q.out,
           relation-use q.out.number q.out here,
@@ -348,11 +347,10 @@ module _ (items : List Item) where
         ),
         tt,
       )
-      shape-good (shape.Group ks (Some w) gs having vs) makes keyed built group_cut = absurd (true≢false (sym built))
-      shape-good (shape.Group ks None gs having vs) makes keyed built group_cut = by (are_own_key items q.from ks) refl
+      shape-good (shape.Group ks w gs having vs) makes keyed group_cut = by (are_own_key items q.from ks) refl
         where
           rest : List Node
-          rest = aggregate_nodes items q (shape.Group ks None gs having vs)
+          rest = aggregate_nodes items q (shape.Group ks w gs having vs)
 
           grouping : List Node
           grouping = input_nodes items q ++ node.Group ks ∷ []
@@ -369,7 +367,7 @@ module _ (items : List Item) where
 
           aggregates : Leads G (InUse (inl q.out)) rest
           aggregates =
-              subst (λ o. Leads G (InUse (inl q.out)) (node.Aggregate o gs None ∷ after_aggregate having vs)) (sym same-kind) (aggregate-leads l types l.kind refl (un l.kind refl) makes)
+              subst (λ o. Leads G (InUse (inl q.out)) (node.Aggregate o gs w ∷ after_aggregate having vs)) (sym same-kind) (aggregate-leads l types l.kind refl (un l.kind refl) makes)
 
           whole : Stage
           whole = record { inputs = inputs_of items q.from; nodes = grouping ++ rest; partitions = lanes_of items q; output = link.Relation q.out.number }
@@ -420,14 +418,14 @@ module _ (items : List Item) where
   group-in q first cuts (shape.Plain ks vs) at = tt
   group-in q first cuts (shape.Group ks w gs having vs) at = λ test. at (if-in cut.Group (are_own_key items q.from ks) false test _ _ (inl refl))
 
-  pub query-good : (before : List Item) → AreAmong before items → (q : Query) → IsSoundQuery before q → relation_at items q.out.number ≡ Some q.out → IsTrue (is_built_shape q.shape) → (first : ℕ) →
+  pub query-good : (before : List Item) → AreAmong before items → (q : Query) → IsSoundQuery before q → relation_at items q.out.number ≡ Some q.out → (first : ℕ) →
       ((name : CutName) → IsIn name (cuts_of (stages_of items q)) → HasCut first (cuts_of (stages_of items q)) q name) → AllByRecursion (IsGood first (cuts_of (stages_of items q))) (stages_of items q)
   unfolding stages_of
-  query-good before among q (query reads condition makes keyed _) here built first at =
+  query-good before among q (query reads condition makes keyed _) here first at =
       let rekeys : List Stage = rekey_stages items q in
       let shapes : List Stage = shape_stages items q q.shape in
       let cuts : List CutName = cuts_of (rekeys ++ shapes) in
       let left_cut : is_rekeyed items q.from ≡ true → HasCut first cuts q cut.Left = λ test. at cut.Left (front-in cut.Left rekeys shapes (left-in q q.from test)) in
       All-append (IsGood first cuts) rekeys shapes
       (rekey-good before among first cuts q q.from reads (λ test. (inr (q, cut.Left), left_cut test, λ c h. h)))
-      (shape-good before among first cuts q left_cut here reads q.shape makes keyed built (group-in q first cuts q.shape (λ is. at cut.Group (back-in cut.Group rekeys shapes is))))
+      (shape-good before among first cuts q left_cut here reads q.shape makes keyed (group-in q first cuts q.shape (λ is. at cut.Group (back-in cut.Group rekeys shapes is))))

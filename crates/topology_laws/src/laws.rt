@@ -6,7 +6,6 @@ ghost use Rattle.ksql_place.specs.declared.change.SourceRecord.{SourceRecord as 
 ghost use Rattle.ksql_program.specs.Sound.{IsSound};
 ghost use Rattle.ksql_program.specs.declared.program.Item.{Item as OneItem};
 ghost use Rattle.meaning_laws.specs.Bounds.{IsInTime, IsRecordOf};
-ghost use Rattle.meaning_laws.specs.Windows.{HaveNoWindow};
 ghost use Rattle.topology.specs.Tasks.{chain_of};
 ghost use Rattle.topology.specs.Topologies.{subs, topology_of};
 ghost use Rattle.topology_laws.specs.Chain.{IsLongest};
@@ -14,16 +13,15 @@ ghost use Rattle.topology_laws.specs.Fed.{IsFed};
 ghost use Rattle.topology_laws.specs.Meant.{MeansItsQueries};
 ghost use Rattle.topology_laws.specs.Sent.{HasColumnsThroughout, IsPlacedThroughout, IsSentByFeeds, IsSmallThroughout};
 
-/// Each partition of the topic of each query's result has the changes that the query means there. This is said of
-/// programs without windows.
+/// Each partition of the topic of each query's result has the changes that the query means there.
 pub fn topology_means_its_queries()
-    ensures { (items : List OneItem) (order : List OneRecord) → IsSound items → HaveNoWindow items → IsFed items order →
+    ensures { (items : List OneItem) (order : List OneRecord) → IsSound items → IsFed items order →
         MeansItsQueries items (topology_of items) order }
 {}
 
 /// In each partition of each topic, repartition topics too, places rise.
 pub fn sends_are_placed()
-    ensures { (items : List OneItem) (order : List OneRecord) → IsSound items → HaveNoWindow items → IsFed items order →
+    ensures { (items : List OneItem) (order : List OneRecord) → IsSound items → IsFed items order →
         IsPlacedThroughout items (topology_of items) order }
 {}
 
@@ -40,10 +38,10 @@ pub fn sends_are_bounded()
 {}
 
 /// Where the records have keys and rows of their relations' columns, so has each change in the topic of a relation, and each
-/// in a repartition topic has a whole key and whole rows. This is said of programs without windows.
+/// in a repartition topic has a whole key and whole rows.
 pub fn sends_have_columns()
-    ensures { (items : List OneItem) (order : List OneRecord) → IsSound items → HaveNoWindow items →
-        All (IsRecordOf items) order → HasColumnsThroughout items (topology_of items) order }
+    ensures { (items : List OneItem) (order : List OneRecord) → IsSound items → All (IsRecordOf items) order →
+        HasColumnsThroughout items (topology_of items) order }
 {}
 
 /// The chain, which is counted along the sub-topologies, is the greatest length of a path, each sub-topology of which reads
