@@ -34,7 +34,6 @@ use Rattle.ksql_nodes.proofs.Stamps.{gives-keeps}
 use Rattle.query_meaning.specs.Meaning.{declared_changes, meaning, partition_of, steps_of_declared, up_to}
 use Rattle.query_meaning.specs.Queries.{changes_at}
 use Rattle.meaning_laws.specs.Places.{ArePlaced}
-use Rattle.meaning_laws.specs.Windows.{HaveNoWindow}
 use Rattle.meaning_laws.proofs.EachRelation.{at-each}
 use Rattle.meaning_laws.proofs.Lists.{All-both, All-map, All-of, All-passes, All-weaker, Pairwise, Pairwise-filter, Pairwise-from_all, Pairwise-map, Pairwise-weaker, all-from_pairwise, filter-map, filter-swap}
 use Rattle.meaning_laws.proofs.RelationPlaces.{meant-placed}
@@ -187,7 +186,7 @@ section-same : (closed : ℕ) (r : Relation) (xs ys : List SourceRecord) (us vs 
 unfolding section_of
 section-same closed r xs ys us vs skipped shown = ap₂ (λ n ss. record { relation = r; closed = closed; skipped = n; shown = ss }) skipped shown
 
-module _ (items : List Item) (order : List SourceRecord) (sound : IsSound items) (fed : IsFed items order) (windowless : HaveNoWindow items) (counted : AreCounted order) (b : Shelves) (g : IsGoodBroker items order b) where
+module _ (items : List Item) (order : List SourceRecord) (sound : IsSound items) (fed : IsFed items order) (counted : AreCounted order) (b : Shelves) (g : IsGoodBroker items order b) where
   -- the feed up to which a topic is closed is that of the core
   feed-same : (number : ℕ) → shelf_closed (routes_in b) (shelf_of b) number ≡ shelf_closed (routes_of (topology_of items).topics) g.parts.shelf number
   feed-same number = ap₂ (λ topics s. shelf_closed (routes_of topics) s number) g.topics (sym g.shelf)
@@ -195,7 +194,7 @@ module _ (items : List Item) (order : List SourceRecord) (sound : IsSound items)
   -- ---- declared relations
 
   last-feed : (r : Relation) → slice_get items r.number ≡ Some (Declared r) → shown_up_to b r ≡ g.parts.shelf.fed
-  last-feed r at = feed-same r.number ∙ ap (lowest g.parts.shelf.fed g.parts.shelf.done) (no-writers items order sound fed windowless counted b g r.number r at)
+  last-feed r at = feed-same r.number ∙ ap (lowest g.parts.shelf.fed g.parts.shelf.done) (no-writers items order sound fed counted b g r.number r at)
 
   -- a declared relation is shown up to the last feed
   pub declared-feed : (r : Relation) → slice_get items r.number ≡ Some (Declared r) → shown_up_to b r ≡ b.fed
@@ -208,7 +207,7 @@ module _ (items : List Item) (order : List SourceRecord) (sound : IsSound items)
   -- its changes are those that it means, each in its partition
   declared-shown : (r : Relation) → slice_get items r.number ≡ Some (Declared r) → declared_shown b r ≡ meant r (changes_at (meaning items order) r.number)
   declared-shown r at =
-      ap (λ xs. map (λ c. shown_in c.place.stamp.part c) (declared_changes r xs)) (records-of items order sound fed windowless counted b g r at)
+      ap (λ xs. map (λ c. shown_in c.place.stamp.part c) (declared_changes r xs)) (records-of items order sound fed counted b g r at)
       ∙ ap (map (λ c. shown_in c.place.stamp.part c)) (declared-topic r order)
       ∙ map-each (λ c. shown_in c.place.stamp.part c) (λ c. shown_in (partition_of r c) c) (declared_changes r order)
       (All-weaker (StandsSo r) (λ c. shown_in c.place.stamp.part c ≡ shown_in (partition_of r c) c) (λ c there. ap (λ part. shown_in part c) there) (declared_changes r order)
@@ -218,7 +217,7 @@ module _ (items : List Item) (order : List SourceRecord) (sound : IsSound items)
   pub declared-section : (r : Relation) → slice_get items r.number ≡ Some (Declared r) → section_shown b (Declared r) ≡ section_known items b order (Declared r)
   declared-section r at =
       section-same (shown_up_to b r) r (records_shown b r) (up_to (shown_up_to b r) order) (declared_shown b r) (meant r (changes_at (meaning items (up_to (shown_up_to b r) order)) r.number))
-      (ap (skipped_of r) (records-of items order sound fed windowless counted b g r at) ∙ skipped-topic r order ∙ ap (skipped_of r) (sym (all-records r at)))
+      (ap (skipped_of r) (records-of items order sound fed counted b g r at) ∙ skipped-topic r order ∙ ap (skipped_of r) (sym (all-records r at)))
       (declared-shown r at ∙ ap (λ xs. meant r (changes_at (meaning items xs) r.number)) (sym (all-records r at)))
 
   -- ---- queries
@@ -237,7 +236,7 @@ module _ (items : List Item) (order : List SourceRecord) (sound : IsSound items)
     part-shown : (part : ℕ) → changes_in (entries_at b q.out part) ≡ filter (λ c. partition_of q.out c == part) changes
     part-shown part =
         ap (λ s. changes_in (s.shown q.out.number part)) (sym g.shelf)
-        ∙ ap changes_in (good-shows items order sound windowless counted fed (state_of g.parts) g.good q.out.number q at part)
+        ∙ ap changes_in (good-shows items order sound counted fed (state_of g.parts) g.good q.out.number q at part)
         ∙ changes-said (meant_in_part items (order_upto (shelf_closed (routes_of (topology_of items).topics) g.parts.shelf q.out.number) order) q.out.number q part)
         ∙ ap (λ xs. meant_in_part items xs q.out.number q part) same-records
 

@@ -21,7 +21,6 @@ use Rattle.ksql_program.specs.Sound.{IsSound, IsSoundItem, IsSoundQuery, query}
 use Rattle.ksql_program.specs.declared.program.Item.{Item}
 use Rattle.ksql_program.specs.declared.program.Item.TheVariants.{Declared, Started}
 use Rattle.ksql_program.specs.declared.query.Query.{Query}
-use Rattle.meaning_laws.specs.Windows.{HaveNoWindow}
 use Rattle.meaning_laws.proofs.Lists.{All-both, All-filter, All-passes, All-weaker, Pairwise, Pairwise-filter, Pairwise-from_all}
 use Rattle.topology.specs.Topologies.{topology_of}
 use Rattle.topology.specs.declared.topology.Topology.{Topology}
@@ -126,7 +125,7 @@ module _ (items : List Item) (order : List SourceRecord) (sound : IsSound items)
 
   -- ---- a broker
 
-  module _ (windowless : HaveNoWindow items) (counted : AreCounted order) (b : Shelves) (g : IsGoodBroker items order b) where
+  module _ (counted : AreCounted order) (b : Shelves) (g : IsGoodBroker items order b) where
     abbrev t : Topology
     t = topology_of items
 
@@ -144,7 +143,7 @@ module _ (items : List Item) (order : List SourceRecord) (sound : IsSound items)
     source-shown r at q =
         ap (λ s. s.shown r.number q) (sym g.shelf)
         ∙ g.good.source_shown r.number q (no-writers r.number r at)
-        ∙ ap (between log_feed 0 g.parts.shelf.fed) (declared-contents items order sound windowless fed r.number r at q)
+        ∙ ap (between log_feed 0 g.parts.shelf.fed) (declared-contents items order sound fed r.number r at q)
         ∙ between-all log_feed 0 g.parts.shelf.fed (map Fed (filter (is_in r.number q) order))
         (staging.All-records (λ x. (0 < log_feed x) × (log_feed x ≤ g.parts.shelf.fed)) (filter (is_in r.number q) order)
         (all-kept (λ x. (0 < x.stamp.feed) × (x.stamp.feed ≤ g.parts.shelf.fed)) (is_in r.number q) order

@@ -1,4 +1,4 @@
--- The report that a good broker shows: the report of what the program means.
+-- The report and the summary that a good broker shows: those of what the program means.
 use Rattle.std.specs.Prelude.{◌≡◌, ℕ, List, map, Some, slice_get}
 use Rattle.ksql_types.specs.declared.relation.Relation.{Relation}
 use Rattle.ksql_place.specs.declared.change.SourceRecord.{SourceRecord}
@@ -15,8 +15,8 @@ use Rattle.core_laws.specs.Core.{meaning_in_core}
 use Rattle.task_core.specs.Core.{core_of}
 use Rattle.topic_log.specs.Shelves.{routes_in, shelf_of, topics_of}
 use Rattle.topic_log.specs.declared.shelves.Shelves.{Shelves}
-use Rattle.run_text.specs.Report.{Section, meant, report, section_of}
-use Rattle.run_text.specs.Shown.{shown_report}
+use Rattle.run_text.specs.Report.{Section, meant, report, section_of, summary}
+use Rattle.run_text.specs.Shown.{shown_report, shown_summary}
 
 -- ---- the records
 
@@ -49,3 +49,7 @@ section_known items b order item =
 -- the report that a broker shows has all records that were fed, and of each relation its meaning on them
 abbrev pub ReportsTheMeaning : List Item → List SourceRecord → Shelves → Type 0
 ReportsTheMeaning items order b = (trace : List ℕ) → shown_report items b trace ≡ report (relations items) order (map (section_known items b order) items) trace
+
+-- the summary that a broker shows has of each relation what its meaning has on the records that were fed
+abbrev pub SummarizesTheMeaning : List Item → List SourceRecord → Shelves → Type 0
+SummarizesTheMeaning items order b = shown_summary items b ≡ summary (map (section_known items b order) items)

@@ -1,4 +1,5 @@
 pub mod LatestLemmas
+pub mod Printable
 pub mod ReportLemmas
 pub mod RowLemmas
 pub mod ShownLemmas

@@ -1,4 +1,4 @@
--- The report on the relations of a program.
+-- The report on the relations of a program, and its summary.
 use Rattle.std.specs.Prelude.{◌≡◌, ℕ, ◌≤◌, List, [], ◌∷◌, ◌++◌, length, map, filter, flat_map, count_by, codes, decimal, Bool, true, false, ◌&&◌, if◌then◌else◌, Option, None, Some, slice_get, slice_index_or, is_some}
 use Rattle.std.specs.List.{list_any}
 use Rattle.std.specs.Option.{option_cmp, option_map_or}
@@ -157,3 +157,18 @@ order_text relations order =
 unfoldable pub report : List Relation → List SourceRecord → List Section → List ℕ → List ℕ
 report relations order sections trace =
     order_text relations order ++ (flat_map section_text sections ++ (trace ++ codes "end\n"))
+
+-- ---- the summary
+
+-- the lines of a section's rows that a summary has: those of a table without windows
+abbrev pub summary_rows : Kind → Section → List ℕ
+summary_rows kinds.Table s = row_lines s
+summary_rows _ s = []
+
+-- a relation's head line and, of a table without windows, the lines of its rows
+unfoldable pub summary_text : Section → List ℕ
+summary_text s = head_line s ++ summary_rows s.relation.kind s
+
+-- the summary: what it has of each section, and the last line
+unfoldable pub summary : List Section → List ℕ
+summary sections = flat_map summary_text sections ++ codes "end\n"

@@ -19,7 +19,7 @@ use Rattle.core_state.specs.Shelf.{shelf_closed}
 use Rattle.topic_log.specs.Shelves.{routes_in, shelf_of, topics_of}
 use Rattle.topic_log.specs.declared.shelves.Shelves.{Shelves}
 use Rattle.run_text.specs.Printed.{Shown, shown_in}
-use Rattle.run_text.specs.Report.{Section, report, section_of}
+use Rattle.run_text.specs.Report.{Section, report, section_of, summary}
 
 -- the records, or the changes, among the entries of a partition
 abbrev pub records_in : List LogEntry → List SourceRecord
@@ -82,6 +82,10 @@ section_shown b (Started q) = section_of (shelf_closed (routes_in b) (shelf_of b
 
 unfoldable pub shown_report : List Item → Shelves → List ℕ → List ℕ
 shown_report items b trace = report (relations items) (order_shown b items) (map (section_shown b) items) trace
+
+-- the summary of what is shown
+unfoldable pub shown_summary : List Item → Shelves → List ℕ
+shown_summary items b = summary (map (section_shown b) items)
 
 -- a broker has the topic of each relation, with as many partitions
 abbrev pub HasTopicOf : Shelves → Relation → Type 0

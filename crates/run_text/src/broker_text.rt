@@ -1,4 +1,4 @@
-//! The report of a program as a broker shows it.
+//! The report of a program as a broker shows it, and its summary.
 
 ghost use Rattle.std.specs.Prelude.{◌≡◌, ◌++◌, [], All, IfOk, OnOk, flat_map, map, string_bytes};
 ghost use Rattle.std.specs.List.{range_with_len};
@@ -7,13 +7,14 @@ ghost use Rattle.ksql_program.specs.declared.program.Item.TheVariants.{Declared}
 ghost use Rattle.ksql_program.specs.Program.{relation_of, relations};
 ghost use Rattle.topic_log.specs.Shelves.{routes_in, shelf_of};
 ghost use Rattle.core_state.specs.Shelf.{shelf_closed};
-ghost use Rattle.run_text.specs.Report.{section_of, section_text, skipped_of, IsPrintable};
-ghost use Rattle.run_text.specs.Shown.{declared_records, order_shown, query_shown, records_shown, section_shown, shown_report, standing_at, standing_cmp, HasTopicOf};
+ghost use Rattle.run_text.specs.Lines.{extent_text};
+ghost use Rattle.run_text.specs.Report.{section_of, skipped_of, IsPrintable};
+ghost use Rattle.run_text.specs.Shown.{declared_records, order_shown, query_shown, records_shown, section_shown, shown_report, shown_summary, standing_at, standing_cmp, HasTopicOf};
 ghost use Rattle.run_text.specs.Standings.{standing_of};
 
 use crate::declared::declared_lines;
 use crate::program_report::push_order;
-use crate::section::push_section;
+use crate::section::{Extent, push_section};
 use crate::visible::{LentChange, by_place, by_stamp, push_changes, push_records, standing_lines};
 use ksql_place::{SourceRecord, is_skipped};
 use ksql_program::{Item, Program, relation_of};
@@ -39,80 +40,111 @@ pub fn broker_report(
     let order = order_shown(alloc, broker, items)?;
     let mut out = String::new(alloc);
     push_order(&mut out, items, order.as_slice())?;
-    push_sections(&mut out, alloc, broker, items)?;
+    push_sections(&mut out, alloc, Extent::Whole, broker, items)?;
     out.push_str(trace)?;
     out.push_str("end\n")?;
     Ok(out)
 }
 
-/// Appends what is shown of each item.
+/// The summary of a program as a broker shows it: a head line of each relation and, of a table without windows, its rows,
+/// and a last line. The broker has the topic of each relation. Takes of the order of n log n steps for n entries.
+#[tactic(auto, unfolding(crate::specs::Report::summary, crate::specs::Shown::shown_summary))]
+pub fn broker_summary(
+    alloc: Global,
+    program: &Program,
+    broker: &Broker,
+) -> Result<String, AllocError>
+    requires printable { All IsPrintable (relations program.now.items) }
+    requires topics { All (HasTopicOf broker.now) (relations program.now.items) }
+    ensures { IfOk result (λ text. string_bytes text ≡ shown_summary program.now.items broker.now) }
+{
+    let items = program.items.items();
+    let mut out = String::new(alloc);
+    push_sections(&mut out, alloc, Extent::Summary, broker, items)?;
+    out.push_str("end\n")?;
+    Ok(out)
+}
+
+/// Appends what is shown of each item, to this extent.
 fn push_sections(
     out: &mut String,
     alloc: Global,
+    extent: Extent,
     broker: &Broker,
     items: &[Item],
 ) -> Result<(), AllocError>
     requires { All (HasTopicOf broker.now) (relations items.now) }
     ensures { OnOk result (string_bytes out.new
-        ≡ string_bytes out.old ++ flat_map section_text (map (section_shown broker.now) items.now)) }
+        ≡ string_bytes out.old ++ flat_map (extent_text extent) (map (section_shown broker.now) items.now)) }
 {
     for item in items {
-        push_item_section(out, alloc, broker, item)?;
+        push_item_section(out, alloc, extent, broker, item)?;
     }
     Ok(())
 }
 
-/// Appends what is shown of an item.
+/// Appends what is shown of an item, to this extent.
 fn push_item_section(
     out: &mut String,
     alloc: Global,
+    extent: Extent,
     broker: &Broker,
     item: &Item,
 ) -> Result<(), AllocError>
     requires { HasTopicOf broker.now (relation_of item.now) }
     ensures { OnOk result (string_bytes out.new
-        ≡ string_bytes out.old ++ section_text (section_shown broker.now item.now)) }
+        ≡ string_bytes out.old ++ extent_text extent (section_shown broker.now item.now)) }
 {
     match item {
-        Item::Declared(relation) => push_declared_section(out, alloc, broker, relation),
-        Item::Started(query) => push_query_section(out, alloc, broker, &query.out),
+        Item::Declared(relation) => push_declared_section(out, alloc, extent, broker, relation),
+        Item::Started(query) => push_query_section(out, alloc, extent, broker, &query.out),
     }
 }
 
-/// Appends what is shown of a declared relation.
+/// Appends what is shown of a declared relation, to this extent.
 fn push_declared_section(
     out: &mut String,
     alloc: Global,
+    extent: Extent,
     broker: &Broker,
     relation: &Relation,
 ) -> Result<(), AllocError>
     requires { HasTopicOf broker.now relation.now }
     ensures { OnOk result (string_bytes out.new
-        ≡ string_bytes out.old ++ section_text (section_shown broker.now (Declared relation.now))) }
+        ≡ string_bytes out.old ++ extent_text extent (section_shown broker.now (Declared relation.now))) }
 {
     let records = records_shown(alloc, broker, relation)?;
     let lines = declared_lines(alloc, relation, records.as_slice())?;
     let skipped = skipped_among(relation, records.as_slice());
     let closed = broker.closed(relation.number);
-    push_section(out, alloc, relation, closed, skipped, lines.as_slice())
+    push_section(
+        out,
+        alloc,
+        extent,
+        relation,
+        closed,
+        skipped,
+        lines.as_slice(),
+    )
 }
 
-/// Appends what is shown of a query's relation.
+/// Appends what is shown of a query's relation, to this extent.
 fn push_query_section(
     out: &mut String,
     alloc: Global,
+    extent: Extent,
     broker: &Broker,
     relation: &Relation,
 ) -> Result<(), AllocError>
     requires { HasTopicOf broker.now relation.now }
     ensures { let closed = shelf_closed (routes_in broker.now) (shelf_of broker.now) relation.now.number in
         OnOk result (string_bytes out.new
-        ≡ string_bytes out.old ++ section_text (section_of closed relation.now [] (query_shown broker.now relation.now))) }
+        ≡ string_bytes out.old ++ extent_text extent (section_of closed relation.now [] (query_shown broker.now relation.now))) }
 {
     let changes = changes_shown(alloc, broker, relation)?;
     let lines = standing_lines(alloc, changes.as_slice())?;
     let closed = broker.closed(relation.number);
-    push_section(out, alloc, relation, closed, 0, lines.as_slice())
+    push_section(out, alloc, extent, relation, closed, 0, lines.as_slice())
 }
 
 /// How many of some records are skipped ones of a relation's topic.

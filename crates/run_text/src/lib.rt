@@ -10,5 +10,5 @@ mod rows;
 mod section;
 mod visible;
 
-pub use broker_text::broker_report;
+pub use broker_text::{broker_report, broker_summary};
 pub use program_report::report;

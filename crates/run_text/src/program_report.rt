@@ -9,7 +9,7 @@ ghost use Rattle.run_text.specs.Lines.{is_skipped_up_to};
 ghost use Rattle.run_text.specs.Report.{closed_at, meant, order_text, report, section_of, section_text, sections, topic_name, IsPrintable};
 
 use crate::printed::push_order_line;
-use crate::section::{lines_of, push_section};
+use crate::section::{Extent, lines_of, push_section};
 use ksql_place::{SourceRecord, is_skipped};
 use ksql_program::{Item, Program, relation_of};
 use ksql_types::Relation;
@@ -119,9 +119,17 @@ fn push_item(
     match lists.get(relation.number as usize) {
         Some(listed) => {
             let lines = lines_of(alloc, relation, listed)?;
-            push_section(out, alloc, relation, closed, skipped, lines.as_slice())
+            push_section(
+                out,
+                alloc,
+                Extent::Whole,
+                relation,
+                closed,
+                skipped,
+                lines.as_slice(),
+            )
         }
-        None => push_section(out, alloc, relation, closed, skipped, &[]),
+        None => push_section(out, alloc, Extent::Whole, relation, closed, skipped, &[]),
     }
 }
 

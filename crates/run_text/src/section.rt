@@ -4,9 +4,9 @@ ghost use Rattle.std.specs.Prelude.{◌≡◌, ◌∷◌, ◌++◌, [], IfOk, Li
 ghost use Rattle.ksql_types.specs.declared.relation.Column.{Column as OneColumn};
 ghost use Rattle.ksql_place.specs.Said.{row_in};
 ghost use Rattle.query_meaning.specs.Plain.{changes_of, rows_said};
-ghost use Rattle.run_text.specs.Lines.{shown_of};
+ghost use Rattle.run_text.specs.Lines.{extent_text, shown_of};
 ghost use Rattle.run_text.specs.Printed.{change_line, row_line, shown_in, Shown};
-ghost use Rattle.run_text.specs.Report.{count_text, head_line, kind_text, meant, origin_text, section_text, table_rows, IsPrintable};
+ghost use Rattle.run_text.specs.Report.{count_text, head_line, kind_text, meant, origin_text, table_rows, IsPrintable};
 ghost use Rattle.topic_files.specs.Printed.{labels_of};
 
 use crate::printed::{Line, push_change, push_row_line};
@@ -16,6 +16,13 @@ use ksql_types::{Kind, Relation, Row, Value, lane};
 use query_meaning::{Listed, partition_of};
 use std::alloc::{AllocError, Global};
 use topic_files::labels;
+
+/// How much is written of a section: the whole, or what a summary has of it.
+#[derive(Clone, Copy, Drop)]
+pub enum Extent {
+    Whole,
+    Summary,
+}
 
 /// The lines of the changes that a relation means.
 pub fn lines_of<'a>(
@@ -133,25 +140,34 @@ fn row_in(body: &Body) -> Option<&[Value]>
     }
 }
 
-/// Appends what is shown of a relation: its head line, these lines of its changes and, of a table, those of its rows. It
-/// is shown up to the feed `closed`, and so many of its records were skipped.
-#[tactic(auto, using(crate::proofs::ReportLemmas::appends), unfolding(crate::specs::Report::section_text, crate::specs::Report::row_lines))]
+/// Appends what is shown of a relation, to this extent: its head line, these lines of its changes and, of a table, those of
+/// its rows. A summary has the rows of a table without windows alone, and no changes. The relation is shown up to the feed
+/// `closed`, and so many of its records were skipped.
 pub fn push_section(
     out: &mut String,
     alloc: Global,
+    extent: Extent,
     relation: &Relation,
     closed: u64,
     skipped: usize,
     lines: &[Line],
 ) -> Result<(), AllocError>
     ensures { OnOk result (string_bytes out.new ≡ string_bytes out.old
-        ++ section_text (record { relation = relation.now; closed = closed; skipped = skipped; shown = map shown_of lines.now })) }
+        ++ extent_text extent (record { relation = relation.now; closed = closed; skipped = skipped; shown = map shown_of lines.now })) }
 {
     let rows = table_rows(alloc, relation.kind, lines)?;
     push_head(out, relation, closed, skipped, lines, rows.as_slice())?;
     let labels = labels(alloc, relation.schema.values.items())?;
-    push_changes(out, alloc, &labels, lines)?;
-    push_rows(out, alloc, &labels, rows.as_slice())
+    match extent {
+        Extent::Whole => {
+            push_changes(out, alloc, &labels, lines)?;
+            push_rows(out, alloc, &labels, rows.as_slice())
+        }
+        Extent::Summary => match relation.kind {
+            Kind::Table => push_rows(out, alloc, &labels, rows.as_slice()),
+            Kind::Stream | Kind::Windowed => Ok(()),
+        },
+    }
 }
 
 /// Appends the lines of the changes of a relation whose value columns have these labels.

@@ -11,8 +11,8 @@ use super::*;
 use ksql_place::{Body, Change, Decoded, Place, Stamp};
 use ksql_program::{From, Query, Shape};
 use ksql_types::{
-    Chars, Column, Format, Items, Key, Kind, Row, Schema, SqlType, TaskName, TopicSpec, Value,
-    Writer,
+    Chars, Column, Format, Items, Key, Kind, Row, Schema, Span, SqlType, TaskName, TopicSpec,
+    Value, Writer,
 };
 use std::test::Fail;
 use topic_log::Proposal;
@@ -25,8 +25,14 @@ fn chars(alloc: Global, text: &str) -> Result<Chars, AllocError> {
     Ok(Chars::of(String::from_str(alloc, text)?))
 }
 
-/// A stream in one partition with the value column N.
-fn stream(alloc: Global, number: u32, name: &str, declared: bool) -> Result<Relation, AllocError>
+/// A relation of this kind in one partition with the value column N.
+fn relation(
+    alloc: Global,
+    number: u32,
+    name: &str,
+    kind: Kind,
+    declared: bool,
+) -> Result<Relation, AllocError>
     ensures printable { IfOk result IsPrintable }
     ensures number { IfOk result (λ made. made.number ≡ number) }
     ensures partitions { IfOk result (λ made. made.partitions ≡ 1) }
@@ -40,7 +46,7 @@ fn stream(alloc: Global, number: u32, name: &str, declared: bool) -> Result<Rela
     Ok(Relation {
         number,
         name: chars(alloc, name)?,
-        kind: Kind::Stream,
+        kind,
         schema: Schema { keys, values },
         topic: chars(alloc, name)?,
         partitions: 1,
@@ -49,14 +55,14 @@ fn stream(alloc: Global, number: u32, name: &str, declared: bool) -> Result<Rela
     })
 }
 
-/// The stream S, and the query COPY over it.
-fn program(alloc: Global) -> Result<Program, AllocError>
+/// The stream S, and the query COPY over it, whose result is of this kind.
+fn program(alloc: Global, kind: Kind) -> Result<Program, AllocError>
     ensures printable { IfOk result (λ made. All IsPrintable (relations made.items)) }
     ensures topics { IfOk result (λ made. (s : OneBroker) → map (λ t. t.partitions) (topics_of s) ≡ 1 ∷ 1 ∷ []
         → All (HasTopicOf s) (relations made.items)) }
 {
-    let source = stream(alloc, 0, "S", true)?;
-    let out = stream(alloc, 1, "COPY", false)?;
+    let source = relation(alloc, 0, "S", Kind::Stream, true)?;
+    let out = relation(alloc, 1, "COPY", kind, false)?;
     let copy = Query {
         from: From::One { relation: 0 },
         filter: None,
@@ -137,8 +143,8 @@ fn feed_one(alloc: Global, broker: &mut Broker, number: i32) -> Result<u64, Allo
     broker.feed(alloc, vec![in alloc; record]?)
 }
 
-/// What the task of COPY proposes for the first feed: one change, with this number.
-fn proposal(alloc: Global, number: i32) -> Result<Proposal, AllocError>
+/// What the task of COPY proposes for the first feed: one change, with this window and body.
+fn proposal(alloc: Global, span: Option<Span>, body: Body) -> Result<Proposal, AllocError>
     ensures task { IfOk result (λ made. made.task ≡ record { sub = 0; part = 0 }) }
     ensures from { IfOk result (λ made. made.from ≡ 0) }
     ensures proposal { IfOk result IsProposal }
@@ -150,8 +156,8 @@ fn proposal(alloc: Global, number: i32) -> Result<Proposal, AllocError>
         },
         time: 5,
         key: Key::of(Vec::new(alloc)),
-        span: None,
-        body: Body::Said(row(alloc, number)?),
+        span,
+        body,
     };
     Ok(Proposal {
         task: TaskName { sub: 0, part: 0 },
@@ -164,13 +170,18 @@ fn proposal(alloc: Global, number: i32) -> Result<Proposal, AllocError>
 }
 
 /// Commits what the task of COPY proposes for the first feed.
-fn commit(alloc: Global, broker: &mut Broker, number: i32) -> Result<(), AllocError>
+fn commit(
+    alloc: Global,
+    broker: &mut Broker,
+    span: Option<Span>,
+    body: Body,
+) -> Result<(), AllocError>
     requires writer { IsWriter (routes_in broker.old) (record { sub = 0; part = 0 }) }
     requires begins { (shelf_of broker.old).done (record { sub = 0; part = 0 }) ≡ 0 }
     ensures topics { OnOk result (topics_of broker.new ≡ topics_of broker.old) }
     ensures fed { OnOk result ((shelf_of broker.new).fed ≡ (shelf_of broker.old).fed) }
 {
-    match broker.prepare(alloc, proposal(alloc, number)?) {
+    match broker.prepare(alloc, proposal(alloc, span, body)?) {
         Ok(prepared) => {
             broker.apply(prepared);
             Ok(())
@@ -179,15 +190,31 @@ fn commit(alloc: Global, broker: &mut Broker, number: i32) -> Result<(), AllocEr
     }
 }
 
+/// A broker with the record 7 in S and this change in COPY.
+fn fed_broker(alloc: Global, span: Option<Span>, body: Body) -> Result<Broker, AllocError>
+    ensures { IfOk result (λ broker. map (λ t. t.partitions) (topics_of broker) ≡ 1 ∷ 1 ∷ []) }
+{
+    let topics = two_topics(alloc)?;
+    let mut broker = Broker::new(alloc, topics.as_slice())?;
+    commit(alloc, &mut broker, span, body)?;
+    if broker.partitions(0) == 1 {
+        feed_one(alloc, &mut broker, 7)?;
+    }
+    Ok(broker)
+}
+
+/// The summary with one row of COPY, which is of this kind, in this window.
+fn summary_of_one(alloc: Global, kind: Kind, span: Option<Span>) -> Result<String, AllocError> {
+    let new = Some(row(alloc, 8)?);
+    let broker = fed_broker(alloc, span, Body::Turned { old: None, new })?;
+    broker_summary(alloc, &program(alloc, kind)?, &broker)
+}
+
 #[test]
 fn an_altered_change_is_reported_as_it_stands(rt: HostRuntime) -> Result<(), Fail> {
     let alloc = rt.alloc();
-    let program = program(alloc)?;
-    let topics = two_topics(alloc)?;
-    let mut broker = Broker::new(alloc, topics.as_slice())?;
-    commit(alloc, &mut broker, 8)?;
-    assert_eq!(rt; broker.partitions(0), 1);
-    feed_one(alloc, &mut broker, 7)?;
+    let program = program(alloc, Kind::Stream)?;
+    let broker = fed_broker(alloc, None, Body::Said(row(alloc, 8)?))?;
     assert_eq!(rt;
         broker_report(alloc, &program, &broker, "")?.as_str(),
         concat!(
@@ -196,6 +223,37 @@ fn an_altered_change_is_reported_as_it_stands(rt: HostRuntime) -> Result<(), Fai
             "{\"p\":0,\"t\":5,\"k\":null,\"v\":{\"N\":7}}\n",
             "stream COPY query c=1 changes=1\n",
             "{\"p\":0,\"t\":5,\"k\":null,\"v\":{\"N\":8}}\n",
+            "end\n",
+        )
+    );
+    Ok(())
+}
+
+#[test]
+fn a_summary_has_head_lines_and_the_rows_of_a_table(rt: HostRuntime) -> Result<(), Fail> {
+    assert_eq!(rt;
+        summary_of_one(rt.alloc(), Kind::Table, None)?.as_str(),
+        concat!(
+            "stream S declared c=1 skipped=0 changes=1\n",
+            "table COPY query c=1 changes=1 rows=1\n",
+            "row {\"t\":5,\"k\":null,\"v\":{\"N\":8}}\n",
+            "end\n",
+        )
+    );
+    Ok(())
+}
+
+#[test]
+fn a_summary_counts_the_rows_of_a_windowed_table(rt: HostRuntime) -> Result<(), Fail> {
+    let window = Span {
+        start: 0,
+        end: 60000,
+    };
+    assert_eq!(rt;
+        summary_of_one(rt.alloc(), Kind::Windowed, Some(window))?.as_str(),
+        concat!(
+            "stream S declared c=1 skipped=0 changes=1\n",
+            "windowed COPY query c=1 changes=1 rows=1\n",
             "end\n",
         )
     );

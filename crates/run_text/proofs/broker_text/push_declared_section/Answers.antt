@@ -2,8 +2,8 @@ use Rattle.std.proofs.Common.{◌≡◌, ◌∙◌, ◌++◌, Bor, List, ap, map
 use Rattle.std.specs.Prelude.{OnOk}
 use Rattle.ksql_place.specs.declared.change.SourceRecord.{SourceRecord}
 use Rattle.query_meaning.specs.Meaning.{declared_changes}
-use Rattle.run_text.specs.Lines.{shown_of}
-use Rattle.run_text.specs.Report.{section_text, skipped_of, Section}
+use Rattle.run_text.specs.Lines.{extent_text, shown_of}
+use Rattle.run_text.specs.Report.{skipped_of, Section}
 use Rattle.run_text.specs.RowKeys.{as_fed}
 use Rattle.run_text.proofs.ReportLemmas.{section-made}
 use Rattle.run_text.proofs.ShownLemmas.{topic-inside}
@@ -20,5 +20,5 @@ returns c =
     let shown =
     ap (map shown_of) c.as_slice-3.ensures.value ∙ c.in_ok-lines.ensures
     ∙ ap (λ (rs : List SourceRecord). as_fed (declared_changes r rs)) (ap lent c.as_slice.ensures.value ∙ c.in_ok-records.ensures) in
-    subst (λ (s : Section). OnOk c.push_section.result (string_bytes c.push_section.new.out ≡ string_bytes c.args.out.now ++ section_text s))
+    subst (λ (s : Section). OnOk c.push_section.result (string_bytes c.push_section.new.out ≡ string_bytes c.args.out.now ++ extent_text c.args.extent s))
     (section-made r _ _ _ _ _ _ c.closed-closed.ensures skipped shown) c.push_section.ensures

@@ -1,22 +1,53 @@
-use Rattle.std.proofs.Common.{◌≡◌, ◌∙◌, ap, append_assoc, arith, map, string_bytes}
+use Rattle.std.proofs.Common.{◌≡◌, ◌∙◌, ℕ, List, [], ap, append_assoc, arith, inl, inr, map, string_bytes}
 use Rattle.std.proofs.lemmas.Grind.{common_steps}
+use Rattle.std.proofs.lemmas.List.{append-nil}
+use Rattle.ksql_types.specs.declared.relation.Relation.{Relation}
 use Rattle.topic_files.specs.Printed.{labels_of}
-use Rattle.run_text.specs.Lines.{shown_of}
-use Rattle.run_text.specs.Report.{row_lines, section_text}
+use Rattle.run_text.specs.Lines.{extent_text, shown_of}
+use Rattle.run_text.specs.Report.{row_lines, section_text, summary_rows, summary_text, Section}
+use Rattle.run_text.specs.declared.printed.Line.{Line}
 use Rattle.run_text.proofs.section.push_section.Goals as goal
+
+-- what is shown of a relation whose changes have these lines
+abbrev told : Relation → ℕ → ℕ → List Line → Section
+told relation closed skipped lines = record { relation = relation; closed = closed; skipped = skipped; shown = map shown_of lines }
 
 pub push_head-requires : goal.push_head-requires
 push_head-requires c = ap (map shown_of) c.as_slice.ensures.value ∙ c.in_ok-rows.ensures
 
-pub returns : goal.returns
+pub returns-in-Whole : goal.returns-in-Whole
 unfolding section_text row_lines
-returns c =
+returns-in-Whole c =
     let columns = c.args.relation.now.schema.values in
+    let section = told c.args.relation.now c.args.closed c.args.skipped c.args.lines.now in
     let changes_labels : map string_bytes c.deref.result.now ≡ labels_of columns =
     ap (map string_bytes) c.deref.ensures.value ∙ c.in_ok-labels.ensures ∙ ap labels_of c.items.ensures in
-    let rows_labels : map string_bytes c.deref-2.result.now ≡ labels_of columns =
-    ap (map string_bytes) c.deref-2.ensures.value ∙ c.in_ok-labels.ensures ∙ ap labels_of c.items.ensures in
-    let changes = c.in_ok-push_changes.ensures columns changes_labels in
+    let rows_labels : map string_bytes c.deref-in-Whole.result.now ≡ labels_of columns =
+    ap (map string_bytes) c.deref-in-Whole.ensures.value ∙ c.in_ok-labels.ensures ∙ ap labels_of c.items.ensures in
+    let changes = c.in_ok-push_changes-in-Whole.ensures columns changes_labels in
     let rows = c.push_rows.ensures columns rows_labels in
-    let shown = ap (map shown_of) c.as_slice-2.ensures.value ∙ c.in_ok-rows.ensures in
-    grind (arith, common_steps, append_assoc, c.in_ok-push_head.ensures, changes, rows, shown)
+    let shown = ap (map shown_of) c.as_slice-in-Whole.ensures.value ∙ c.in_ok-rows.ensures in
+    let text = ap (λ e. extent_text e section) c.in-Whole.is in
+    grind (arith, common_steps, append_assoc, c.in_ok-push_head.ensures, changes, rows, shown, text)
+
+pub returns-in-Table : goal.returns-in-Table
+unfolding summary_text row_lines
+returns-in-Table c =
+    let columns = c.args.relation.now.schema.values in
+    let section = told c.args.relation.now c.args.closed c.args.skipped c.args.lines.now in
+    let labels : map string_bytes c.deref-in-Table.result.now ≡ labels_of columns =
+    ap (map string_bytes) c.deref-in-Table.ensures.value ∙ c.in_ok-labels.ensures ∙ ap labels_of c.items.ensures in
+    let rows = c.push_rows-in-Table.ensures columns labels in
+    let shown = ap (map shown_of) c.as_slice-in-Table.ensures.value ∙ c.in_ok-rows.ensures in
+    let text = ap (λ e. extent_text e section) c.in-Summary.is in
+    let listed = ap (λ k. summary_rows k section) c.in-Table.is in
+    grind (arith, common_steps, append_assoc, c.in_ok-push_head.ensures, rows, shown, text, listed)
+
+pub returns : goal.returns
+unfolding summary_text
+returns c =
+    let section = told c.args.relation.now c.args.closed c.args.skipped c.args.lines.now in
+    let text = ap (λ e. extent_text e section) c.in-Summary.is in
+    let none : summary_rows c.args.relation.now.kind section ≡ [] =
+    elim c.in-Stream.is [ inl is ↦ ap (λ k. summary_rows k section) is | inr is ↦ ap (λ k. summary_rows k section) is ] in
+    grind (arith, common_steps, append_assoc, append-nil, c.in_ok-push_head.ensures, text, none)

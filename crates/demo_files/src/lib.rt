@@ -1,0 +1,77 @@
+//! What `ksql demo N` runs, as texts: its script, the file of its topic and its schedule.
+#![tactic(auto)]
+
+ghost use Rattle.std.specs.Prelude.{◌≡◌, ◌++◌, IfOk, OnOk, string_bytes};
+ghost use Rattle.demo_files.specs.Demo.{demo_line, demo_schedule, demo_script, demo_topic_file, feed_lines, feeds_of};
+
+use std::alloc::{AllocError, Global};
+
+#[cfg(test)]
+mod tests;
+
+/// How many feeds the schedule has.
+const FEEDS: u32 = 10;
+
+/// A stream of hits on pages, and tables of each page's hits: of all, and of those in each minute.
+const SCRIPT: &str = "CREATE STREAM HITS (ID BIGINT KEY, PAGE VARCHAR, N INTEGER)
+  WITH (KAFKA_TOPIC='hits', VALUE_FORMAT='JSON', PARTITIONS=4);
+CREATE TABLE PAGES AS SELECT PAGE, COUNT(*) AS C, SUM(N) AS TOTAL
+  FROM HITS GROUP BY PAGE;
+CREATE TABLE MINUTES AS SELECT PAGE, COUNT(*) AS C
+  FROM HITS WINDOW TUMBLING (SIZE 1 MINUTE) GROUP BY PAGE;
+";
+
+/// The script.
+#[tactic(auto, unfolding(crate::specs::Demo::demo_script))]
+pub fn script() -> &'static str
+    ensures { result.now ≡ demo_script }
+{
+    SCRIPT
+}
+
+/// The file of the topic `hits`, of this many records.
+#[tactic(auto, using(crate::proofs::Texts::texts_more), unfolding(crate::specs::Demo::demo_topic_file))]
+pub fn topic_file(alloc: Global, records: u32) -> Result<Vec<u8>, AllocError>
+    ensures { IfOk result (λ bytes. bytes.items ≡ demo_topic_file records) }
+{
+    let mut out = String::new(alloc);
+    for i in 0..records {
+        push_line(&mut out, i)?;
+    }
+    Ok(out.into_bytes())
+}
+
+/// Appends the line of record i.
+#[tactic(auto, using(crate::proofs::Texts::appends), unfolding(crate::specs::Demo::demo_line))]
+fn push_line(out: &mut String, i: u32) -> Result<(), AllocError>
+    ensures { OnOk result (string_bytes out.new ≡ string_bytes out.old ++ demo_line i) }
+{
+    let time = 1000 * u64::from(i);
+    let (key, page, number) = (i % 1000, i % 10, i % 100);
+    write!(
+        out,
+        "{{\"t\":{time},\"k\":{key},\"v\":{{\"PAGE\":\"p{page}\",\"N\":{number}}}}}\n"
+    )
+}
+
+/// The schedule that feeds this many records.
+#[tactic(auto, using(crate::proofs::Texts::texts_more), unfolding(crate::specs::Demo::demo_schedule, crate::specs::Demo::feeds_of))]
+pub fn schedule(alloc: Global, records: u32) -> Result<Vec<u8>, AllocError>
+    ensures { IfOk result (λ bytes. bytes.items ≡ demo_schedule records) }
+{
+    let mut out = String::new(alloc);
+    for _ in 0..FEEDS {
+        push_feed(&mut out, records)?;
+    }
+    out.push_str("drain\n")?;
+    Ok(out.into_bytes())
+}
+
+/// Appends the lines of one feed.
+#[tactic(auto, using(crate::proofs::Texts::appends), unfolding(crate::specs::Demo::feed_lines))]
+fn push_feed(out: &mut String, records: u32) -> Result<(), AllocError>
+    ensures { OnOk result (string_bytes out.new ≡ string_bytes out.old ++ feed_lines records) }
+{
+    let part = records.div_ceil(FEEDS);
+    write!(out, "feed hits {part}\nround lose 1\nstart 1\n")
+}

@@ -1,0 +1,10 @@
+mod Accepting
+mod Flags
+mod Getters
+mod Kept
+mod Limits
+mod Numbers
+mod Shortness
+mod Simple
+mod Uses
+mod Walks

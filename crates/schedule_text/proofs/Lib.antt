@@ -1,0 +1,7 @@
+pub mod LineBytes
+pub mod LineLemmas
+pub mod Numbers
+pub mod Pairs
+pub mod Reached
+pub mod Taken
+pub mod TaskLemmas

@@ -1,0 +1,5 @@
+pub mod Lines
+pub mod Words
+pub mod Forms
+pub mod Standing
+pub mod Schedules

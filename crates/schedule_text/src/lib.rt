@@ -1,0 +1,15 @@
+//! Schedules: the text of a schedule, and the steps that it says.
+#![tactic(auto)]
+
+mod fault;
+mod forms;
+mod lines;
+mod reading;
+mod standing;
+mod words;
+
+pub use fault::{ScheduleFault, StepWhy};
+pub use reading::read_schedule;
+
+#[cfg(test)]
+mod tests;

@@ -1,0 +1,9 @@
+//! The text of a run's trace: what happened in each of its steps.
+#![tactic(auto)]
+
+mod lines;
+#[cfg(test)]
+mod tests;
+mod trace;
+
+pub use trace::push_trace;
