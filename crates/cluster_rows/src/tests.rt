@@ -9,6 +9,8 @@ use std::alloc::{AllocError, Global};
 use std::test::Fail;
 
 mod fencing;
+mod plain;
+mod windows;
 
 /// How often each page was looked at.
 const PAGES: &str = "CREATE STREAM K (ID VARCHAR KEY, PAGE VARCHAR)

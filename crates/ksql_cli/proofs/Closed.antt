@@ -3,7 +3,6 @@ use Rattle.std.proofs.Common.{◌≡◌, ◌∙◌, ap, ℕ, List, map}
 use Rattle.ksql_types.specs.declared.topic.TopicSpec.{TopicSpec}
 use Rattle.ksql_program.specs.Sound.{IsSound}
 use Rattle.ksql_program.specs.declared.program.Item.{Item}
-use Rattle.meaning_laws.specs.Windows.{HaveNoWindow}
 use Rattle.topology.specs.Topologies.{topology_of}
 use Rattle.core_state.specs.Routes.{routes_of}
 use Rattle.core_state.specs.Shelf.{shelf_closed}
@@ -16,7 +15,7 @@ use Rattle.cluster_core.specs.declared.seats.Seat.{Seat}
 use Rattle.cluster_core.proofs.Coming as coming
 use Rattle.cluster_core.proofs.Numbers.{closed-same}
 
-module _ (items : List Item) (p : Progress) (c : Cluster) (sound : IsSound items) (windowless : HaveNoWindow items) (come : HasCome items p c) where
+module _ (items : List Item) (p : Progress) (c : Cluster) (sound : IsSound items) (come : HasCome items p c) where
   abbrev waiting : List Moved
   waiting = map (λ (s : Seat). idle s.task) c.seats.items
 
@@ -28,4 +27,4 @@ module _ (items : List Item) (p : Progress) (c : Cluster) (sound : IsSound items
   pub closed-come : (topic : ℕ) → shelf_closed (routes_in c.broker) (shelf_of c.broker) topic ≡ closed (topology_of items) p topic
   closed-come topic =
       ap (λ (ts : List TopicSpec). shelf_closed (routes_of ts) (shelf_of c.broker) topic) topics-come
-      ∙ closed-same items p.order sound windowless come.progress.order c.broker topics-come p come.fed (coming.done-come items p waiting c come) topic
+      ∙ closed-same items p.order sound come.progress.order c.broker topics-come p come.fed (coming.done-come items p waiting c come) topic

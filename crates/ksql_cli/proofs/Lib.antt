@@ -2,6 +2,9 @@ pub mod Causes
 pub mod Closed
 pub mod Pieces
 pub mod Reports
+pub mod Runs
+pub mod Schedules
 pub mod SomeStatus
 pub mod Sounds
+pub mod Stages
 pub mod TopicLaws

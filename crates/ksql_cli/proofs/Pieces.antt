@@ -8,7 +8,8 @@ use Rattle.std.proofs.lemmas.Grind.{common_steps}
 use Rattle.ksql_types.specs.declared.code.Code.{Code}
 use Rattle.ksql_outside.specs.Outside.{followed_by, WrotePrefix}
 use Rattle.topic_files.specs.declared.topic.LineWhy.{LineWhy}
-use Rattle.ksql_cli.specs.Fault.{code_text, why_text, script_line, topic_line, read_line, usage_line, memory_line}
+use Rattle.schedule_text.specs.declared.fault.StepWhy.{StepWhy}
+use Rattle.ksql_cli.specs.Fault.{code_text, why_text, step_why_text, script_line, schedule_line, topic_line, read_line, usage_line, memory_line}
 
 pub followed-on : (known : Option (List ℕ)) (first rest : List ℕ) → followed_by (followed_by known first) rest ≡ followed_by known (first ++ rest)
 followed-on None first rest = refl
@@ -74,6 +75,12 @@ pub script_pieces : (number text : List ℕ) (statement : ℕ) (code : Code) →
 unfolding script_line
 script_pieces number text statement code is_number is_text =
     ap₂ (λ (a b : List ℕ). codes "ksql: script statement " ++ (a ++ (codes ": " ++ (b ++ codes "\n")))) is_number is_text
+
+pub schedule_pieces : (number text : List ℕ) (line : ℕ) (why : StepWhy) → number ≡ decimal line → text ≡ step_why_text why →
+    codes "ksql: schedule line " ++ (number ++ (codes ": " ++ (text ++ codes "\n"))) ≡ schedule_line line why
+unfolding schedule_line
+schedule_pieces number text line why is_number is_text =
+    ap₂ (λ (a b : List ℕ). codes "ksql: schedule line " ++ (a ++ (codes ": " ++ (b ++ codes "\n")))) is_number is_text
 
 pub topic_pieces : (name topic number text : List ℕ) (line : ℕ) (why : LineWhy) → name ≡ topic → number ≡ decimal line → text ≡ why_text why →
     (codes "ksql: topic " ++ (name ++ codes " line ")) ++ (number ++ (codes ": " ++ (text ++ codes "\n"))) ≡ topic_line topic line why

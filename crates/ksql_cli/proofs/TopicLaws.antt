@@ -35,33 +35,33 @@ pub rest_feedable : (relation : Relation) (rest all : List Relation) → all ≡
 rest_feedable relation rest all first feedable = All-rest IsFeedable relation rest all first feedable
 
 -- the topic file of a relation is good: it comes after others, and it leaves this room
-abbrev IsOneRead : Room → Relation → Room → List TopicLines → List TopicLines → Files → Type 0
-IsOneRead room relation left before middle all =
-    (file : List ℕ) × IsGood all room relation file × (left ≡ room_after room relation file) × (middle ≡ before ++ topic_lines relation file ∷ [])
+abbrev IsOneRead : List ℕ → Room → Relation → Room → List TopicLines → List TopicLines → Files → Type 0
+IsOneRead dir room relation left before middle all =
+    (file : List ℕ) × IsGood dir all room relation file × (left ≡ room_after room relation file) × (middle ≡ before ++ topic_lines relation file ∷ [])
 
 -- these are the topic files of the relations, after others
-abbrev AreAllRead : Room → List Relation → List TopicLines → List TopicLines → Files → Type 0
-AreAllRead room relations before after all =
-    (files : List TopicLines) × AreFed all room relations files × (after ≡ before ++ files)
+abbrev AreAllRead : List ℕ → Room → List Relation → List TopicLines → List TopicLines → Files → Type 0
+AreAllRead dir room relations before after all =
+    (files : List TopicLines) × AreFed dir all room relations files × (after ≡ before ++ files)
 
-all_read : (all : Files) (room left : Room) (relation : Relation) (rest : List Relation) (before middle after : List TopicLines) →
-    IsOneRead room relation left before middle all → AreAllRead left rest middle after all → AreAllRead room (relation ∷ rest) before after all
-all_read all room left relation rest before middle after one others = (
+all_read : (dir : List ℕ) (all : Files) (room left : Room) (relation : Relation) (rest : List Relation) (before middle after : List TopicLines) →
+    IsOneRead dir room relation left before middle all → AreAllRead dir left rest middle after all → AreAllRead dir room (relation ∷ rest) before after all
+all_read dir all room left relation rest before middle after one others = (
   topic_lines relation one.0 ∷ others.0,
-  (one.0, others.0, one.1, subst (λ (r : Room). AreFed all r rest others.0) one.2 others.1, refl),
+  (one.0, others.0, one.1, subst (λ (r : Room). AreFed dir all r rest others.0) one.2 others.1, refl),
   others.2 ∙ ap (λ (files : List TopicLines). files ++ others.0) one.3 ∙ append_assoc before (topic_lines relation one.0 ∷ []) others.0,
 )
 
-pub all_found : {A : Type 0} (result : Result A Status) (items : A → List TopicLines) (known later : Option Files) (room left : Room)
+pub all_found : (dir : List ℕ) {A : Type 0} (result : Result A Status) (items : A → List TopicLines) (known later : Option Files) (room left : Room)
     (relation : Relation) (rest relations : List Relation) (before middle : List TopicLines) → relations ≡ relation ∷ rest → later ≡ known →
-    IfSome known (IsOneRead room relation left before middle) →
-    IfOk result (λ a. IfSome later (AreAllRead left rest middle (items a))) → IfOk result (λ a. IfSome known (AreAllRead room relations before (items a)))
-all_found (Err e) items known later room left relation rest relations before middle first same one others = tt
-all_found (Ok a) items None later room left relation rest relations before middle first same one others = tt
-all_found (Ok a) items (Some all) later room left relation rest relations before middle first same one others =
-    subst (λ (rs : List Relation). AreAllRead room rs before (items a) all) (sym first)
-    (all_read all room left relation rest before middle (items a) one
-    (subst (λ (o : Option Files). IfSome o (AreAllRead left rest middle (items a))) same others))
+    IfSome known (IsOneRead dir room relation left before middle) →
+    IfOk result (λ a. IfSome later (AreAllRead dir left rest middle (items a))) → IfOk result (λ a. IfSome known (AreAllRead dir room relations before (items a)))
+all_found dir (Err e) items known later room left relation rest relations before middle first same one others = tt
+all_found dir (Ok a) items None later room left relation rest relations before middle first same one others = tt
+all_found dir (Ok a) items (Some all) later room left relation rest relations before middle first same one others =
+    subst (λ (rs : List Relation). AreAllRead dir room rs before (items a) all) (sym first)
+    (all_read dir all room left relation rest before middle (items a) one
+    (subst (λ (o : Option Files). IfSome o (AreAllRead dir left rest middle (items a))) same others))
 
 -- ---- the records fit
 
@@ -119,6 +119,7 @@ status_joined old mid new here ended.Done grown joined = tt
 status_joined old mid new here ended.Usage grown joined = tt
 status_joined old mid new here (ended.Script statement code) grown joined = tt
 status_joined old mid new here (ended.TopicFile topic line why) grown joined = tt
+status_joined old mid new here (ended.Schedule line why) grown joined = tt
 status_joined old mid new here ended.WriteFault grown joined = tt
 status_joined old mid new here ended.OutOfMemory grown joined = tt
 
@@ -130,65 +131,66 @@ all_joined (Err status) old mid new here grown joined = status_joined old mid ne
 -- ---- the causes
 
 -- the topic file of a relation is good, and leaves this room
-abbrev Leaves : Files → Room → Relation → Room → Type 0
-Leaves all room relation left = (file : List ℕ) × IsGood all room relation file × (left ≡ room_after room relation file)
+abbrev Leaves : List ℕ → Files → Room → Relation → Room → Type 0
+Leaves dir all room relation left = (file : List ℕ) × IsGood dir all room relation file × (left ≡ room_after room relation file)
 
-due_behind : (all : Files) (room left : Room) (relation : Relation) (rest : List Relation) (name : List ℕ) → Leaves all room relation left →
-    IsTopicDue all left rest name → IsTopicDue all room (relation ∷ rest) name
-due_behind all room left relation rest name one due = inr (one.0, one.1, subst (λ (r : Room). IsTopicDue all r rest name) one.2 due)
+due_behind : (dir : List ℕ) (all : Files) (room left : Room) (relation : Relation) (rest : List Relation) (name : List ℕ) → Leaves dir all room relation left →
+    IsTopicDue dir all left rest name → IsTopicDue dir all room (relation ∷ rest) name
+due_behind dir all room left relation rest name one due = inr (one.0, one.1, subst (λ (r : Room). IsTopicDue dir all r rest name) one.2 due)
 
-failure_behind : (all : Files) (room left : Room) (relation : Relation) (rest : List Relation) (old mid new : List (List ℕ)) (status : Status) →
-    Leaves all room relation left → MayJoin old mid (topic_file relation) → IsTopicFailure all left rest mid new status →
-    IsTopicFailure all room (relation ∷ rest) old new status
-failure_behind all room left relation rest old mid new (ended.TopicFile topic line why) one grown bad =
-    (one.0, one.1.0, inr (one.1.1, subst (λ (r : Room). IsFirstBad all r rest topic line why) one.2 bad))
-failure_behind all room left relation rest old mid new (ended.ReadFault name) one grown failed =
-    (due_behind all room left relation rest name one failed.0, joined_behind old mid new (topic_file relation) name grown failed.1)
-failure_behind all room left relation rest old mid new ended.OutOfMemory one grown failed = tt
-failure_behind all room left relation rest old mid new ended.Done one grown failed = absurd failed
-failure_behind all room left relation rest old mid new ended.Usage one grown failed = absurd failed
-failure_behind all room left relation rest old mid new (ended.Script statement code) one grown failed = absurd failed
-failure_behind all room left relation rest old mid new ended.WriteFault one grown failed = absurd failed
+failure_behind : (dir : List ℕ) (all : Files) (room left : Room) (relation : Relation) (rest : List Relation) (old mid new : List (List ℕ)) (status : Status) →
+    Leaves dir all room relation left → MayJoin old mid (topic_file dir relation) → IsTopicFailure dir all left rest mid new status →
+    IsTopicFailure dir all room (relation ∷ rest) old new status
+failure_behind dir all room left relation rest old mid new (ended.TopicFile topic line why) one grown bad =
+    (one.0, one.1.0, inr (one.1.1, subst (λ (r : Room). IsFirstBad dir all r rest topic line why) one.2 bad))
+failure_behind dir all room left relation rest old mid new (ended.ReadFault name) one grown failed =
+    (due_behind dir all room left relation rest name one failed.0, joined_behind old mid new (topic_file dir relation) name grown failed.1)
+failure_behind dir all room left relation rest old mid new ended.OutOfMemory one grown failed = tt
+failure_behind dir all room left relation rest old mid new ended.Done one grown failed = absurd failed
+failure_behind dir all room left relation rest old mid new ended.Usage one grown failed = absurd failed
+failure_behind dir all room left relation rest old mid new (ended.Script statement code) one grown failed = absurd failed
+failure_behind dir all room left relation rest old mid new (ended.Schedule line why) one grown failed = absurd failed
+failure_behind dir all room left relation rest old mid new ended.WriteFault one grown failed = absurd failed
 
-pub all_caused : {A : Type 0} (result : Result A Status) (known later : Option Files) (room left : Room) (relation : Relation)
+pub all_caused : (dir : List ℕ) {A : Type 0} (result : Result A Status) (known later : Option Files) (room left : Room) (relation : Relation)
     (rest relations : List Relation) (before middle : List TopicLines) (old mid new : List (List ℕ)) → relations ≡ relation ∷ rest → later ≡ known →
-    IfSome known (IsOneRead room relation left before middle) → MayJoin old mid (topic_file relation) →
-    IfErr result (λ status. IfSome later (λ all. IsTopicFailure all left rest mid new status)) →
-    IfErr result (λ status. IfSome known (λ all. IsTopicFailure all room relations old new status))
-all_caused (Ok a) known later room left relation rest relations before middle old mid new first same one grown failed = tt
-all_caused (Err status) None later room left relation rest relations before middle old mid new first same one grown failed = tt
-all_caused (Err status) (Some all) later room left relation rest relations before middle old mid new first same one grown failed =
-    subst (λ (rs : List Relation). IsTopicFailure all room rs old new status) (sym first)
-    (failure_behind all room left relation rest old mid new status (one.0, one.1, one.2) grown
-    (subst (λ (o : Option Files). IfSome o (λ files. IsTopicFailure files left rest mid new status)) same failed))
+    IfSome known (IsOneRead dir room relation left before middle) → MayJoin old mid (topic_file dir relation) →
+    IfErr result (λ status. IfSome later (λ all. IsTopicFailure dir all left rest mid new status)) →
+    IfErr result (λ status. IfSome known (λ all. IsTopicFailure dir all room relations old new status))
+all_caused dir (Ok a) known later room left relation rest relations before middle old mid new first same one grown failed = tt
+all_caused dir (Err status) None later room left relation rest relations before middle old mid new first same one grown failed = tt
+all_caused dir (Err status) (Some all) later room left relation rest relations before middle old mid new first same one grown failed =
+    subst (λ (rs : List Relation). IsTopicFailure dir all room rs old new status) (sym first)
+    (failure_behind dir all room left relation rest old mid new status (one.0, one.1, one.2) grown
+    (subst (λ (o : Option Files). IfSome o (λ files. IsTopicFailure dir files left rest mid new status)) same failed))
 
 -- ---- what is due
 
-each_behind : (all : Files) (room left : Room) (relation : Relation) (rest : List Relation) → Leaves all room relation left → (names : List (List ℕ)) →
-    AllByRecursion (IsTopicDue all left rest) names → AllByRecursion (IsTopicDue all room (relation ∷ rest)) names
-each_behind all room left relation rest one [] due = tt
-each_behind all room left relation rest one (name ∷ names) due =
-    (due_behind all room left relation rest name one due.0, each_behind all room left relation rest one names due.1)
+each_behind : (dir : List ℕ) (all : Files) (room left : Room) (relation : Relation) (rest : List Relation) → Leaves dir all room relation left → (names : List (List ℕ)) →
+    AllByRecursion (IsTopicDue dir all left rest) names → AllByRecursion (IsTopicDue dir all room (relation ∷ rest)) names
+each_behind dir all room left relation rest one [] due = tt
+each_behind dir all room left relation rest one (name ∷ names) due =
+    (due_behind dir all room left relation rest name one due.0, each_behind dir all room left relation rest one names due.1)
 
-behind_due : (all : Files) (room left : Room) (relation : Relation) (rest : List Relation) (old mid new : List (List ℕ)) → Leaves all room relation left →
-    MayJoin old mid (topic_file relation) → AreTopicsDue all left rest mid new → AreTopicsDue all room (relation ∷ rest) old new
-behind_due all room left relation rest old mid new one (inl same) due =
-    (due.0, due.1 ∙ ap (λ (names : List (List ℕ)). names ++ due.0) same, each_behind all room left relation rest one due.0 due.2)
-behind_due all room left relation rest old mid new one (inr is) due = (
-  topic_file relation ∷ due.0,
-  due.1 ∙ ap (λ (names : List (List ℕ)). names ++ due.0) is ∙ append_assoc old (topic_file relation ∷ []) due.0,
-  (inl refl, each_behind all room left relation rest one due.0 due.2),
+behind_due : (dir : List ℕ) (all : Files) (room left : Room) (relation : Relation) (rest : List Relation) (old mid new : List (List ℕ)) → Leaves dir all room relation left →
+    MayJoin old mid (topic_file dir relation) → AreTopicsDue dir all left rest mid new → AreTopicsDue dir all room (relation ∷ rest) old new
+behind_due dir all room left relation rest old mid new one (inl same) due =
+    (due.0, due.1 ∙ ap (λ (names : List (List ℕ)). names ++ due.0) same, each_behind dir all room left relation rest one due.0 due.2)
+behind_due dir all room left relation rest old mid new one (inr is) due = (
+  topic_file dir relation ∷ due.0,
+  due.1 ∙ ap (λ (names : List (List ℕ)). names ++ due.0) is ∙ append_assoc old (topic_file dir relation ∷ []) due.0,
+  (inl refl, each_behind dir all room left relation rest one due.0 due.2),
 )
 
-pub all_due : (known later : Option Files) (room left : Room) (relation : Relation)
+pub all_due : (dir : List ℕ) (known later : Option Files) (room left : Room) (relation : Relation)
     (rest relations : List Relation) (before middle : List TopicLines) (old mid new : List (List ℕ)) → relations ≡ relation ∷ rest → later ≡ known →
-    IfSome known (IsOneRead room relation left before middle) → MayJoin old mid (topic_file relation) →
-    IfSome later (λ all. AreTopicsDue all left rest mid new) → IfSome known (λ all. AreTopicsDue all room relations old new)
-all_due None later room left relation rest relations before middle old mid new first same one grown due = tt
-all_due (Some all) later room left relation rest relations before middle old mid new first same one grown due =
-    subst (λ (rs : List Relation). AreTopicsDue all room rs old new) (sym first)
-    (behind_due all room left relation rest old mid new (one.0, one.1, one.2) grown
-    (subst (λ (o : Option Files). IfSome o (λ files. AreTopicsDue files left rest mid new)) same due))
+    IfSome known (IsOneRead dir room relation left before middle) → MayJoin old mid (topic_file dir relation) →
+    IfSome later (λ all. AreTopicsDue dir all left rest mid new) → IfSome known (λ all. AreTopicsDue dir all room relations old new)
+all_due dir None later room left relation rest relations before middle old mid new first same one grown due = tt
+all_due dir (Some all) later room left relation rest relations before middle old mid new first same one grown due =
+    subst (λ (rs : List Relation). AreTopicsDue dir all room rs old new) (sym first)
+    (behind_due dir all room left relation rest old mid new (one.0, one.1, one.2) grown
+    (subst (λ (o : Option Files). IfSome o (λ files. AreTopicsDue dir files left rest mid new)) same due))
 
 -- ---- the room that all share
 

@@ -1,8 +1,13 @@
 -- What a command reads and runs, and the cause of each way in which it ends.
-use Rattle.std.specs.Prelude.{◌≡◌, ◌⊎◌, ℕ, ◌-◌, length, nat_le, ◌&&◌, List, [], ◌∷◌, ◌++◌, codes, bytes_eq, Option, None, Some, if◌then◌else◌}
-use Rattle.std.specs.List.{list_all, AllByRecursion}
+use Rattle.std.specs.Prelude.{◌≡◌, ◌⊎◌, ℕ, ◌-◌, length, false, List, [], ◌∷◌, ◌++◌, codes, Option, None, Some, Ok, Err}
+use Rattle.std.specs.List.{AllByRecursion}
+use Rattle.ksql_types.specs.declared.code.Code.{Code}
 use Rattle.ksql_types.specs.declared.relation.Relation.{Relation}
+use Rattle.demo_files.specs.Demo.{demo_schedule, demo_script, demo_topic_file}
 use Rattle.ksql_outside.specs.Outside.{read_bytes, JoinedLast}
+use Rattle.ksql_words.specs.Words.{command_of}
+use Rattle.ksql_words.specs.declared.asked.Command.{Command}
+use Rattle.ksql_words.specs.declared.asked.Command.TheVariants.{Run as run_words, Explain, Demo}
 use Rattle.ksql_program.specs.declared.program.Program.{Program}
 use Rattle.ksql_script.specs.Script.{IsAccepted, IsRefused}
 use Rattle.topic_files.specs.declared.topic.Fed.{Fed}
@@ -10,41 +15,36 @@ use Rattle.topic_files.specs.declared.topic.LineWhy.{LineWhy}
 use Rattle.topic_files.specs.declared.topic.Room.{Room}
 use Rattle.topic_files.specs.declared.topic.TopicLines.{TopicLines}
 use Rattle.topic_files.specs.File.{first_fault, topic_lines}
+use Rattle.topology.specs.Topologies.{topology_of}
+use Rattle.topology.specs.declared.schedule.Lined.{Lined}
+use Rattle.topology.specs.declared.schedule.Step.TheVariants as step
+use Rattle.topology_build.specs.Text.{topology_text}
+use Rattle.schedule_text.specs.Schedules.{schedule_of}
+use Rattle.schedule_text.specs.declared.fault.StepWhy.{StepWhy}
+use Rattle.ksql_cli.specs.declared.asked.Asked.{Asked}
 use Rattle.ksql_cli.specs.declared.status.Status.{Status}
 use Rattle.ksql_cli.specs.declared.status.Status.TheVariants as ended
-use Rattle.ksql_cli.specs.Run.{declared_of, drain, feed_all, Run}
-
--- ---- the words
+use Rattle.ksql_cli.specs.Run.{Run, declared_of, report_of, summary_of}
 
 -- files, by their names
 abbrev pub Files : Type 0
 Files = List (List ℕ × List ℕ)
 
--- the most bytes of a word
-abbrev pub longest_word : ℕ
-longest_word = 4096
+-- ---- the script
 
--- the script's name, where the words are: the program's name, run, --script, and the script's name
-abbrev pub script_name : List (List ℕ) → Option (List ℕ)
-script_name (program ∷ command ∷ option ∷ name ∷ []) =
-    if list_all (λ word. nat_le (length word) longest_word) (program ∷ command ∷ option ∷ name ∷ [])
-    && bytes_eq command (codes "run") && bytes_eq option (codes "--script")
-    then Some name else None
-script_name _ = None
+-- the script of this name is accepted as this program
+abbrev pub IsProgramRead : List ℕ → Files → Program → Type 0
+IsProgramRead name all program = (script : List ℕ) × (read_bytes name all ≡ Some script) × IsAccepted script program
 
--- the script that was read: the words name it, and these are its bytes
-abbrev pub IsScriptRead : List (List ℕ) → Files → List ℕ → Type 0
-IsScriptRead words all script = (name : List ℕ) × (script_name words ≡ Some name) × (read_bytes name all ≡ Some script)
-
--- the script that was read is accepted as this program
-abbrev pub IsProgramRead : List (List ℕ) → Files → Program → Type 0
-IsProgramRead words all program = (script : List ℕ) × IsScriptRead words all script × IsAccepted script program
+-- the script of this name is refused in this statement by this code
+abbrev pub IsScriptRefused : List ℕ → Files → ℕ → Code → Type 0
+IsScriptRefused name all statement code = (script : List ℕ) × (read_bytes name all ≡ Some script) × IsRefused script statement code
 
 -- ---- the topic files
 
--- the name of a relation's topic file
-abbrev pub topic_file : Relation → List ℕ
-topic_file relation = codes "./" ++ (relation.topic ++ codes ".jsonl")
+-- the name of a relation's topic file in a folder
+abbrev pub topic_file : List ℕ → Relation → List ℕ
+topic_file dir relation = dir ++ (codes "/" ++ (relation.topic ++ codes ".jsonl"))
 
 -- how many records and bytes the topic files can have, all together
 unfoldable pub whole_room : Room
@@ -55,8 +55,8 @@ abbrev pub room_after_feds : Room → List ℕ → List Fed → Room
 room_after_feds room file feds = record { records = room.records - length feds; bytes = room.bytes - length file }
 
 -- this is the relation's topic file, and it has no fault within the room
-abbrev pub IsGood : Files → Room → Relation → List ℕ → Type 0
-IsGood all room relation file = (read_bytes (topic_file relation) all ≡ Some file) × (first_fault room file ≡ None)
+abbrev pub IsGood : List ℕ → Files → Room → Relation → List ℕ → Type 0
+IsGood dir all room relation file = (read_bytes (topic_file dir relation) all ≡ Some file) × (first_fault room file ≡ None)
 
 -- the room after a relation's topic file
 abbrev pub room_after : Room → Relation → List ℕ → Room
@@ -64,35 +64,77 @@ room_after room relation file = room_after_feds room file (topic_lines relation 
 
 -- the topic files of the relations are good within a room that they share, and these are their records: one file for
 -- each relation, in their order
-abbrev pub AreFed : Files → Room → List Relation → List TopicLines → Type 0
-AreFed all room [] files = files ≡ []
-AreFed all room (relation ∷ relations) files =
-    (file : List ℕ) × (others : List TopicLines) × IsGood all room relation file
-    × AreFed all (room_after room relation file) relations others × (files ≡ topic_lines relation file ∷ others)
+abbrev pub AreFed : List ℕ → Files → Room → List Relation → List TopicLines → Type 0
+AreFed dir all room [] files = files ≡ []
+AreFed dir all room (relation ∷ relations) files =
+    (file : List ℕ) × (others : List TopicLines) × IsGood dir all room relation file
+    × AreFed dir all (room_after room relation file) relations others × (files ≡ topic_lines relation file ∷ others)
 
 -- the first topic file that isn't good is that of this topic, with this first fault
-abbrev pub IsFirstBad : Files → Room → List Relation → List ℕ → ℕ → LineWhy → Type 0
-IsFirstBad all room [] topic line why = ⊥
-IsFirstBad all room (relation ∷ relations) topic line why =
-    (file : List ℕ) × (read_bytes (topic_file relation) all ≡ Some file)
+abbrev pub IsFirstBad : List ℕ → Files → Room → List Relation → List ℕ → ℕ → LineWhy → Type 0
+IsFirstBad dir all room [] topic line why = ⊥
+IsFirstBad dir all room (relation ∷ relations) topic line why =
+    (file : List ℕ) × (read_bytes (topic_file dir relation) all ≡ Some file)
     × (((first_fault room file ≡ Some (line, why)) × (topic ≡ relation.topic))
-    ⊎ ((first_fault room file ≡ None) × IsFirstBad all (room_after room relation file) relations topic line why))
+    ⊎ ((first_fault room file ≡ None) × IsFirstBad dir all (room_after room relation file) relations topic line why))
 
 -- the topic files before the one of this name are good
-abbrev pub IsTopicDue : Files → Room → List Relation → List ℕ → Type 0
-IsTopicDue all room [] name = ⊥
-IsTopicDue all room (relation ∷ relations) name =
-    (name ≡ topic_file relation) ⊎ ((file : List ℕ) × IsGood all room relation file × IsTopicDue all (room_after room relation file) relations name)
+abbrev pub IsTopicDue : List ℕ → Files → Room → List Relation → List ℕ → Type 0
+IsTopicDue dir all room [] name = ⊥
+IsTopicDue dir all room (relation ∷ relations) name =
+    (name ≡ topic_file dir relation) ⊎ ((file : List ℕ) × IsGood dir all room relation file × IsTopicDue dir all (room_after room relation file) relations name)
+
+-- ---- the schedule
+
+-- a schedule of one feed of all records and a drain
+abbrev pub fed_once : List Lined
+fed_once = record { line = 1; step = step.FeedAll } ∷ record { line = 2; step = step.Drain } ∷ []
+
+-- the steps of a run: without a schedule one feed of all records and a drain, and else those that the schedule's file says
+abbrev pub IsScheduled : Option (List ℕ) → ℕ → Files → Program → List Lined → Type 0
+IsScheduled None workers all program steps = steps ≡ fed_once
+IsScheduled (Some name) workers all program steps =
+    (bytes : List ℕ) × (read_bytes name all ≡ Some bytes) × (schedule_of program.items (topology_of program.items) workers bytes ≡ Ok steps)
+
+-- the schedule is refused at this line
+abbrev pub IsScheduleRefused : Option (List ℕ) → ℕ → Files → Program → ℕ → StepWhy → Type 0
+IsScheduleRefused None workers all program line why = ⊥
+IsScheduleRefused (Some name) workers all program line why =
+    (bytes : List ℕ) × (read_bytes name all ≡ Some bytes) × (schedule_of program.items (topology_of program.items) workers bytes ≡ Err (line, why))
+
+-- ---- the demo
+
+-- the files of a demo of so many records, which aren't read from a folder
+abbrev pub demo_files : ℕ → Files
+demo_files records =
+    (codes "script.sql", demo_script) ∷ (codes "./hits.jsonl", demo_topic_file records) ∷ (codes "schedule", demo_schedule records) ∷ []
+
+-- the run of a demo
+abbrev pub demo_asked : ℕ → Asked
+demo_asked workers =
+    record { script = codes "script.sql"; topics = codes "."; workers = workers; schedule = Some (codes "schedule"); trace = false }
 
 -- ---- what is due
 
--- this topic file is due: the script is accepted, and the topic files before it are good
-abbrev pub IsFileDue : List (List ℕ) → Files → List ℕ → Type 0
-IsFileDue words all name = (program : Program) × IsProgramRead words all program × IsTopicDue all whole_room (declared_of program.items) name
+-- the script is accepted as this program, and its topic files have these records
+abbrev pub AreRead : Asked → Files → Program → List TopicLines → Type 0
+AreRead a all program files = IsProgramRead a.script all program × AreFed a.topics all whole_room (declared_of program.items) files
 
--- a file of this name is due: the script, or a topic file
+-- a file of this name is due in a run after its script: a topic file where those before it are good, or the schedule where all are
+abbrev pub IsLaterDue : Asked → Files → List ℕ → Type 0
+IsLaterDue a all name =
+    ((program : Program) × IsProgramRead a.script all program × IsTopicDue a.topics all whole_room (declared_of program.items) name)
+    ⊎ ((program : Program) × (files : List TopicLines) × AreRead a all program files × (a.schedule ≡ Some name))
+
+-- a file of this name is due for a command: its script, and in a run the others
+abbrev pub IsDueFor : Option Command → Files → List ℕ → Type 0
+IsDueFor (Some (run_words script topics workers schedule trace)) all name =
+    (name ≡ script) ⊎ IsLaterDue (record { script = script; topics = topics; workers = workers; schedule = schedule; trace = trace }) all name
+IsDueFor (Some (Explain script)) all name = name ≡ script
+IsDueFor _ all name = ⊥
+
 abbrev pub IsDue : List (List ℕ) → Files → List ℕ → Type 0
-IsDue words all name = (script_name words ≡ Some name) ⊎ IsFileDue words all name
+IsDue words all name = IsDueFor (command_of words) all name
 
 -- the names that joined are all due
 abbrev pub AreDue : List (List ℕ) → Files → List (List ℕ) → List (List ℕ) → Type 0
@@ -100,27 +142,67 @@ AreDue words all old new = (names : List (List ℕ)) × (new ≡ old ++ names) �
 
 -- ---- what is run
 
--- the command runs the script's program on its topic files, with one worker: all records are fed at once, and a drain follows
-pub record Runs (words : List (List ℕ)) (all : Files) (run : Run) : Type 0 where
-  pub read : IsProgramRead words all run.program
-  pub fed : AreFed all whole_room (declared_of run.program.items) run.files
-  pub one_worker : run.workers ≡ 1
-  pub fed_once : run.steps ≡ feed_all ∷ drain ∷ []
+-- the run that is asked for: of the script's program on its topic files, with so many workers and the steps of its schedule
+pub record Runs (a : Asked) (all : Files) (run : Run) : Type 0 where
+  pub read : AreRead a all run.program run.files
+  pub workers : run.workers ≡ a.workers
+  pub steps : IsScheduled a.schedule a.workers all run.program run.steps
+  pub trace : run.trace ≡ a.trace
+
+-- the text of a command: the report of a run, the topology of a script, or the summary of a demo
+abbrev pub HasTextFor : Option Command → Files → List ℕ → Type 0
+HasTextFor (Some (run_words script topics workers schedule trace)) all text =
+    (run : Run) × Runs (record { script = script; topics = topics; workers = workers; schedule = schedule; trace = trace }) all run × (text ≡ report_of run)
+HasTextFor (Some (Explain script)) all text =
+    (program : Program) × IsProgramRead script all program × (text ≡ topology_text program.items (topology_of program.items))
+HasTextFor (Some (Demo records workers)) all text = (run : Run) × Runs (demo_asked workers) (demo_files records) run × (text ≡ summary_of run)
+HasTextFor None all text = ⊥
+
+abbrev pub HasText : List (List ℕ) → Files → List ℕ → Type 0
+HasText words all text = HasTextFor (command_of words) all text
 
 -- ---- the causes
 
--- the cause of a status, with the names that failed before and after
+-- the cause of a status of a run, with the names that failed before and after
+abbrev pub RunCause : Asked → Files → List (List ℕ) → List (List ℕ) → Status → Type 0
+RunCause a all old new ended.Done = (run : Run) × Runs a all run
+RunCause a all old new ended.Usage = ⊥
+RunCause a all old new (ended.Script statement code) = IsScriptRefused a.script all statement code
+RunCause a all old new (ended.TopicFile topic line why) =
+    (program : Program) × IsProgramRead a.script all program × IsFirstBad a.topics all whole_room (declared_of program.items) topic line why
+RunCause a all old new (ended.Schedule line why) =
+    (program : Program) × (files : List TopicLines) × AreRead a all program files × IsScheduleRefused a.schedule a.workers all program line why
+RunCause a all old new (ended.ReadFault name) =
+    ((name ≡ a.script) × (new ≡ old ++ name ∷ [])) ⊎ (IsLaterDue a all name × JoinedLast old new name)
+RunCause a all old new ended.WriteFault = (run : Run) × Runs a all run
+RunCause a all old new ended.OutOfMemory = Unit {0}
+
+-- the cause of a status of an explanation
+abbrev pub ExplainCause : List ℕ → Files → List (List ℕ) → List (List ℕ) → Status → Type 0
+ExplainCause script all old new ended.Done = (program : Program) × IsProgramRead script all program
+ExplainCause script all old new (ended.Script statement code) = IsScriptRefused script all statement code
+ExplainCause script all old new (ended.ReadFault name) = (name ≡ script) × (new ≡ old ++ name ∷ [])
+ExplainCause script all old new ended.WriteFault = (program : Program) × IsProgramRead script all program
+ExplainCause script all old new ended.OutOfMemory = Unit {0}
+ExplainCause script all old new _ = ⊥
+
+-- the cause of a status of a demo, which reads nothing
+abbrev pub DemoCause : ℕ → ℕ → Status → Type 0
+DemoCause records workers ended.Done = (run : Run) × Runs (demo_asked workers) (demo_files records) run
+DemoCause records workers ended.WriteFault = (run : Run) × Runs (demo_asked workers) (demo_files records) run
+DemoCause records workers ended.OutOfMemory = Unit {0}
+DemoCause records workers _ = ⊥
+
+-- the cause of a status, by the command; words that are none have their status
+abbrev pub CauseFor : Option Command → Files → List (List ℕ) → List (List ℕ) → Status → Type 0
+CauseFor (Some (run_words script topics workers schedule trace)) all old new status =
+    RunCause (record { script = script; topics = topics; workers = workers; schedule = schedule; trace = trace }) all old new status
+CauseFor (Some (Explain script)) all old new status = ExplainCause script all old new status
+CauseFor (Some (Demo records workers)) all old new status = DemoCause records workers status
+CauseFor None all old new status = (status ≡ ended.Usage) ⊎ (status ≡ ended.OutOfMemory)
+
 abbrev pub HasCause : List (List ℕ) → Files → List (List ℕ) → List (List ℕ) → Status → Type 0
-HasCause words all old new ended.Done = (run : Run) × Runs words all run
-HasCause words all old new ended.Usage = script_name words ≡ None
-HasCause words all old new (ended.Script statement code) =
-    (script : List ℕ) × IsScriptRead words all script × IsRefused script statement code
-HasCause words all old new (ended.TopicFile topic line why) =
-    (program : Program) × IsProgramRead words all program × IsFirstBad all whole_room (declared_of program.items) topic line why
-HasCause words all old new (ended.ReadFault name) =
-    ((script_name words ≡ Some name) × (new ≡ old ++ name ∷ [])) ⊎ (IsFileDue words all name × JoinedLast old new name)
-HasCause words all old new ended.WriteFault = (run : Run) × Runs words all run
-HasCause words all old new ended.OutOfMemory = Unit {0}
+HasCause words all old new status = CauseFor (command_of words) all old new status
 
 -- an answer that the words and the files decide, whatever is read and written
 abbrev pub IsDecided : Status → Type 0
@@ -128,12 +210,17 @@ IsDecided ended.Done = Unit {0}
 IsDecided ended.Usage = Unit {0}
 IsDecided (ended.Script statement code) = Unit {0}
 IsDecided (ended.TopicFile topic line why) = Unit {0}
+IsDecided (ended.Schedule line why) = Unit {0}
 IsDecided _ = ⊥
 
--- the words and the files decide a status, or a file that is due isn't there
+-- the files decide a status of a command, or a file that is due isn't there; a demo reads none
+abbrev pub HasAnswerFor : Option Command → Files → Type 0
+HasAnswerFor (Some (Demo records workers)) all = Unit {0}
+HasAnswerFor o all =
+    ((status : Status) × IsDecided status × CauseFor o all [] [] status) ⊎ ((name : List ℕ) × IsDueFor o all name × (read_bytes name all ≡ None))
+
 abbrev pub HasAnswer : List (List ℕ) → Files → Type 0
-HasAnswer words all =
-    ((status : Status) × IsDecided status × HasCause words all [] [] status) ⊎ ((name : List ℕ) × IsDue words all name × (read_bytes name all ≡ None))
+HasAnswer words all = HasAnswerFor (command_of words) all
 
 -- a status under which the command's text isn't written
 abbrev pub IsRefusal : Status → Type 0

@@ -4,6 +4,8 @@ use Rattle.ksql_types.specs.declared.code.Code.{Code}
 use Rattle.ksql_types.specs.declared.code.Code.TheVariants.{Syntax, TooLarge, UnknownRelation, NameTaken, UnknownColumn, AmbiguousColumn, DuplicateColumn, TypeMismatch, WrongKind, KeyMissing, JoinNotOnKey, PartitionMismatch, AggregateMisuse, BadWindow, Unsupported, BadProperty}
 use Rattle.topic_files.specs.declared.topic.LineWhy.{LineWhy}
 use Rattle.topic_files.specs.declared.topic.LineWhy.TheVariants as why
+use Rattle.schedule_text.specs.declared.fault.StepWhy.{StepWhy}
+use Rattle.schedule_text.specs.declared.fault.StepWhy.TheVariants as step_why
 use Rattle.ksql_cli.specs.declared.status.Status.{Status}
 use Rattle.ksql_cli.specs.declared.status.Status.TheVariants as ended
 
@@ -30,6 +32,15 @@ abbrev pub why_text : LineWhy → List ℕ
 why_text why.BadLine = codes "BadLine"
 why_text why.TooLarge = codes "TooLarge"
 
+abbrev pub step_why_text : StepWhy → List ℕ
+step_why_text step_why.BadStep = codes "BadStep"
+step_why_text step_why.UnknownTopic = codes "UnknownTopic"
+step_why_text step_why.UnknownWorker = codes "UnknownWorker"
+step_why_text step_why.WorkerTaken = codes "WorkerTaken"
+step_why_text step_why.UnknownTask = codes "UnknownTask"
+step_why_text step_why.NoWorker = codes "NoWorker"
+step_why_text step_why.TooLarge = codes "TooLarge"
+
 -- the line of a script that is refused in this statement by this code
 unfoldable pub script_line : ℕ → Code → List ℕ
 script_line statement code =
@@ -39,6 +50,10 @@ script_line statement code =
 unfoldable pub topic_line : List ℕ → ℕ → LineWhy → List ℕ
 topic_line topic line why =
     codes "ksql: topic " ++ (topic ++ (codes " line " ++ (decimal line ++ (codes ": " ++ (why_text why ++ codes "\n")))))
+
+-- the line of a schedule that is refused at this line
+unfoldable pub schedule_line : ℕ → StepWhy → List ℕ
+schedule_line line why = codes "ksql: schedule line " ++ (decimal line ++ (codes ": " ++ (step_why_text why ++ codes "\n")))
 
 -- the line of a file that can't be read
 unfoldable pub read_line : List ℕ → List ℕ
@@ -58,6 +73,7 @@ fault_line ended.Done = []
 fault_line ended.Usage = usage_line
 fault_line (ended.Script statement code) = script_line statement code
 fault_line (ended.TopicFile topic line why) = topic_line topic line why
+fault_line (ended.Schedule line why) = schedule_line line why
 fault_line (ended.ReadFault name) = read_line name
 fault_line ended.WriteFault = []
 fault_line ended.OutOfMemory = memory_line

@@ -1,37 +1,29 @@
 -- The cluster that a command leaves.
-use Rattle.std.specs.Prelude.{◌≡◌, ℕ, suc, List, [], ◌∷◌, Option, None}
+use Rattle.std.specs.Prelude.{◌≡◌, ℕ, List, Option, None, Some}
 use Rattle.std.specs.Option.{IsSomeAnd}
-use Rattle.topology.specs.Topologies.{topology_of}
-use Rattle.topology.specs.declared.schedule.Lined.{Lined}
-use Rattle.topology.specs.declared.schedule.Step.{Step as Taken}
-use Rattle.topology.specs.declared.schedule.Step.TheVariants as taken
 use Rattle.cluster_core.specs.Cluster.{HasCome}
-use Rattle.cluster_core.specs.Progress.{after_steps, opening}
 use Rattle.cluster_core.specs.declared.cluster.Cluster.{Cluster}
+use Rattle.ksql_words.specs.Words.{command_of}
+use Rattle.ksql_words.specs.declared.asked.Command.{Command}
+use Rattle.ksql_words.specs.declared.asked.Command.TheVariants.{Run as run_words, Demo}
 use Rattle.ksql_cli.specs.declared.status.Status.{Status}
 use Rattle.ksql_cli.specs.declared.status.Status.TheVariants as ended
-use Rattle.ksql_cli.specs.Command.{Files, Runs}
-use Rattle.ksql_cli.specs.Run.{Run, Step, drain, feed_all}
+use Rattle.ksql_cli.specs.Command.{Files, Runs, demo_asked, demo_files}
+use Rattle.ksql_cli.specs.Run.{Run, progress_of}
 
--- a step of a run as the cluster takes it
-abbrev pub step_taken : Step → Taken
-step_taken feed_all = taken.FeedAll
-step_taken drain = taken.Drain
-
--- its steps, each with its line: the first has line 1
-abbrev pub steps_taken : ℕ → List Step → List Lined
-steps_taken line [] = []
-steps_taken line (s ∷ ss) = record { line = line; step = step_taken s } ∷ steps_taken (suc line) ss
-
--- the cluster of the run's program with one worker, fed from its files, has taken all steps: it has the broker, the tasks and the
--- journal of the whole run, and its state is good
+-- the cluster of the run's program has taken all its steps: it has the broker, the tasks and the journal of the whole run, and its state
+-- is good
 abbrev pub HasRun : Run → Cluster → Type 0
-HasRun run cluster =
-    let t = topology_of run.program.items in
-    HasCome run.program.items (after_steps t (opening t run.program.items run.files 1) (steps_taken 1 run.steps)) cluster
+HasRun run cluster = HasCome run.program.items (progress_of run) cluster
 
--- what a command leaves: where its own text was begun, the cluster that ran, and else none
+-- what a command leaves where its own text was begun: of a run and of a demo the cluster that ran, and else none
+abbrev pub LeavesCluster : Option Command → Files → Option Cluster → Type 0
+LeavesCluster (Some (run_words script topics workers schedule trace)) all ran =
+    (run : Run) × Runs (record { script = script; topics = topics; workers = workers; schedule = schedule; trace = trace }) all run × IsSomeAnd ran (HasRun run)
+LeavesCluster (Some (Demo records workers)) all ran = (run : Run) × Runs (demo_asked workers) (demo_files records) run × IsSomeAnd ran (HasRun run)
+LeavesCluster _ all ran = ran ≡ None
+
 abbrev pub Leaves : List (List ℕ) → Files → Status → Option Cluster → Type 0
-Leaves words all ended.Done ran = (run : Run) × Runs words all run × IsSomeAnd ran (HasRun run)
-Leaves words all ended.WriteFault ran = (run : Run) × Runs words all run × IsSomeAnd ran (HasRun run)
+Leaves words all ended.Done ran = LeavesCluster (command_of words) all ran
+Leaves words all ended.WriteFault ran = LeavesCluster (command_of words) all ran
 Leaves words all _ ran = ran ≡ None

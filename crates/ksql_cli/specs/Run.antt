@@ -1,28 +1,27 @@
--- What a command runs, and its report.
-use Rattle.std.specs.Prelude.{ℕ, ◌+◌, List, [], ◌∷◌, length, map}
+-- What a run is, and its report.
+use Rattle.std.specs.Prelude.{ℕ, Bool, if◌then◌else◌, List, [], ◌∷◌, map}
 use Rattle.ksql_types.specs.declared.relation.Relation.{Relation}
-use Rattle.ksql_place.specs.declared.change.SourceRecord.{SourceRecord}
 use Rattle.ksql_program.specs.declared.program.Item.{Item}
 use Rattle.ksql_program.specs.declared.program.Item.TheVariants.{Declared, Started}
 use Rattle.ksql_program.specs.declared.program.Program.{Program}
 use Rattle.ksql_program.specs.Program.{relation_of, relations}
 use Rattle.topic_files.specs.declared.topic.TopicLines.{TopicLines}
-use Rattle.topic_feeds.specs.Feeding.{order_of}
 use Rattle.query_meaning.specs.Meaning.{meaning, up_to}
 use Rattle.query_meaning.specs.Queries.{changes_at}
-use Rattle.run_text.specs.Report.{meant, report, section_of, Section}
+use Rattle.topology.specs.Topologies.{topology_of}
+use Rattle.topology.specs.declared.schedule.Lined.{Lined}
+use Rattle.cluster_core.specs.Progress.{Progress, after_steps, closed, opening}
+use Rattle.run_text.specs.Report.{meant, report, section_of, summary, Section}
+use Rattle.trace_text.specs.Trace.{trace_of}
 
--- a step of a schedule: a feed of all records that are left, or rounds until each task has committed the last feed
-pub data Step : Type 0 where
-  feed_all : Step
-  drain : Step
-
--- a run: a program, the records of its topic files, how many workers there are, and the steps that are taken
+-- a run: a program, the records of its topic files, how many workers are live at first, the steps of its schedule, and whether its
+-- trace is asked for
 pub record Run : Type 0 where
   pub program : Program
   pub files : List TopicLines
   pub workers : ℕ
-  pub steps : List Step
+  pub steps : List Lined
+  pub trace : Bool
 
 -- the declared relations of a program, in their order
 abbrev pub declared_of : List Item → List Relation
@@ -30,45 +29,30 @@ declared_of [] = []
 declared_of (Declared relation ∷ items) = relation ∷ declared_of items
 declared_of (Started query ∷ items) = declared_of items
 
--- ---- progress
+-- how far a cluster of a program comes by some steps, in numbers
+abbrev pub progress : List Item → List TopicLines → ℕ → List Lined → Progress
+progress items files workers steps = let t = topology_of items in after_steps t (opening t items files workers) steps
 
--- how many feeds some steps make
-abbrev pub feed_count : List Step → ℕ
-feed_count [] = 0
-feed_count (feed_all ∷ steps) = 1 + feed_count steps
-feed_count (drain ∷ steps) = feed_count steps
+-- how far a run comes
+abbrev pub progress_of : Run → Progress
+progress_of run = progress run.program.items run.files run.workers run.steps
 
--- the last feed that all tasks have committed after some steps, where there were so many feeds before, and it was done before
-abbrev pub done_after : ℕ → ℕ → List Step → ℕ
-done_after fed done [] = done
-done_after fed done (feed_all ∷ steps) = done_after (fed + 1) done steps
-done_after fed done (drain ∷ steps) = done_after fed fed steps
-
--- how many of a file's records each feed takes, as far as there are any left: all of them
-abbrev pub counts_of : List Step → ℕ → List ℕ
-counts_of [] all = []
-counts_of (feed_all ∷ steps) all = all ∷ counts_of steps all
-counts_of (drain ∷ steps) all = counts_of steps all
-
--- ---- the report
-
--- the order of consumption of a run
-abbrev pub order_of_run : Run → List SourceRecord
-order_of_run run = order_of (λ relation feds. counts_of run.steps (length feds)) (declared_of run.program.items) run.files
-
--- the feed up to which a relation is shown: a declared one up to the last feed, and a result as far as its tasks have come
-abbrev pub closed_of : Run → Item → ℕ
-closed_of run (Declared relation) = feed_count run.steps
-closed_of run (Started query) = done_after 0 0 run.steps
-
--- what is shown of an item: its meaning on the records that were fed up to its feed
+-- what is shown of an item: its meaning on the records that were fed, up to the feed up to which its topic is closed
 abbrev pub section_at : Run → Item → Section
 section_at run item =
-    let closed = closed_of run item in
-    let order = up_to closed (order_of_run run) in
     let r = relation_of item in
-    section_of closed r order (meant r (changes_at (meaning run.program.items order) r.number))
+    let shown = closed (topology_of run.program.items) (progress_of run) r.number in
+    let order = up_to shown (progress_of run).order in
+    section_of shown r order (meant r (changes_at (meaning run.program.items order) r.number))
 
--- the report of a run: the order of consumption, and what is shown of each relation
+-- the trace, where it is asked for
+abbrev pub trace_in : Run → List ℕ
+trace_in run = if run.trace then trace_of (progress_of run).journal run.steps else []
+
+-- the report of a run: the order of consumption, what is shown of each relation, and the trace
 abbrev pub report_of : Run → List ℕ
-report_of run = report (relations run.program.items) (order_of_run run) (map (section_at run) run.program.items) []
+report_of run = report (relations run.program.items) (progress_of run).order (map (section_at run) run.program.items) (trace_in run)
+
+-- the summary of a run: the head line of each relation, and the rows of each table without windows
+abbrev pub summary_of : Run → List ℕ
+summary_of run = summary (map (section_at run) run.program.items)

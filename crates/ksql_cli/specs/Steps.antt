@@ -6,11 +6,9 @@ use Rattle.ksql_types.specs.declared.relation.Relation.{Relation}
 use Rattle.ksql_outside.specs.Outside.{read_bytes, JoinedLast}
 use Rattle.topic_files.specs.declared.topic.Room.{Room}
 use Rattle.topic_files.specs.File.{first_fault}
-use Rattle.topology.specs.declared.schedule.Lined.{Lined}
-use Rattle.topology.specs.declared.schedule.Step.TheVariants as taken
 use Rattle.ksql_cli.specs.declared.status.Status.{Status}
 use Rattle.ksql_cli.specs.declared.status.Status.TheVariants as ended
-use Rattle.ksql_cli.specs.Command.{Files, script_name, topic_file, IsFirstBad, IsTopicDue}
+use Rattle.ksql_cli.specs.Command.{Files, topic_file, IsFirstBad, IsTopicDue}
 
 -- the most bytes of a legal topic name
 abbrev pub longest_topic : ℕ
@@ -28,28 +26,28 @@ abbrev pub IsJoined : List (List ℕ) → List (List ℕ) → Status → Type 0
 IsJoined old new (ended.ReadFault name) = JoinedLast old new name
 IsJoined old new _ = Unit {0}
 
--- at most the script's name joined
-abbrev pub MayJoinScript : List (List ℕ) → List (List ℕ) → List (List ℕ) → Type 0
-MayJoinScript words old new = (new ≡ old) ⊎ ((name : List ℕ) × (script_name words ≡ Some name) × (new ≡ old ++ name ∷ []))
+-- some names joined
+abbrev pub HasGrown : List (List ℕ) → List (List ℕ) → Type 0
+HasGrown old new = (names : List (List ℕ)) × (new ≡ old ++ names)
 
 -- why a file wasn't read: this name joined the failed names, or memory is short
 abbrev pub IsReadFailure : List (List ℕ) → List (List ℕ) → List ℕ → Status → Type 0
 IsReadFailure old new name status = ((status ≡ ended.ReadFault name) × (new ≡ old ++ name ∷ [])) ⊎ (status ≡ ended.OutOfMemory)
 
 -- why the topic file of a relation gave no records
-abbrev pub IsFileFailure : Files → Room → Relation → List (List ℕ) → List (List ℕ) → Status → Type 0
-IsFileFailure all room relation old new (ended.TopicFile topic line why) =
-    (topic ≡ relation.topic) × ((file : List ℕ) × (read_bytes (topic_file relation) all ≡ Some file) × (first_fault room file ≡ Some (line, why)))
-IsFileFailure all room relation old new (ended.ReadFault name) = (name ≡ topic_file relation) × (new ≡ old ++ name ∷ [])
-IsFileFailure all room relation old new ended.OutOfMemory = Unit {0}
-IsFileFailure all room relation old new _ = ⊥
+abbrev pub IsFileFailure : List ℕ → Files → Room → Relation → List (List ℕ) → List (List ℕ) → Status → Type 0
+IsFileFailure dir all room relation old new (ended.TopicFile topic line why) =
+    (topic ≡ relation.topic) × ((file : List ℕ) × (read_bytes (topic_file dir relation) all ≡ Some file) × (first_fault room file ≡ Some (line, why)))
+IsFileFailure dir all room relation old new (ended.ReadFault name) = (name ≡ topic_file dir relation) × (new ≡ old ++ name ∷ [])
+IsFileFailure dir all room relation old new ended.OutOfMemory = Unit {0}
+IsFileFailure dir all room relation old new _ = ⊥
 
 -- why the topic files of relations gave no records
-abbrev pub IsTopicFailure : Files → Room → List Relation → List (List ℕ) → List (List ℕ) → Status → Type 0
-IsTopicFailure all room relations old new (ended.TopicFile topic line why) = IsFirstBad all room relations topic line why
-IsTopicFailure all room relations old new (ended.ReadFault name) = IsTopicDue all room relations name × JoinedLast old new name
-IsTopicFailure all room relations old new ended.OutOfMemory = Unit {0}
-IsTopicFailure all room relations old new _ = ⊥
+abbrev pub IsTopicFailure : List ℕ → Files → Room → List Relation → List (List ℕ) → List (List ℕ) → Status → Type 0
+IsTopicFailure dir all room relations old new (ended.TopicFile topic line why) = IsFirstBad dir all room relations topic line why
+IsTopicFailure dir all room relations old new (ended.ReadFault name) = IsTopicDue dir all room relations name × JoinedLast old new name
+IsTopicFailure dir all room relations old new ended.OutOfMemory = Unit {0}
+IsTopicFailure dir all room relations old new _ = ⊥
 
 -- how the reading of topic files ends without records
 abbrev pub IsTopicRefusal : Status → Type 0
@@ -59,9 +57,5 @@ IsTopicRefusal ended.OutOfMemory = Unit {0}
 IsTopicRefusal _ = ⊥
 
 -- the names that joined are those of topic files that were due
-abbrev pub AreTopicsDue : Files → Room → List Relation → List (List ℕ) → List (List ℕ) → Type 0
-AreTopicsDue all room relations old new = (names : List (List ℕ)) × (new ≡ old ++ names) × AllByRecursion (IsTopicDue all room relations) names
-
--- a schedule of one feed of all records and a drain
-abbrev pub fed_once : List Lined
-fed_once = record { line = 1; step = taken.FeedAll } ∷ record { line = 2; step = taken.Drain } ∷ []
+abbrev pub AreTopicsDue : List ℕ → Files → Room → List Relation → List (List ℕ) → List (List ℕ) → Type 0
+AreTopicsDue dir all room relations old new = (names : List (List ℕ)) × (new ≡ old ++ names) × AllByRecursion (IsTopicDue dir all room relations) names

@@ -1,5 +1,5 @@
 use crate::fault::write_fault;
-use crate::run::ksql;
+use crate::headline::ksql;
 use crate::status::Status;
 use ksql_outside::{DirFolder, NoGate, StdSink};
 use ksql_types::{Items, Word, Words};

@@ -9,6 +9,7 @@ use crate::status::Status;
 use itoa::Buffer;
 use ksql_outside::{Failed, Sink, write_whole};
 use ksql_types::{Chars, Code};
+use schedule_text::StepWhy;
 use topic_files::LineWhy;
 
 /// Tries to write the fault line of a status: all of it, or a front of it where a write failed. Takes no memory.
@@ -23,6 +24,7 @@ pub(crate) fn write_fault<K: Sink>(out: &mut K, status: &Status) -> Result<(), F
         Status::Usage => write_whole(out, b"ksql: bad command line\n"),
         Status::Script { statement, code } => write_script_line(out, *statement, *code),
         Status::TopicFile { topic, line, why } => write_topic_line(out, topic, *line, *why),
+        Status::Schedule { line, why } => write_schedule_line(out, *line, *why),
         Status::ReadFault { name } => {
             let name = name.items().as_bytes();
             write_pieces(out, &[b"ksql: cannot read ", name, b"\n"])
@@ -65,6 +67,19 @@ fn write_topic_line<K: Sink>(
     let why = why_text(why).as_bytes();
     write_pieces(out, &[b"ksql: topic ", topic, b" line "])?;
     write_pieces(out, &[line, b": ", why, b"\n"])
+}
+
+/// Tries to write the fault line of a schedule that was refused at this line.
+fn write_schedule_line<K: Sink>(out: &mut K, line: u32, why: StepWhy) -> Result<(), Failed>
+    ensures whole { OnOk result (K.written out.new ≡ followed_by (K.written out.old) (spec.schedule_line line why)) }
+    ensures prefix { OnErr result (WrotePrefix (K.written out.old) (K.written out.new) (spec.schedule_line line why)) }
+    ensures count { K.faults out.old ≤ K.faults out.new }
+    ensures succeeds { ¬ Rose (K.faults out.old) (K.faults out.new) → IsOk result }
+{
+    let mut number = Buffer::new();
+    let line = number.format(line).as_bytes();
+    let why = step_why_text(why).as_bytes();
+    write_pieces(out, &[b"ksql: schedule line ", line, b": ", why, b"\n"])
 }
 
 /// Writes all of some pieces, one after the other, until a write fails.
@@ -114,5 +129,20 @@ fn why_text(why: LineWhy) -> &'static str
     match why {
         LineWhy::BadLine => "BadLine",
         LineWhy::TooLarge => "TooLarge",
+    }
+}
+
+/// Why a line of a schedule was refused, as it is written.
+fn step_why_text(why: StepWhy) -> &'static str
+    ensures { result.now ≡ spec.step_why_text why }
+{
+    match why {
+        StepWhy::BadStep => "BadStep",
+        StepWhy::UnknownTopic => "UnknownTopic",
+        StepWhy::UnknownWorker => "UnknownWorker",
+        StepWhy::WorkerTaken => "WorkerTaken",
+        StepWhy::UnknownTask => "UnknownTask",
+        StepWhy::NoWorker => "NoWorker",
+        StepWhy::TooLarge => "TooLarge",
     }
 }

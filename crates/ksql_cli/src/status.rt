@@ -2,6 +2,7 @@ ghost use Rattle.std.specs.Prelude.{◌≡◌};
 ghost use Rattle.ksql_cli.specs.Status.{exit_code};
 
 use ksql_types::{Chars, Code};
+use schedule_text::StepWhy;
 use topic_files::LineWhy;
 
 /// How a command ended.
@@ -21,6 +22,11 @@ pub enum Status {
         topic: Chars,
         line: u32,
         why: LineWhy,
+    },
+    /// The schedule was refused: at this line, counted from 1, for this reason.
+    Schedule {
+        line: u32,
+        why: StepWhy,
     },
     /// The file of this name couldn't be read.
     ReadFault {
@@ -42,6 +48,7 @@ impl Status {
             Status::Usage => 2,
             Status::Script { .. } => 3,
             Status::TopicFile { .. } => 4,
+            Status::Schedule { .. } => 5,
             Status::ReadFault { .. } => 6,
             Status::WriteFault => 7,
             Status::OutOfMemory => 8,

@@ -9,7 +9,8 @@ ghost use Rattle.feed_laws.specs.Fitting.{AreFilesOf, IsFedOf};
 ghost use Rattle.ksql_cli.specs.Command.{AreFed, room_after, IsGood, topic_file};
 ghost use Rattle.ksql_cli.specs.Run.{declared_of};
 ghost use Rattle.ksql_cli.specs.Command as spec;
-ghost use Rattle.ksql_cli.specs.Steps.{AreTopicsDue, IsFeedable, IsFileFailure, IsJoined, IsReadFailure, IsTopicFailure, IsTopicRefusal};
+ghost use Rattle.ksql_words.specs.Words.{longest_word};
+ghost use Rattle.ksql_cli.specs.Steps.{AreTopicsDue, HasGrown, IsFeedable, IsFileFailure, IsJoined, IsReadFailure, IsTopicFailure, IsTopicRefusal};
 
 use crate::status::Status;
 use ksql_outside::{Folder, ReadFail};
@@ -29,36 +30,39 @@ pub(crate) fn whole_room() -> Room
     }
 }
 
-/// The records of the topic files of the declared relations among these items, one list for each, after the files that
-/// were read before. All files share a room.
+/// The records of the topic files of the declared relations among these items, one list for each, from a folder, after the
+/// files that were read before. All files share a room.
 pub(crate) fn read_topics<F: Folder>(
     alloc: Global,
     folder: &mut F,
+    dir: &str,
     items: &[Item],
     reading: Reading,
 ) -> Result<Vec<TopicLines>, Status>
     requires feedable { All IsFeedable (declared_of items.now) }
+    requires short_dir { length dir.now ≤ longest_word }
     requires few { reading.room.records ≤ 200000 }
     requires short { reading.room.bytes ≤ 67108864 }
     ensures found { IfOk result (λ read. IfSome (F.files folder.old) (λ all. (files : List OneFile)
-        × AreFed all reading.room (declared_of items.now) files × (read.items ≡ reading.files.items ++ files))) }
+        × AreFed dir.now all reading.room (declared_of items.now) files × (read.items ≡ reading.files.items ++ files))) }
     ensures fit { IfOk result (λ read. (files : List OneFile) × AreFilesOf items.now files × (read.items ≡ reading.files.items ++ files)) }
     ensures cause { IfErr result (λ status. IfSome (F.files folder.old)
-        (λ all. IsTopicFailure all reading.room (declared_of items.now) (F.failed folder.old) (F.failed folder.new) status)) }
+        (λ all. IsTopicFailure dir.now all reading.room (declared_of items.now) (F.failed folder.old) (F.failed folder.new) status)) }
     ensures refusal { IfErr result IsTopicRefusal }
     ensures joined { IfErr result (IsJoined (F.failed folder.old) (F.failed folder.new)) }
+    ensures grows { HasGrown (F.failed folder.old) (F.failed folder.new) }
     ensures reads { IfSome (F.files folder.old)
-        (λ all. AreTopicsDue all reading.room (declared_of items.now) (F.failed folder.old) (F.failed folder.new)) }
+        (λ all. AreTopicsDue dir.now all reading.room (declared_of items.now) (F.failed folder.old) (F.failed folder.new)) }
     ensures same_files { F.files folder.new ≡ F.files folder.old }
 {
     let [first, rest @ ..] = items else {
         return Ok(reading.files);
     };
     let Item::Declared(relation) = first else {
-        return read_topics(alloc, folder, rest, reading);
+        return read_topics(alloc, folder, dir, rest, reading);
     };
-    match with_topic(alloc, folder, relation, reading) {
-        Ok(reading) => read_topics(alloc, folder, rest, reading),
+    match with_topic(alloc, folder, dir, relation, reading) {
+        Ok(reading) => read_topics(alloc, folder, dir, rest, reading),
         Err(status) => Err(status),
     }
 }
@@ -75,27 +79,29 @@ pub(crate) struct Reading {
 fn with_topic<F: Folder>(
     alloc: Global,
     folder: &mut F,
+    dir: &str,
     relation: &Relation,
     reading: Reading,
 ) -> Result<Reading, Status>
     requires feedable { IsFeedable relation.now }
+    requires short_dir { length dir.now ≤ longest_word }
     requires few { reading.room.records ≤ 200000 }
     requires short { reading.room.bytes ≤ 67108864 }
-    ensures found { IfOk result (λ read. IfSome (F.files folder.old) (λ all. (file : List ℕ) × IsGood all reading.room relation.now file
+    ensures found { IfOk result (λ read. IfSome (F.files folder.old) (λ all. (file : List ℕ) × IsGood dir.now all reading.room relation.now file
         × (read.room ≡ room_after reading.room relation.now file)
         × (read.files.items ≡ reading.files.items ++ topic_lines relation.now file ∷ []))) }
     ensures fits { IfOk result (λ read. (file : OneFile) × All (IsFedOf relation.now) file.feds × (read.files.items ≡ reading.files.items ++ file ∷ [])) }
     ensures few { IfOk result (λ read. read.room.records ≤ 200000) }
     ensures short { IfOk result (λ read. read.room.bytes ≤ 67108864) }
     ensures cause { IfErr result (λ status. IfSome (F.files folder.old)
-        (λ all. IsFileFailure all reading.room relation.now (F.failed folder.old) (F.failed folder.new) status)) }
+        (λ all. IsFileFailure dir.now all reading.room relation.now (F.failed folder.old) (F.failed folder.new) status)) }
     ensures refusal { IfErr result IsTopicRefusal }
     ensures joined { IfErr result (IsJoined (F.failed folder.old) (F.failed folder.new)) }
-    ensures grows { MayJoin (F.failed folder.old) (F.failed folder.new) (topic_file relation.now) }
+    ensures grows { MayJoin (F.failed folder.old) (F.failed folder.new) (topic_file dir.now relation.now) }
     ensures same_files { F.files folder.new ≡ F.files folder.old }
 {
     let topic = relation.topic.items();
-    let name = match format!(in alloc; "./{topic}.jsonl") {
+    let name = match format!(in alloc; "{dir}/{topic}.jsonl") {
         Ok(name) => name,
         Err(_) => return Err(Status::OutOfMemory),
     };

@@ -1,13 +1,9 @@
-use Rattle.std.proofs.Common.{◌≡◌, ◌∙◌, ap, subst, sym, List}
-use Rattle.std.specs.Prelude.{All, is_none}
+use Rattle.std.proofs.Common.{subst, sym, List}
+use Rattle.std.specs.Prelude.{All}
 use Rattle.topology.specs.declared.schedule.Lined.{Lined}
 use Rattle.cluster_core.specs.Cluster.{IsBuilt}
-use Rattle.cluster_rows.proofs.Built.{windowless}
 use Rattle.cluster_rows.proofs.Numbering.{built-numbered}
 use Rattle.cluster_rows.proofs.running.run.Goals as goal
-
-pub drive-requires-clause-windowless : goal.drive-requires-clause-windowless
-drive-requires-clause-windowless c = windowless c.in_ok-program.program.items (ap is_none c.in_ok-program.ensures.answer.built)
 
 pub drive-requires-clause-built : goal.drive-requires-clause-built
 drive-requires-clause-built c =

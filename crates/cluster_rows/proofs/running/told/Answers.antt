@@ -11,7 +11,7 @@ use Rattle.topic_log.specs.Shelves.{routes_in}
 use Rattle.topic_log.specs.declared.shelves.Shelves.{Shelves}
 use Rattle.run_text.specs.Shown.{HasTopicOf, shown_report}
 use Rattle.cluster_rows.specs.Runs.{closed_at, standing_at}
-use Rattle.cluster_rows.proofs.Built.{printable}
+use Rattle.run_text.proofs.Printable.{printable}
 use Rattle.cluster_rows.proofs.Shown.{has-topics, has-writers}
 use Rattle.cluster_rows.proofs.running.told.Goals as goal
 

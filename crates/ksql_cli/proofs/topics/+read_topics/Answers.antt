@@ -11,15 +11,15 @@ read_topics-requires-in-Ok g t c κs within =
       (
         search rules,
         (
-          rest_feedable c.in-Declared.relation (declared_of (rest_of c.args.items.now)) (declared_of c.args.items.now) first c.requires.feedable,
-          (c.in-Ok.ensures.few, c.in-Ok.ensures.short),
+          rest_feedable c.in-Declared.relation (declared_of (rest_of c.args.items.now)) (declared_of c.args.items.now) first c.requires.1.1.1.0,
+          (c.requires.1.1.1.1.0, (c.in-Ok.ensures.few, c.in-Ok.ensures.short)),
         ),
       ),
     )
 
 pub returns-in-Ok-clause-found : goal.returns-in-Ok-clause-found
 returns-in-Ok-clause-found g t c =
-    all_found c.read_topics-in-Ok.result (λ read. read.items) (g.F.Folder.files c.args.folder.now) (g.F.Folder.files c.with_topic.new.folder)
+    all_found c.args.dir.now c.read_topics-in-Ok.result (λ read. read.items) (g.F.Folder.files c.args.folder.now) (g.F.Folder.files c.with_topic.new.folder)
     c.args.reading.room c.in-Ok.reading.room c.in-Declared.relation (declared_of (rest_of c.args.items.now)) (declared_of c.args.items.now)
     c.args.reading.files.items c.in-Ok.reading.files.items
     (declared_first c.args.items.now c.first-item.result c.in-Declared.relation c.in-len1-up.len_at_least c.first-item.is c.in-Declared.is)
@@ -27,7 +27,7 @@ returns-in-Ok-clause-found g t c =
 
 pub returns-in-Ok-clause-cause : goal.returns-in-Ok-clause-cause
 returns-in-Ok-clause-cause g t c =
-    all_caused c.read_topics-in-Ok.result (g.F.Folder.files c.args.folder.now) (g.F.Folder.files c.with_topic.new.folder)
+    all_caused c.args.dir.now c.read_topics-in-Ok.result (g.F.Folder.files c.args.folder.now) (g.F.Folder.files c.with_topic.new.folder)
     c.args.reading.room c.in-Ok.reading.room c.in-Declared.relation (declared_of (rest_of c.args.items.now)) (declared_of c.args.items.now)
     c.args.reading.files.items c.in-Ok.reading.files.items
     (g.F.Folder.failed c.args.folder.now) (g.F.Folder.failed c.with_topic.new.folder) (g.F.Folder.failed c.read_topics-in-Ok.new.folder)
@@ -37,11 +37,11 @@ returns-in-Ok-clause-cause g t c =
 pub returns-in-Ok-clause-joined : goal.returns-in-Ok-clause-joined
 returns-in-Ok-clause-joined g t c =
     all_joined c.read_topics-in-Ok.result (g.F.Folder.failed c.args.folder.now) (g.F.Folder.failed c.with_topic.new.folder) (g.F.Folder.failed c.read_topics-in-Ok.new.folder)
-    (topic_file c.in-Declared.relation) c.in-Ok.ensures.grows c.read_topics-in-Ok.ensures.joined
+    (topic_file c.args.dir.now c.in-Declared.relation) c.in-Ok.ensures.grows c.read_topics-in-Ok.ensures.joined
 
 pub returns-in-Ok-clause-reads : goal.returns-in-Ok-clause-reads
 returns-in-Ok-clause-reads g t c =
-    all_due (g.F.Folder.files c.args.folder.now) (g.F.Folder.files c.with_topic.new.folder)
+    all_due c.args.dir.now (g.F.Folder.files c.args.folder.now) (g.F.Folder.files c.with_topic.new.folder)
     c.args.reading.room c.in-Ok.reading.room c.in-Declared.relation (declared_of (rest_of c.args.items.now)) (declared_of c.args.items.now)
     c.args.reading.files.items c.in-Ok.reading.files.items
     (g.F.Folder.failed c.args.folder.now) (g.F.Folder.failed c.with_topic.new.folder) (g.F.Folder.failed c.read_topics-in-Ok.new.folder)

@@ -1,4 +1,4 @@
-use Rattle.std.proofs.Common.{◌≡◌, ◌∙◌, ◌++◌, ◌∷◌, [], ap, subst, sym, List, ℕ, codes}
+use Rattle.std.proofs.Common.{◌∙◌, ◌++◌, ap, subst, sym, List, ℕ, codes}
 use Rattle.std.specs.Prelude.{All}
 use Rattle.std.proofs.lemmas.Result.{IfOk-weaker}
 use Rattle.topic_files.specs.declared.topic.TopicLines.{TopicLines}
@@ -9,9 +9,9 @@ use Rattle.ksql_cli.proofs.topics.with_topic.Goals as goal
 
 pub due_file-requires : goal.due_file-requires
 due_file-requires g c =
-    due_short c.args.relation.now.topic c.as_str.result.now
-    (c.as_str.ensures.value ∙ c.in-Ok.ensures.ok ∙ ap (λ (topic : List ℕ). codes "./" ++ (topic ++ codes ".jsonl")) c.items-topic.ensures.value)
-    c.requires.feedable.short
+    due_short c.args.dir.now c.args.relation.now.topic c.as_str.result.now
+    (c.as_str.ensures.value ∙ c.in-Ok.ensures.ok ∙ ap (λ (topic : List ℕ). c.args.dir.now ++ (codes "/" ++ (topic ++ codes ".jsonl"))) c.items-topic.ensures.value)
+    c.requires.short_dir c.requires.feedable.short
 
 pub returns-in-Ok-read_topic-clause-fits : goal.returns-in-Ok-read_topic-clause-fits
 returns-in-Ok-read_topic-clause-fits g c =

@@ -1,20 +1,22 @@
-use Rattle.std.specs.String.{string_bytes}
 use Rattle.ksql_outside.specs.Outside.{Rose}
 use Rattle.ksql_cli.specs.declared.status.Status.TheVariants as ended
+use Rattle.ksql_words.specs.Words.{command_of}
+use Rattle.ksql_cli.specs.Command.{HasCause, HasText}
 use Rattle.ksql_cli.specs.Fault.{fault_line}
-use Rattle.ksql_cli.proofs.Causes.{complete_of, exact_done, exact_fault, exact_refusal, front_written, wrote_either}
+use Rattle.ksql_cli.proofs.Causes.{complete_of, exact_done, exact_fault, exact_refusal, fault-cause, front_written, wrote_either}
 use Rattle.ksql_cli.proofs.SomeStatus.{told_status}
-use Rattle.ksql_cli.proofs.run.ksql.Goals as goal
+use Rattle.ksql_cli.proofs.Stages.{when-known}
+use Rattle.ksql_cli.proofs.headline.ksql.Goals as goal
 
 pub returns-in-Ok-write_whole-clause-exact : goal.returns-in-Ok-write_whole-clause-exact
 returns-in-Ok-write_whole-clause-exact g c =
     exact_done (g.F.Folder.files c.args.folder.now) c.args.words.now (g.F.Folder.failed c.args.folder.now) (g.F.Folder.failed c.whole_text.new.folder)
-    (¬ Rose (g.K.Sink.faults c.args.out.now) (g.K.Sink.faults c.write_whole.new.out)) (string_bytes c.in-Ok.finished.text) c.in-Ok.ensures.found
+    (¬ Rose (g.K.Sink.faults c.args.out.now) (g.K.Sink.faults c.write_whole.new.out)) c.in-Ok.finished.text.items c.in-Ok.ensures.text
 
 pub returns-in-Ok-clause-exact : goal.returns-in-Ok-clause-exact
 returns-in-Ok-clause-exact g c =
     exact_fault (g.F.Folder.files c.args.folder.now) c.args.words.now (g.F.Folder.failed c.args.folder.now) (g.F.Folder.failed c.whole_text.new.folder)
-    (Rose (g.K.Sink.faults c.args.out.now) (g.K.Sink.faults c.write_whole.new.out)) (string_bytes c.in-Ok.finished.text) c.in-Err-write_whole.ensures.cause c.in-Ok.ensures.found
+    (Rose (g.K.Sink.faults c.args.out.now) (g.K.Sink.faults c.write_whole.new.out)) c.in-Ok.finished.text.items c.in-Err-write_whole.ensures.cause c.in-Ok.ensures.text
 
 pub returns-in-Ok-clause-complete : goal.returns-in-Ok-clause-complete
 returns-in-Ok-clause-complete g c =
@@ -46,9 +48,16 @@ returns-clause-decided g c =
 pub returns-in-Ok-clause-prefix : goal.returns-in-Ok-clause-prefix
 returns-in-Ok-clause-prefix g c = λ is.
     front_written (g.F.Folder.files c.args.folder.now) c.args.words.now (g.K.Sink.written c.args.out.now) (g.K.Sink.written c.write_whole.new.out)
-    (string_bytes c.in-Ok.finished.text) c.as_bytes.result.now c.as_bytes.ensures.value c.in-Err-write_whole.ensures.prefix c.in-Ok.ensures.found
+    c.in-Ok.finished.text.items c.as_slice.result.now c.as_slice.ensures.value c.in-Err-write_whole.ensures.prefix c.in-Ok.ensures.text
 
 pub returns-clause-fault : goal.returns-clause-fault
 returns-clause-fault g c = λ refusal.
     wrote_either c.write_fault.result (g.K.Sink.written c.args.out.now) (g.K.Sink.written c.write_fault.new.out) (fault_line c.in-Err.status)
     c.write_fault.ensures.whole c.write_fault.ensures.prefix
+
+pub returns-in-Ok-clause-cause : goal.returns-in-Ok-clause-cause
+returns-in-Ok-clause-cause g c =
+    let old = g.F.Folder.failed c.args.folder.now in
+    let new = g.F.Folder.failed c.whole_text.new.folder in
+    when-known (λ all. HasText c.args.words.now all c.in-Ok.finished.text.items) (λ all. HasCause c.args.words.now all old new ended.WriteFault)
+    (g.F.Folder.files c.args.folder.now) (λ all. fault-cause (command_of c.args.words.now) all old new c.in-Ok.finished.text.items) c.in-Ok.ensures.text

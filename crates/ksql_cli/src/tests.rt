@@ -1,13 +1,14 @@
 ghost use Rattle.std.specs.Prelude.{◌≡◌, ◌≤◌, length, IfOk};
 ghost use Rattle.ksql_types.specs.Text.{longest_text};
 
-use crate::run::ksql;
+use crate::headline::ksql;
 use crate::status::Status;
 use ksql_outside::{MemFolder, MemSink, NoGate};
 use ksql_types::{Bytes, Chars, Items, Word, Words};
 use std::alloc::{AllocError, Global};
 use std::test::Fail;
 
+mod schedules;
 mod tables;
 mod values;
 
@@ -420,7 +421,6 @@ fn records_are_taken_in_their_order(rt: HostRuntime) -> Result<(), Fail> {
 fn forms_that_are_not_run_are_refused(rt: HostRuntime) -> Result<(), Fail> {
     let alloc = rt.alloc();
     for statement in [
-        "CREATE TABLE W AS SELECT ID, COUNT(*) AS C FROM S WINDOW TUMBLING (SIZE 1 SECOND) GROUP BY ID;",
         "CREATE STREAM D (A VARCHAR) WITH (KAFKA_TOPIC='d', VALUE_FORMAT='DELIMITED');",
         "CREATE STREAM D WITH (VALUE_FORMAT='DELIMITED') AS SELECT * FROM S;",
     ] {

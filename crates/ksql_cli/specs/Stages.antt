@@ -1,0 +1,63 @@
+-- What the stages of a command say: how they end without an answer, and which names join.
+use Rattle.std.specs.Prelude.{◌≡◌, ◌⊎◌, ◌≤◌, ℕ, List, [], ◌∷◌, ◌++◌, length, Option, None, Some, IfSome}
+use Rattle.std.specs.List.{AllByRecursion}
+use Rattle.ksql_outside.specs.Outside.{MayJoin}
+use Rattle.ksql_words.specs.Words.{command_of, longest_word}
+use Rattle.ksql_program.specs.declared.program.Program.{Program}
+use Rattle.topic_files.specs.declared.topic.TopicLines.{TopicLines}
+use Rattle.ksql_cli.specs.declared.asked.Asked.{Asked}
+use Rattle.ksql_cli.specs.declared.run.Ran.{Ran}
+use Rattle.ksql_cli.specs.declared.status.Status.{Status}
+use Rattle.ksql_cli.specs.declared.status.Status.TheVariants as ended
+use Rattle.ksql_cli.specs.Command.{Files, IsLaterDue, IsScheduleRefused, IsScriptRefused}
+use Rattle.ksql_cli.specs.Run.{Run}
+
+-- a run's names are words, and it has 1 to 32 workers
+pub record HasShortNames (a : Asked) : Type 0 where
+  pub script : length a.script ≤ longest_word
+  pub topics : length a.topics ≤ longest_word
+  pub schedule : IfSome a.schedule (λ name. length name ≤ longest_word)
+  pub some : 1 ≤ a.workers
+  pub few : a.workers ≤ 32
+
+-- the script, or a file after it, is due in a run
+abbrev pub IsRunDue : Asked → Files → List ℕ → Type 0
+IsRunDue a all name = (name ≡ a.script) ⊎ IsLaterDue a all name
+
+-- the names that joined are all due in a run
+abbrev pub AreDueIn : Asked → Files → List (List ℕ) → List (List ℕ) → Type 0
+AreDueIn a all old new = (names : List (List ℕ)) × (new ≡ old ++ names) × AllByRecursion (IsRunDue a all) names
+
+-- why the script of this name gave no program
+abbrev pub IsScriptFailure : List ℕ → Files → List (List ℕ) → List (List ℕ) → Status → Type 0
+IsScriptFailure script all old new (ended.Script statement code) = IsScriptRefused script all statement code
+IsScriptFailure script all old new (ended.ReadFault name) = (name ≡ script) × (new ≡ old ++ name ∷ [])
+IsScriptFailure script all old new ended.OutOfMemory = Unit {0}
+IsScriptFailure script all old new _ = ⊥
+
+-- why the schedule gave no steps
+abbrev pub IsScheduleFailure : Asked → Files → Program → List (List ℕ) → List (List ℕ) → Status → Type 0
+IsScheduleFailure a all program old new (ended.Schedule line why) = IsScheduleRefused a.schedule a.workers all program line why
+IsScheduleFailure a all program old new (ended.ReadFault name) = (a.schedule ≡ Some name) × (new ≡ old ++ name ∷ [])
+IsScheduleFailure a all program old new ended.OutOfMemory = Unit {0}
+IsScheduleFailure a all program old new _ = ⊥
+
+-- at most the name that is asked for joined
+abbrev pub IsExpected : Option (List ℕ) → List (List ℕ) → List (List ℕ) → Type 0
+IsExpected None old new = new ≡ old
+IsExpected (Some name) old new = MayJoin old new name
+
+-- how a command that is read from words ends without a text
+abbrev pub IsRunRefusal : Status → Type 0
+IsRunRefusal ended.Done = ⊥
+IsRunRefusal ended.Usage = ⊥
+IsRunRefusal ended.WriteFault = ⊥
+IsRunRefusal _ = Unit {0}
+
+-- Usage says that the words are no command
+abbrev pub IsUsage : List (List ℕ) → Status → Type 0
+IsUsage words status = status ≡ ended.Usage → command_of words ≡ None
+
+-- the run of a program on some files that is asked for
+abbrev pub run_of : Asked → Ran → List TopicLines → Run
+run_of a ran files = record { program = ran.program; files = files; workers = a.workers; steps = ran.schedule.steps; trace = a.trace }

@@ -1,0 +1,118 @@
+ghost use Rattle.std.specs.Prelude.{◌≡◌, ◌⊎◌, None, ℕ, List, IfOk, IfErr, IfSome};
+ghost use Rattle.ksql_outside.specs.Outside.{followed_by, JoinedLast, Rose, WrotePrefix};
+ghost use Rattle.ksql_words.specs.Words.{command_of};
+ghost use Rattle.ksql_cli.specs.declared.status.Status.{Status as OneStatus};
+ghost use Rattle.ksql_cli.specs.Command.{AreDue, HasAnswer, HasCause, HasText, IsDecided, IsRefusal, NoDueFails};
+ghost use Rattle.ksql_cli.specs.Fault.{fault_line};
+ghost use Rattle.ksql_cli.specs.Ran.{Leaves, LeavesCluster};
+ghost use Rattle.ksql_cli.specs.Stages.{IsUsage};
+ghost use Rattle.ksql_cli.specs.Steps.{IsJoined};
+
+use crate::asked::Asked;
+use crate::fault::write_fault;
+use crate::status::Status;
+use crate::texts::{Finished, demonstrated, explained, reported};
+use cluster_core::Cluster;
+use ksql_outside::{Failed, Folder, Gate, Sink, write_whole};
+use ksql_types::Words;
+use ksql_words::{Command, WordsFault, read_words};
+use std::alloc::Global;
+
+/// Does what the words say: runs a script, that is, reads the script, its topic files and its schedule from the folder, runs a
+/// cluster of the script's program with so many workers through the steps of the schedule, and writes the report of what its
+/// broker shows; or explains a script, that is, writes its topology; or runs the demo; or else writes the line that says why not.
+pub fn ksql<R, F: Folder, K: Sink, G: Gate + Sync>(
+    _rt: &R,
+    alloc: Global,
+    words: &Words,
+    folder: &mut F,
+    out: &mut K,
+    _gate: &G,
+    ran: &mut Option<Cluster>,
+) -> Status
+    // The command's text is written, and nothing else: the report of the script's program on its topic files after the steps of its
+    // schedule, the script's topology, or the summary of the demo.
+    ensures done { result ≡ Status.Done → IfSome (F.files folder.old) (λ all. (text : List ℕ) × HasText words.now all text
+        × (K.written out.new ≡ followed_by (K.written out.old) text)) }
+    // Each status has its cause in the words, the files and the names that failed.
+    ensures cause { IfSome (F.files folder.old) (λ all. HasCause words.now all (F.failed folder.old) (F.failed folder.new) result) }
+    ensures usage { result ≡ Status.Usage → command_of words.now ≡ None }
+    ensures read_fault { (name : List ℕ) → result ≡ Status.ReadFault name → JoinedLast (F.failed folder.old) (F.failed folder.new) name }
+    ensures reads { IfSome (F.files folder.old) (λ all. AreDue words.now all (F.failed folder.old) (F.failed folder.new)) }
+    ensures write_fault { result ≡ Status.WriteFault → Rose (K.faults out.old) (K.faults out.new) }
+    ensures prefix { result ≡ Status.WriteFault → IfSome (F.files folder.old) (λ all. (text : List ℕ) × HasText words.now all text
+        × WrotePrefix (K.written out.old) (K.written out.new) text) }
+    // Under any other status nothing but its fault line is written: a front of it, and all of it unless a write failed.
+    ensures fault { IsRefusal result → WrotePrefix (K.written out.old) (K.written out.new) (fault_line result) }
+    ensures whole_fault { IsRefusal result → ¬ Rose (K.faults out.old) (K.faults out.new)
+        → K.written out.new ≡ followed_by (K.written out.old) (fault_line result) }
+    // The words and the files decide a status, unless a file that is due isn't there.
+    ensures decided { IfSome (F.files folder.old) (λ all. HasAnswer words.now all) }
+    // A decided status that has its cause comes, unless memory is short, a due name failed or, where a text is due, a write failed.
+    ensures exact { IfSome (F.files folder.old) (λ all. NoDueFails words.now all (F.failed folder.old) (F.failed folder.new)
+        → (status : OneStatus) → IsDecided status → HasCause words.now all (F.failed folder.old) (F.failed folder.new) status
+        → (status ≡ Status.Done → ¬ Rose (K.faults out.old) (K.faults out.new)) → (result ≡ status) ⊎ (result ≡ Status.OutOfMemory)) }
+    // An accepted script, good topic files and a good schedule give their text, or out of memory.
+    ensures complete { IfSome (F.files folder.old) (λ all. (text : List ℕ) → HasText words.now all text
+        → NoDueFails words.now all (F.failed folder.old) (F.failed folder.new) → ¬ Rose (K.faults out.old) (K.faults out.new)
+        → (result ≡ Status.Done) ⊎ (result ≡ Status.OutOfMemory)) }
+    ensures same_files { F.files folder.new ≡ F.files folder.old }
+    // The cluster that ran is handed back where the text of a run was begun, and else none.
+    ensures ran { IfSome (F.files folder.old) (λ all. Leaves words.now all result ran.new) }
+{
+    match whole_text(alloc, words, folder) {
+        Ok(finished) => {
+            *ran = finished.cluster;
+            match write_whole(out, finished.text.as_slice()) {
+                Ok(()) => Status::Done,
+                Err(Failed) => Status::WriteFault,
+            }
+        }
+        Err(status) => {
+            *ran = None;
+            let _ = write_fault(out, &status);
+            status
+        }
+    }
+}
+
+/// The command's whole text, and the cluster whose broker shows it.
+fn whole_text<F: Folder>(alloc: Global, words: &Words, folder: &mut F) -> Result<Finished, Status>
+    ensures text { IfOk result (λ finished. IfSome (F.files folder.old) (λ all. HasText words.now all finished.text.items)) }
+    ensures ran { IfOk result (λ finished. IfSome (F.files folder.old) (λ all. LeavesCluster (command_of words.now) all finished.cluster)) }
+    ensures cause { IfErr result (λ status. IfSome (F.files folder.old)
+        (λ all. HasCause words.now all (F.failed folder.old) (F.failed folder.new) status)) }
+    ensures joined { IfErr result (IsJoined (F.failed folder.old) (F.failed folder.new)) }
+    ensures reads { IfSome (F.files folder.old) (λ all. AreDue words.now all (F.failed folder.old) (F.failed folder.new)) }
+    ensures refusal { IfErr result IsRefusal }
+    ensures usage { IfErr result (IsUsage words.now) }
+    ensures same_files { F.files folder.new ≡ F.files folder.old }
+{
+    match read_words(alloc, words) {
+        Ok(
+            Command::Run {
+                script,
+                topics,
+                workers,
+                schedule,
+                trace,
+            },
+        ) => {
+            let asked = Asked {
+                script,
+                topics,
+                workers,
+                schedule,
+                trace,
+            };
+            reported(alloc, &asked, folder)
+        }
+        Ok(Command::Explain { script }) => explained(alloc, script.items(), folder),
+        Ok(Command::Demo { records, workers }) => match demonstrated(alloc, records, workers) {
+            Ok(finished) => Ok(finished),
+            Err(_) => Err(Status::OutOfMemory),
+        },
+        Err(WordsFault::Usage) => Err(Status::Usage),
+        Err(WordsFault::OutOfMemory) => Err(Status::OutOfMemory),
+    }
+}
