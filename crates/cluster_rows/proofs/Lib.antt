@@ -1,4 +1,3 @@
-pub mod Built
 pub mod Filing
 pub mod Numbering
 pub mod Shown

@@ -1,8 +1,6 @@
 //! The records of topic files.
-ghost use Rattle.std.specs.Prelude.{◌≡◌, ◌++◌, ◌∷◌, [], All, IfOk, IsTrue, List, OnOk};
-ghost use Rattle.ksql_types.specs.declared.relation.Format.TheVariants.{Json};
+ghost use Rattle.std.specs.Prelude.{◌++◌, ◌∷◌, [], All, IfOk, List, OnOk};
 ghost use Rattle.ksql_program.specs.declared.program.Item.{Item as OneItem};
-ghost use Rattle.query_meaning.specs.Built.{AreBuilt, is_built};
 ghost use Rattle.feed_laws.specs.Fitting.{AreFilesOf, IsFedOf};
 
 use crate::fault::Fault;
@@ -18,7 +16,6 @@ pub(crate) fn files_of(
     items: &[Item],
     texts: &[&str],
 ) -> Result<Vec<TopicLines>, Fault>
-    requires { AreBuilt items.now }
     ensures { IfOk result (λ files. AreFilesOf items.now files.items) }
 {
     let mut files = Vec::new(alloc);
@@ -35,7 +32,6 @@ fn push_file(
     item: &Item,
     texts: &[&str],
 ) -> Result<(), Fault>
-    requires { IsTrue (is_built item.now) }
     ensures { OnOk result ((before : List OneItem) → AreFilesOf before files.old.items → AreFilesOf (before ++ item.now ∷ []) files.new.items) }
 {
     match item {
@@ -51,7 +47,6 @@ fn push_file(
 
 /// The records of a relation's topic file.
 fn file_of(alloc: Global, relation: &Relation, text: &str) -> Result<TopicLines, Fault>
-    requires { relation.now.format ≡ Json }
     ensures { IfOk result (λ file. All (IsFedOf relation.now) file.feds) }
 {
     let room = Room {

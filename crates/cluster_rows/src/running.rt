@@ -1,7 +1,6 @@
 //! A run of a script: its program on a cluster that takes steps.
 ghost use Rattle.std.specs.Prelude.{◌≡◌, All, IfOk};
 ghost use Rattle.ksql_program.specs.Sound.{IsSound};
-ghost use Rattle.query_meaning.specs.Built.{AreBuilt};
 ghost use Rattle.topology.specs.Topologies.{topology_of};
 ghost use Rattle.topic_log.specs.Shelves.{topics_of};
 ghost use Rattle.cluster_core.specs.Cluster.{IsBuilt};
@@ -67,7 +66,6 @@ fn scheduled(alloc: Global, steps: Vec<Step>) -> Result<Schedule, AllocError>
 /// What the broker of a program's cluster has.
 fn told(alloc: Global, program: &Program, cluster: Cluster) -> Result<Ran, AllocError>
     requires sound { IsSound program.now.items }
-    requires built { AreBuilt program.now.items }
     requires topology { cluster.topology ≡ topology_of program.now.items }
     requires topics { topics_of cluster.broker ≡ (topology_of program.now.items).topics }
     ensures cluster { IfOk result (λ ran. ran.cluster ≡ cluster) }

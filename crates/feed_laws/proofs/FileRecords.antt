@@ -21,6 +21,8 @@ use Rattle.serde_json.specs.Find.{as_bool, as_object, as_str, get, get_member}
 use Rattle.serde_json.specs.Read.{read}
 use Rattle.ksql_types.specs.Key.{IsKey}
 use Rattle.ksql_types.specs.declared.relation.Column.{Column}
+use Rattle.ksql_types.specs.declared.relation.Format.{Format}
+use Rattle.ksql_types.specs.declared.relation.Format.TheVariants.{Json, Delimited}
 use Rattle.ksql_types.specs.declared.relation.Relation.{Relation}
 use Rattle.ksql_types.specs.declared.value.SqlType.{SqlType}
 use Rattle.ksql_types.specs.declared.value.SqlType.TheVariants as types
@@ -28,13 +30,13 @@ use Rattle.ksql_types.specs.declared.value.Value.{Value}
 use Rattle.ksql_types.specs.declared.value.Value.TheVariants as values
 use Rattle.ksql_types.specs.Text.{longest_value}
 use Rattle.ksql_place.specs.declared.change.Decoded.{Decoded}
-use Rattle.ksql_place.specs.declared.change.Decoded.TheVariants.{Good, Skipped}
 use Rattle.meaning_laws.specs.Bounds.{IsDecodedOf, IsKeyOf, IsOf, IsRowOf}
 use Rattle.topic_files.specs.declared.topic.Fed.{Fed}
-use Rattle.topic_files.specs.Cells.{cell, cell_of, cells, column_field, int_of, is_like, least_like, lesser, named_field, text_form, text_value, truth_text, typed, value_of_type}
+use Rattle.topic_files.specs.Cells.{as_int, cell, cell_of, cells, column_field, int_of, is_like, least_like, lesser, named_field, text_form, text_value, truth_text, typed, value_of_type}
+use Rattle.topic_files.specs.Delimited.{as_big, field_value as field_cell, fields_of, row_of, text_row, truth_in, whole, written}
 use Rattle.topic_files.specs.File.{feds_of, topic_lines}
 use Rattle.topic_files.specs.Lines.{lines_of, record_lines}
-use Rattle.topic_files.specs.Record.{decoded, fed_of, fed_of_data, field_value, key_of, keyed, object_row, record_at}
+use Rattle.topic_files.specs.Record.{delimited_row, fed_of, fed_of_data, field_value, good_row, key_of, keyed, object_row, record_at, row_in}
 use Rattle.topic_files.specs.TopicLine.{as_time, data_of, is_key, is_value, last_time, present, time_of, topic_time, unless_null, whole_number}
 use Rattle.storing_laws.specs.Short.{HoldsInDecoded, IsProper}
 use Rattle.feed_laws.specs.Fitting.{IsFedOf}
@@ -214,8 +216,6 @@ fits-cells (c ∷ cs) d is =
     (λ value fits. onto (λ more. value ∷ more) (FitsRow cs) (FitsRow (c ∷ cs)) (λ more rest. ((fits.0, rest.0), (fits.1, rest.1))) (cells cs d) (fits-cells cs d is))
     (cell c d) (fits-cell c d is)
 
--- ---- records
-
 fits-object : (cs : List Column) (d : Data) → IsTextData d → IfSome (object_row cs d) (FitsRow cs)
 fits-object cs d is = by (is_some (as_object d))
   where
@@ -223,24 +223,59 @@ fits-object cs d is = by (is_some (as_object d))
     by true = fits-cells cs d is
     by false = tt
 
+-- the value that a field writes
+fits-written : (ty : SqlType) (field : List ℕ) → IsUtf8 field → IfSome (written ty field) (FitsType ty)
+fits-written types.Int field utf8 =
+    onto values.Int (λ n. Unit {0}) (FitsType types.Int) (λ n _. (refl, (tt, tt))) (option_and_then as_int (whole field)) (anything (option_and_then as_int (whole field)))
+fits-written types.Big field utf8 =
+    onto values.Big (λ n. Unit {0}) (FitsType types.Big) (λ n _. (refl, (tt, tt))) (option_and_then as_big (whole field)) (anything (option_and_then as_big (whole field)))
+fits-written types.Text field utf8 = weaker (FitsKey types.Text) (FitsType types.Text) (λ v fits. fits.0) (text_value field) (fits-text field utf8)
+fits-written types.Bool field utf8 = onto values.Bool (λ b. Unit {0}) (FitsType types.Bool) (λ b _. (refl, (tt, tt))) (truth_in field) (anything (truth_in field))
+
+fits-field_cell : (ty : SqlType) (field : List ℕ) → IfSome (field_cell ty field) (FitsType ty)
+fits-field_cell ty field = by (length field == 0) (full (is_utf8 field) refl)
+  where
+    full : (b : Bool) → is_utf8 field ≡ b → IfSome (if b then written ty field else None) (FitsType ty)
+    full true is = fits-written ty field (IsUtf8-from_is_utf8 field is)
+    full false is = tt
+
+    by : (b : Bool) → IfSome (if is_utf8 field then written ty field else None) (FitsType ty) →
+        IfSome (if b then Some values.Null else (if is_utf8 field then written ty field else None)) (FitsType ty)
+    by true fits = fits-null ty
+    by false fits = fits
+
+fits-fields : (cs : List Column) (fields : List (List ℕ)) → IfSome (row_of cs fields) (FitsRow cs)
+fits-fields [] [] = (tt, tt)
+fits-fields [] (field ∷ fields) = tt
+fits-fields (c ∷ cs) [] = tt
+fits-fields (c ∷ cs) (field ∷ fields) =
+    onward (λ value. option_map (λ more. value ∷ more) (row_of cs fields)) (FitsType c.ty) (FitsRow (c ∷ cs))
+    (λ value fits. onto (λ more. value ∷ more) (FitsRow cs) (FitsRow (c ∷ cs)) (λ more rest. ((fits.0, rest.0), (fits.1, rest.1))) (row_of cs fields) (fits-fields cs fields))
+    (field_cell c.ty field) (fits-field_cell c.ty field)
+
+fits-text_row : (cs : List Column) (text : List ℕ) → IfSome (text_row cs text) (FitsRow cs)
+fits-text_row cs text = onward (row_of cs) (λ _. Unit {0}) (FitsRow cs) (λ fields _. fits-fields cs fields) (fields_of text) (anything (fields_of text))
+
+fits-delimited : (cs : List Column) (d : Data) → IfSome (delimited_row cs d) (FitsRow cs)
+fits-delimited cs d = onward (text_row cs) (λ _. Unit {0}) (FitsRow cs) (λ text _. fits-text_row cs text) (as_str d) (anything (as_str d))
+
+fits-row : (format : Format) (cs : List Column) (d : Data) → IsTextData d → IfSome (row_in format cs d) (FitsRow cs)
+fits-row Json cs d is = fits-object cs d is
+fits-row Delimited cs d is = fits-delimited cs d
+
+-- ---- records
+
 -- a decoded value with a row of columns, if it has one
 abbrev FitsDecoded : List Column → Decoded → Type 0
 FitsDecoded cs v = IsDecodedOf cs v × HoldsInDecoded IsProper v
 
-abbrev good : Option (List Value) → Decoded
-good (Some row) = Good row
-good None = Skipped
+fits-good : (cs : List Column) (o : Option (List Value)) → IfSome o (FitsRow cs) → FitsDecoded cs (good_row o)
+fits-good cs (Some row) fits = (fits.0, All-from_recursion IsProper row fits.1)
+fits-good cs None fits = (tt, tt)
 
-fits-decoded : (cs : List Column) (d : Data) → IsTextData d → FitsDecoded cs (decoded cs d)
-fits-decoded cs d is = by (object_row cs d) (fits-object cs d is)
-  where
-    by : (o : Option (List Value)) → IfSome o (FitsRow cs) → FitsDecoded cs (good o)
-    by (Some row) fits = (fits.0, All-from_recursion IsProper row fits.1)
-    by None fits = (tt, tt)
-
-fits-field : (cs : List Column) (o : Option Data) → IfSome o IsTextData → FitsDecoded cs (field_value cs o)
-fits-field cs None is = (tt, tt)
-fits-field cs (Some d) is = fits-decoded cs d is
+fits-field : (r : Relation) (o : Option Data) → IfSome o IsTextData → FitsDecoded r.schema.values (field_value r o)
+fits-field r None is = (tt, tt)
+fits-field r (Some d) is = fits-good r.schema.values (row_in r.format r.schema.values d) (fits-row r.format r.schema.values d is)
 
 -- a key of columns, with proper values
 abbrev FitsKeys : List Column → List Value → Type 0
@@ -277,11 +312,11 @@ low-topic_time d = by (is_key (present (codes "k") d) && is_value (present (code
         (anything (option_and_then whole_number (get (codes "t") d)))
     by false = tt
 
-fits-data : (r : Relation) (d : Data) → IsTextData d → IfSome (fed_of_data r.schema d) (IsFedOf r)
+fits-data : (r : Relation) (d : Data) → IsTextData d → IfSome (fed_of_data r d) (IsFedOf r)
 fits-data r d is =
-    onto (record_at r.schema d) (λ t. t ≤ 2 ^ 53) (IsFedOf r)
-    (λ time low. fits-keyed r time (field_value r.schema.values (present (codes "v") d)) (key_of r.schema.keys (present (codes "k") d)) low
-    (fits-field r.schema.values (present (codes "v") d) (text-present (codes "v") d is)) (fits-key r.schema.keys (present (codes "k") d) (text-present (codes "k") d is)))
+    onto (record_at r d) (λ t. t ≤ 2 ^ 53) (IsFedOf r)
+    (λ time low. fits-keyed r time (field_value r (present (codes "v") d)) (key_of r.schema.keys (present (codes "k") d)) low
+    (fits-field r (present (codes "v") d) (text-present (codes "v") d is)) (fits-key r.schema.keys (present (codes "k") d) (text-present (codes "k") d is)))
     (topic_time d) (low-topic_time d)
 
 text-line : (line : List ℕ) → IfSome (data_of line) IsTextData
@@ -291,18 +326,18 @@ text-line line = by (is_utf8 line) refl
     by true is = text-read line (IsUtf8-from_is_utf8 line is)
     by false is = tt
 
-fits-line : (r : Relation) (line : List ℕ) → IfSome (fed_of r.schema line) (IsFedOf r)
-fits-line r line = onward (fed_of_data r.schema) IsTextData (IsFedOf r) (λ d is. fits-data r d is) (data_of line) (text-line line)
+fits-line : (r : Relation) (line : List ℕ) → IfSome (fed_of r line) (IsFedOf r)
+fits-line r line = onward (fed_of_data r) IsTextData (IsFedOf r) (λ d is. fits-data r d is) (data_of line) (text-line line)
 
-fits-lines : (r : Relation) (lines : List (List ℕ)) → AllByRecursion (IsFedOf r) (filter_map (fed_of r.schema) lines)
+fits-lines : (r : Relation) (lines : List (List ℕ)) → AllByRecursion (IsFedOf r) (filter_map (fed_of r) lines)
 fits-lines r [] = tt
-fits-lines r (line ∷ lines) = by (fed_of r.schema line) (fits-line r line) (fits-lines r lines)
+fits-lines r (line ∷ lines) = by (fed_of r line) (fits-line r line) (fits-lines r lines)
   where
-    by : (o : Option Fed) → IfSome o (IsFedOf r) → AllByRecursion (IsFedOf r) (filter_map (fed_of r.schema) lines) →
-        AllByRecursion (IsFedOf r) (cons_option o (filter_map (fed_of r.schema) lines))
+    by : (o : Option Fed) → IfSome o (IsFedOf r) → AllByRecursion (IsFedOf r) (filter_map (fed_of r) lines) →
+        AllByRecursion (IsFedOf r) (cons_option o (filter_map (fed_of r) lines))
     by None fits rest = rest
     by (Some fed) fits rest = (fits, rest)
 
 -- the records of a file fit
 pub fits-file : (r : Relation) (file : List ℕ) → All (IsFedOf r) (topic_lines r file).feds
-fits-file r file = All-from_recursion (IsFedOf r) (feds_of r.schema (lines_of file)) (fits-lines r (record_lines (lines_of file)))
+fits-file r file = All-from_recursion (IsFedOf r) (feds_of r (lines_of file)) (fits-lines r (record_lines (lines_of file)))

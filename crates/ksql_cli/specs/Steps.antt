@@ -1,7 +1,6 @@
 -- What the steps of a command say of the files that they read.
 use Rattle.std.specs.Prelude.{◌≡◌, ◌⊎◌, ◌≤◌, ℕ, List, [], ◌∷◌, ◌++◌, length, Some}
 use Rattle.std.specs.List.{AllByRecursion}
-use Rattle.ksql_types.specs.declared.relation.Format.TheVariants.{Json}
 use Rattle.ksql_types.specs.declared.relation.Relation.{Relation}
 use Rattle.ksql_outside.specs.Outside.{read_bytes, JoinedLast}
 use Rattle.topic_files.specs.declared.topic.Room.{Room}
@@ -16,7 +15,6 @@ longest_topic = 249
 
 -- a relation whose topic file can be read and fed
 pub record IsFeedable (relation : Relation) : Type 0 where
-  pub json : relation.format ≡ Json
   pub short : length relation.topic ≤ longest_topic
   pub some : 1 ≤ relation.partitions
   pub few : relation.partitions ≤ 64

@@ -2,7 +2,6 @@ ghost use Rattle.std.specs.Prelude.{◌≡◌, ◌≤◌, All, IfErr, IfOk, IfSo
 ghost use Rattle.ksql_outside.specs.Outside.{MayJoin};
 ghost use Rattle.ksql_words.specs.Words.{longest_word};
 ghost use Rattle.ksql_program.specs.Sound.{IsSound};
-ghost use Rattle.query_meaning.specs.Built.{AreBuilt};
 ghost use Rattle.topic_files.specs.declared.topic.TopicLines.{TopicLines as OneFile};
 ghost use Rattle.feed_laws.specs.Fitting.{AreFilesOf};
 ghost use Rattle.cluster_core.specs.Cluster.{HasCome, IsBuilt};
@@ -37,7 +36,6 @@ pub(crate) struct Ran {
 pub(crate) fn run<F: Folder>(alloc: Global, asked: &Asked, folder: &mut F) -> Result<Ran, Status>
     requires short { HasShortNames asked.now }
     ensures sound { IfOk result (λ ran. IsSound ran.program.items) }
-    ensures built { IfOk result (λ ran. AreBuilt ran.program.items) }
     ensures came { IfOk result (λ ran. (files : List OneFile) × HasRun (run_of asked.now ran files) ran.cluster) }
     ensures runs { IfOk result (λ ran. IfSome (F.files folder.old)
         (λ all. (files : List OneFile) × Runs asked.now all (run_of asked.now ran files) × HasRun (run_of asked.now ran files) ran.cluster)) }
@@ -85,7 +83,6 @@ pub(crate) fn accepted_program<F: Folder>(
     requires { length name.now ≤ longest_word }
     ensures read { IfOk result (λ program. IfSome (F.files folder.old) (λ all. IsProgramRead name.now all program)) }
     ensures sound { IfOk result (λ program. IsSound program.items) }
-    ensures built { IfOk result (λ program. AreBuilt program.items) }
     ensures cause { IfErr result (λ status. IfSome (F.files folder.old)
         (λ all. IsScriptFailure name.now all (F.failed folder.old) (F.failed folder.new) status)) }
     ensures refusal { IfErr result IsRunRefusal }

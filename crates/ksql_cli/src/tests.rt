@@ -8,6 +8,7 @@ use ksql_types::{Bytes, Chars, Items, Word, Words};
 use std::alloc::{AllocError, Global};
 use std::test::Fail;
 
+mod delimited;
 mod schedules;
 mod tables;
 mod values;
@@ -413,24 +414,6 @@ fn records_are_taken_in_their_order(rt: HostRuntime) -> Result<(), Fail> {
         let (code, written) = run_on(&rt, alloc, script.as_bytes(), s_lines, k_lines)?;
         assert_eq!(rt; written.as_slice(), wanted.as_bytes());
         assert_eq!(rt; code, status);
-    }
-    Ok(())
-}
-
-#[test]
-fn forms_that_are_not_run_are_refused(rt: HostRuntime) -> Result<(), Fail> {
-    let alloc = rt.alloc();
-    for statement in [
-        "CREATE STREAM D (A VARCHAR) WITH (KAFKA_TOPIC='d', VALUE_FORMAT='DELIMITED');",
-        "CREATE STREAM D WITH (VALUE_FORMAT='DELIMITED') AS SELECT * FROM S;",
-    ] {
-        let script = format!(in alloc; "{STREAM}{statement}")?;
-        let (code, written) = run_on(&rt, alloc, script.as_str().as_bytes(), "", "")?;
-        assert_eq!(rt;
-            written.as_slice(),
-            b"ksql: script statement 2: S15 Unsupported\n".as_slice()
-        );
-        assert_eq!(rt; code, 3);
     }
     Ok(())
 }

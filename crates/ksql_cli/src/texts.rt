@@ -5,7 +5,6 @@ ghost use Rattle.ksql_outside.specs.Outside.{MayJoin};
 ghost use Rattle.ksql_words.specs.Words.{longest_word};
 ghost use Rattle.ksql_program.specs.Sound.{IsSound};
 ghost use Rattle.ksql_program.specs.declared.program.Program.{Program as OneProgram};
-ghost use Rattle.query_meaning.specs.Built.{AreBuilt};
 ghost use Rattle.topology.specs.Topologies.{topology_of};
 ghost use Rattle.topology_build.specs.Text.{topology_text};
 ghost use Rattle.ksql_cli.specs.Command.{ExplainCause, IsProgramRead, RunCause, Runs, demo_asked, demo_files};
@@ -68,7 +67,6 @@ pub(crate) fn reported<F: Folder>(
 /// The report of a run, with its trace or without.
 fn report(alloc: Global, trace: bool, ran: &Ran) -> Result<Vec<u8>, AllocError>
     requires sound { IsSound ran.now.program.items }
-    requires built { AreBuilt ran.now.program.items }
     requires came { (run : Run) × (run.program ≡ ran.now.program) × HasRun run ran.now.cluster }
     ensures { IfOk result (λ text. (run : Run) → run.program ≡ ran.now.program → run.steps ≡ ran.now.schedule.steps → run.trace ≡ trace →
         HasRun run ran.now.cluster → text.items ≡ report_of run) }

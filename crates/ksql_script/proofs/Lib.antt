@@ -1,5 +1,4 @@
 pub mod OneScript
-pub mod Readings
 pub mod SomeCuts
 pub mod SomePlaces
 pub mod SomeTokens

@@ -1,7 +1,5 @@
 -- A script is accepted as one program or has one refusal, and not both.
-use Rattle.std.proofs.Common.{◌≡◌, ◌∙◌, ap, sym, subst, ℕ, List, ◌≤◌, ◌<◌, length, inl, inr, arith}
-use Rattle.std.specs.Prelude.{None, Some}
-use Rattle.std.proofs.lemmas.Option.{same_Some}
+use Rattle.std.proofs.Common.{◌≡◌, ◌∙◌, sym, subst, ℕ, List, ◌≤◌, ◌<◌, length, inl, inr, arith}
 use Rattle.ksql_types.specs.Text.{longest_text}
 use Rattle.ksql_types.specs.declared.code.Code.{Code}
 use Rattle.ksql_lexer.specs.declared.token.Token.{Token}
@@ -14,27 +12,12 @@ use Rattle.ksql_parser.proofs.OneTree.{one_tree}
 use Rattle.ksql_parser.proofs.Settling.{one_list_from, one_refusal as one_rule, not_both as tree_or_rule}
 use Rattle.ksql_program.specs.declared.program.Item.{Item}
 use Rattle.ksql_program.specs.declared.program.Program.{Program}
-use Rattle.ksql_analyse.specs.Judgement.{IsProgramOf}
+use Rattle.ksql_analyse.specs.Judgement.{AreRefused, IsProgramOf}
 use Rattle.ksql_analyse.proofs.Unique.{unique-program as one_items, unique-refusal as one_code, not-both as program_or_code}
-use Rattle.query_meaning.specs.Built.{first_unbuilt}
-use Rattle.ksql_script.specs.Script.{AreRefusedTrees, IsAccepted, IsRefused, IsRefusedBytes, IsRefusedText, IsRefusedTokens, IsScriptOf}
+use Rattle.ksql_script.specs.Script.{IsAccepted, IsRefused, IsRefusedBytes, IsRefusedText, IsRefusedTokens, IsScriptOf}
 
 apart : (n m : ℕ) → m < n → n ≤ m → ⊥
 apart n m above below = omega arith
-
-some_none : {A : Type 0} (x : A) → Some x ≡ None → ⊥
-some_none x e = cc (e)
-
--- statements that are all run aren't refused at one that isn't
-run_or_not : (a b : List Item) (n : ℕ) → a ≡ b → first_unbuilt a ≡ None → first_unbuilt b ≡ Some n → ⊥
-run_or_not a b n same none some = some_none n (sym some ∙ ap first_unbuilt (sym same) ∙ none)
-
-once_trees : (sts : List Statement) (s t : ℕ) (c d : Code) → AreRefusedTrees sts s c → AreRefusedTrees sts t d → (s ≡ t) × (c ≡ d)
-once_trees sts s t c d (inl a) (inl b) = one_code sts s t c d a b
-once_trees sts s t c d (inl a) (inr b) = absurd (program_or_code sts b.0 s c b.1 a)
-once_trees sts s t c d (inr a) (inl b) = absurd (program_or_code sts a.0 t d a.1 b)
-once_trees sts s t c d (inr a) (inr b) =
-    (same_Some s t (sym a.2 ∙ ap first_unbuilt (one_items sts a.0 b.0 a.1 b.1) ∙ b.2), a.3 ∙ sym b.3)
 
 one_trees : (tss : List (List TokenKind)) (a b : List Statement) → AreTrees tss a → AreTrees tss b → a ≡ b
 one_trees = one_list_from one_tree
@@ -44,7 +27,7 @@ once_tokens ts s t c d (inl a) (inl b) = one_rule (statements ts) s t c d a b
 once_tokens ts s t c d (inl a) (inr b) = absurd (tree_or_rule (statements ts) b.0 s c b.1 a)
 once_tokens ts s t c d (inr a) (inl b) = absurd (tree_or_rule (statements ts) a.0 t d a.1 b)
 once_tokens ts s t c d (inr a) (inr b) =
-    once_trees b.0 s t c d (subst (λ (sts : List Statement). AreRefusedTrees sts s c) (one_trees (statements ts) a.0 b.0 a.1 b.1) a.2) b.2
+    one_code b.0 s t c d (subst (λ (sts : List Statement). AreRefused sts s c) (one_trees (statements ts) a.0 b.0 a.1 b.1) a.2) b.2
 
 once_text : (text : List ℕ) (s t : ℕ) (c d : Code) → IsRefusedText text s c → IsRefusedText text t d → (s ≡ t) × (c ≡ d)
 once_text text s t c d (inl a) (inl b) = (one_fault text s t a.0 b.0, a.1 ∙ sym b.1)
@@ -67,16 +50,11 @@ one_refusal script s t c d (inr a) (inl b) = absurd (apart (length script) longe
 one_refusal script s t c d (inr a) (inr b) = once_bytes script s t c d a.1 b.1
 
 -- and none where it is accepted
-accepted_trees : (sts : List Statement) (items : List Item) (s : ℕ) (c : Code) → IsProgramOf sts items → first_unbuilt items ≡ None →
-    AreRefusedTrees sts s c → ⊥
-accepted_trees sts items s c judged built (inl a) = program_or_code sts items s c judged a
-accepted_trees sts items s c judged built (inr a) = run_or_not items a.0 s (one_items sts items a.0 judged a.1) built a.2
-
 accepted_tokens : (script : List ℕ) (items : List Item) (s : ℕ) (c : Code) (is : IsScriptOf script items) → IsRefusedTokens (kinds is.tokens) s c → ⊥
 accepted_tokens script items s c is (inl a) = tree_or_rule (statements (kinds is.tokens)) is.trees s c is.parsed a
 accepted_tokens script items s c is (inr a) =
-    accepted_trees is.trees items s c is.judged is.built
-    (subst (λ (sts : List Statement). AreRefusedTrees sts s c) (one_trees (statements (kinds is.tokens)) a.0 is.trees a.1 is.parsed) a.2)
+    program_or_code is.trees items s c is.judged
+    (subst (λ (sts : List Statement). AreRefused sts s c) (one_trees (statements (kinds is.tokens)) a.0 is.trees a.1 is.parsed) a.2)
 
 accepted_text : (script : List ℕ) (items : List Item) (s : ℕ) (c : Code) (is : IsScriptOf script items) → IsRefusedText script s c → ⊥
 accepted_text script items s c is (inl a) = tokens_or_fault script is.tokens s is.lexed a.0

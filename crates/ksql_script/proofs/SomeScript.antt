@@ -1,22 +1,18 @@
 -- Each script is accepted, or has a refusal: by its bytes, its tokens, its trees and their judgement.
 use Rattle.std.proofs.Common.{◌≡◌, ℕ, ◌≤◌, ◌⊎◌, inl, inr, ⊎_elim, List, length, refl}
-use Rattle.std.specs.Prelude.{Option, None, Some}
 use Rattle.std.specs.Str.{IsUtf8, is_utf8}
 use Rattle.std.proofs.lemmas.Bool.{cases_lt, cases_Bool, both_ways}
 use Rattle.std.proofs.lemmas.Str.{IsUtf8-from_is_utf8, is_utf8-from_IsUtf8}
 use Rattle.ksql_types.specs.Text.{longest_text}
 use Rattle.ksql_types.specs.declared.code.Code.{Code}
-use Rattle.ksql_types.specs.declared.code.Code.TheVariants.{Syntax, TooLarge, Unsupported}
+use Rattle.ksql_types.specs.declared.code.Code.TheVariants.{Syntax, TooLarge}
 use Rattle.ksql_lexer.specs.declared.token.Token.{Token}
 use Rattle.ksql_lexer.specs.Script.{AreTokens, kinds}
 use Rattle.ksql_grammar.specs.declared.tree.Statement.{Statement}
 use Rattle.ksql_parser.specs.Script.{AreTrees, statements}
-use Rattle.ksql_program.specs.declared.program.Item.{Item}
 use Rattle.ksql_program.specs.declared.program.Program.{Program}
-use Rattle.ksql_analyse.specs.Judgement.{AreParsed, IsProgramOf}
 use Rattle.ksql_analyse.proofs.SomeJudgement.{program-or-refusal}
-use Rattle.query_meaning.specs.Built.{first_unbuilt}
-use Rattle.ksql_script.specs.Script.{AreRefusedTrees, IsAccepted, IsRefused, IsRefusedText}
+use Rattle.ksql_script.specs.Script.{IsAccepted, IsRefused, IsRefusedText}
 use Rattle.ksql_script.proofs.SomeTokens.{some_tokens}
 use Rattle.ksql_script.proofs.SomeTrees.{some_trees}
 
@@ -24,23 +20,13 @@ use Rattle.ksql_script.proofs.SomeTrees.{some_trees}
 abbrev IsAnswered : List ℕ → (ℕ → Code → Type 0) → Type 0
 IsAnswered script refused = ((p : Program) × IsAccepted script p) ⊎ ((s : ℕ) × (c : Code) × refused s c)
 
--- the program, each of whose forms is run, or a refusal
-some_program : (sts : List Statement) → AreParsed sts
-    → ((items : List Item) × IsProgramOf sts items × (first_unbuilt items ≡ None)) ⊎ ((s : ℕ) × (c : Code) × AreRefusedTrees sts s c)
-some_program sts parsed = ⊎_elim (λ p. built p.0 p.1 (first_unbuilt p.0) refl) (λ r. inr (r.0, r.1, inl r.2)) (program-or-refusal sts parsed)
-  where
-    built : (items : List Item) → IsProgramOf sts items → (o : Option ℕ) → first_unbuilt items ≡ o
-        → ((items : List Item) × IsProgramOf sts items × (first_unbuilt items ≡ None)) ⊎ ((s : ℕ) × (c : Code) × AreRefusedTrees sts s c)
-    built items judged_so None e = inl (items, judged_so, e)
-    built items judged_so (Some s) e = inr (s, Unsupported, inr (items, judged_so, e, refl))
-
 module _ (script : List ℕ) (short : length script ≤ longest_text) (utf8 : IsUtf8 script) where
   of_trees : (ts : List Token) → AreTokens script ts → (sts : List Statement) → AreTrees (statements (kinds ts)) sts → IsAnswered script (IsRefusedText script)
   of_trees ts lexed sts parsed =
       ⊎_elim
-      (λ p. inl (record { items = p.0 }, record { short = short; utf8 = utf8; tokens = ts; lexed = lexed; trees = sts; parsed = parsed; judged = p.1; built = p.2 }))
+      (λ p. inl (record { items = p.0 }, record { short = short; utf8 = utf8; tokens = ts; lexed = lexed; trees = sts; parsed = parsed; judged = p.1 }))
       (λ r. inr (r.0, r.1, inr (ts, lexed, inr (sts, parsed, r.2))))
-      (some_program sts (statements (kinds ts), parsed))
+      (program-or-refusal sts (statements (kinds ts), parsed))
 
   of_tokens : (ts : List Token) → AreTokens script ts → IsAnswered script (IsRefusedText script)
   of_tokens ts lexed =

@@ -1,9 +1,9 @@
 -- What a script is: the program that it is accepted as, or its first refusal.
-use Rattle.std.specs.Prelude.{◌≡◌, ◌⊎◌, ℕ, ◌<◌, ◌≤◌, length, List, None, Some, Result, Ok, Err}
+use Rattle.std.specs.Prelude.{◌≡◌, ◌⊎◌, ℕ, ◌<◌, ◌≤◌, length, List, Result, Ok, Err}
 use Rattle.std.specs.Str.{IsUtf8}
 use Rattle.ksql_types.specs.Text.{longest_text}
 use Rattle.ksql_types.specs.declared.code.Code.{Code}
-use Rattle.ksql_types.specs.declared.code.Code.TheVariants.{Syntax, TooLarge, Unsupported}
+use Rattle.ksql_types.specs.declared.code.Code.TheVariants.{Syntax, TooLarge}
 use Rattle.ksql_lexer.specs.declared.token.Token.{Token}
 use Rattle.ksql_lexer.specs.declared.token.TokenKind.{TokenKind}
 use Rattle.ksql_lexer.specs.Script.{AreTokens, BreaksIn, kinds}
@@ -12,21 +12,15 @@ use Rattle.ksql_parser.specs.Script.{AreTrees, FirstRefused, statements}
 use Rattle.ksql_program.specs.declared.program.Item.{Item}
 use Rattle.ksql_program.specs.declared.program.Program.{Program}
 use Rattle.ksql_analyse.specs.Judgement.{IsProgramOf, AreRefused}
-use Rattle.query_meaning.specs.Built.{first_unbuilt}
 use Rattle.ksql_script.specs.declared.fault.ScriptFault.{ScriptFault}
 use Rattle.ksql_script.specs.declared.fault.ScriptFault.TheVariants.{Refused, OutOfMemory}
 
--- Statements are refused: by the judgement, or else at the first of them whose form isn't run as yet.
-abbrev pub AreRefusedTrees : List Statement → ℕ → Code → Type 0
-AreRefusedTrees trees statement code =
-    AreRefused trees statement code
-    ⊎ ((items : List Item) × IsProgramOf trees items × (first_unbuilt items ≡ Some statement) × (code ≡ Unsupported))
-
--- Tokens are refused: by the first statement that a rule of the grammar refuses, or else as the statements that they are.
+-- Tokens are refused: by the first statement that a rule of the grammar refuses, or else as the judgement refuses the statements
+-- that they are.
 abbrev pub IsRefusedTokens : List TokenKind → ℕ → Code → Type 0
 IsRefusedTokens ts statement code =
     FirstRefused (statements ts) statement code
-    ⊎ ((trees : List Statement) × AreTrees (statements ts) trees × AreRefusedTrees trees statement code)
+    ⊎ ((trees : List Statement) × AreTrees (statements ts) trees × AreRefused trees statement code)
 
 -- A text is refused: at its first place where no token begins, or else as its tokens are.
 abbrev pub IsRefusedText : List ℕ → ℕ → Code → Type 0
@@ -44,7 +38,7 @@ IsRefused script statement code =
     ((longest_text < length script) × (statement ≡ 0) × (code ≡ TooLarge))
     ⊎ ((length script ≤ longest_text) × IsRefusedBytes script statement code)
 
--- a script is accepted, as a program of these items: no step refuses it, and each of its forms is run
+-- a script is accepted, as a program of these items: no step refuses it
 pub record IsScriptOf (script : List ℕ) (items : List Item) : Type 0 where
   pub short : length script ≤ longest_text
   pub utf8 : IsUtf8 script
@@ -53,7 +47,6 @@ pub record IsScriptOf (script : List ℕ) (items : List Item) : Type 0 where
   pub trees : List Statement
   pub parsed : AreTrees (statements (kinds tokens)) trees
   pub judged : IsProgramOf trees items
-  pub built : first_unbuilt items ≡ None
 
 -- the script is accepted, and this is its program
 abbrev pub IsAccepted : List ℕ → Program → Type 0

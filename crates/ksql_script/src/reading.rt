@@ -5,7 +5,7 @@ ghost use Rattle.ksql_parser.specs.Script.{AreOfText};
 ghost use Rattle.ksql_analyse.specs.Judgement.{AreParsed};
 ghost use Rattle.ksql_lexer.specs.Script.{kinds};
 ghost use Rattle.ksql_script.specs.Script.{IsAnswer};
-ghost use Rattle.ksql_script.specs.Steps.{IsProgramAnswer, IsTextAnswer, IsTokensAnswer, IsTreesAnswer};
+ghost use Rattle.ksql_script.specs.Steps.{IsTextAnswer, IsTokensAnswer, IsTreesAnswer};
 
 use crate::fault::ScriptFault;
 use ksql_analyse::{AnalyseFault, analyse};
@@ -14,15 +14,13 @@ use ksql_lexer::{LexFault, Token, tokens};
 use ksql_parser::{ParseFault, parse};
 use ksql_program::Program;
 use ksql_types::Code;
-use query_meaning::first_unbuilt;
 use std::alloc::Global;
 use std::str;
 
 /// The most bytes of a script.
 const LONGEST_SCRIPT: usize = 1_048_576;
 
-/// The program that a script is accepted as, or its first refusal. Each form of the program is run. `OutOfMemory` says
-/// nothing of the script.
+/// The program that a script is accepted as, or its first refusal. `OutOfMemory` says nothing of the script.
 #[tactic(auto, unfolding(ksql_types::specs::Text::longest_text))]
 pub fn program_of_script(alloc: Global, script: &[u8]) -> Result<Program, ScriptFault>
     ensures answer { IsAnswer script.now result }
@@ -77,19 +75,8 @@ fn program_of_trees(alloc: Global, trees: &[Statement]) -> Result<Program, Scrip
     ensures sound { IfOk result (λ program. IsSound program.items) }
 {
     match analyse(alloc, trees) {
-        Ok(program) => run_program(program),
+        Ok(program) => Ok(program),
         Err(AnalyseFault::Refused { statement, code }) => Err(refused(statement, code)),
         Err(AnalyseFault::OutOfMemory) => Err(ScriptFault::OutOfMemory),
-    }
-}
-
-/// A program each of whose forms is run.
-fn run_program(program: Program) -> Result<Program, ScriptFault>
-    requires { IsSound program.items }
-    ensures { IsProgramAnswer program result }
-{
-    match first_unbuilt(&program) {
-        None => Ok(program),
-        Some(statement) => Err(refused(statement as u32, Code::Unsupported)),
     }
 }

@@ -47,7 +47,7 @@ demo_of rows = asked.Demo (number_of (codes "records") rows) (number_of (codes "
 
 -- ---- what words ask for
 
--- the kinds of fault are none
+-- whether words have no fault
 abbrev pub is_faultless : Kinds → Bool
 is_faultless [] = true
 is_faultless (kind ∷ kinds) = false
@@ -64,14 +64,16 @@ named (name ∷ words) =
     else (if bytes_eq name (codes "explain") then accepted explain_app explain_of (name ∷ words)
     else (if bytes_eq name (codes "demo") then accepted demo_app demo_of (name ∷ words) else None))
 
--- what the words ask for, the program's name first, if they are a command and each has at most 4,096 bytes
+-- what the words after the program's name ask for
 abbrev pub after_program : List Text → Option Command
 after_program [] = None
 after_program (program ∷ words) = named words
 
+-- whether each word has at most 4,096 bytes
 abbrev pub are_short : List Text → Bool
 are_short words = list_all (λ word. nat_le (length word) longest_word) words
 
+-- what the words ask for, the program's name first, if they are a command and each is short
 abbrev pub command_of : List Text → Option Command
 command_of words = if are_short words then after_program words else None
 

@@ -1,4 +1,4 @@
 pub mod ChangeByChange
-pub mod EachBuilt
+pub mod DeclaredChanges
 pub mod EachWindowless
 pub mod QuerySteps

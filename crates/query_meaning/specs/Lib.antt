@@ -1,4 +1,3 @@
-pub mod Built
 pub mod Meaning
 pub mod Plain
 pub mod Queries

@@ -1,14 +1,12 @@
 //! What queries mean: the changes of each relation of a program.
 #![tactic(auto)]
 
-mod built;
 mod meaning;
 mod plain;
 mod queries;
 mod steps;
 mod windowless;
 
-pub use built::first_unbuilt;
 pub use ksql_nodes::{Node, Nodes, Side};
 pub use ksql_program::{
     Agg, Aggs, From, Item, JoinKind, Program, ProgramItems, Query, Shape, relation_of,

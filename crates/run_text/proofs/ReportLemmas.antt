@@ -1,11 +1,12 @@
 -- Lemmas on the texts of a report.
 use Rattle.std.proofs.Common.{◌≡◌, ◌∙◌, ℕ, ◌+◌, ◌<◌, zero, suc, List, [], ◌∷◌, ◌++◌, length, get_or, take, refl, ap, sym, append_assoc, add-one, arith, Bool, true, false, cond, map}
-use Rattle.std.specs.Prelude.{count_by, filter, nat_le, ◌&&◌, Option, None, Some, option_map, unwrap_or, slice_get}
+use Rattle.std.specs.Prelude.{count_by, filter, flat_map, nat_le, ◌&&◌, Option, None, Some, option_map, unwrap_or, slice_get}
 use Rattle.std.proofs.lemmas.List.Sums.{length-filter}
 use Rattle.std.proofs.lemmas.Option.{slice_get-map}
 use Rattle.ksql_types.specs.declared.relation.Kind.{Kind}
 use Rattle.ksql_types.specs.declared.relation.Kind.TheVariants.{Stream, Table, Windowed}
 use Rattle.ksql_types.specs.declared.relation.Relation.{Relation}
+use Rattle.ksql_types.specs.declared.value.Value.{Value}
 use Rattle.ksql_place.specs.Said.{is_skipped}
 use Rattle.ksql_place.specs.declared.change.Change.{Change}
 use Rattle.ksql_place.specs.declared.change.SourceRecord.{SourceRecord}
@@ -21,6 +22,11 @@ use Rattle.run_text.specs.Report.{closed_at, count_text, meant, rows_of, section
 
 -- one text after another, in any grouping
 pub ruleset appends = (append_assoc)
+
+-- lines are equal where they print each row equally
+pub lines-by : (line : (List Value → List ℕ) → Shown → List ℕ) (f g : List Value → List ℕ) → ((row : List Value) → f row ≡ g row) →
+    (shown : List Shown) → flat_map (line f) shown ≡ flat_map (line g) shown
+lines-by line f g same shown = ap (λ (print : List Value → List ℕ). flat_map (line print) shown) (λ i row. same row i)
 
 -- what is shown of one relation
 abbrev pub one_section : List ℕ → List SourceRecord → List (List Change) → Relation → Section

@@ -1,12 +1,11 @@
--- The lines of a report on records and changes.
+-- The lines of a report on records and changes. `print` gives the text of a row.
 use Rattle.std.specs.Prelude.{ℕ, List, [], ◌∷◌, ◌++◌, map, codes, decimal, Option, Some, None}
 use Rattle.ksql_types.specs.declared.value.Value.{Value}
-use Rattle.ksql_types.specs.declared.relation.Column.{Column}
 use Rattle.ksql_types.specs.declared.relation.Span.{Span}
 use Rattle.ksql_place.specs.Said.{row_in}
 use Rattle.ksql_place.specs.declared.change.Change.{Change}
 use Rattle.ksql_place.specs.declared.change.SourceRecord.{SourceRecord}
-use Rattle.topic_files.specs.Printed.{comma_joined, object_text, printed}
+use Rattle.topic_files.specs.Printed.{comma_joined, printed}
 
 -- values with commas between
 unfoldable pub cells_text : List Value → List ℕ
@@ -23,10 +22,10 @@ unfoldable pub span_text : Option Span → List ℕ
 span_text None = []
 span_text (Some span) = codes ",\"w\":[" ++ (decimal span.start ++ (codes "," ++ (decimal span.end ++ codes "]")))
 
--- a row of these columns, or null where there is none any more
-unfoldable pub row_text : List Column → Option (List Value) → List ℕ
-row_text columns None = codes "null"
-row_text columns (Some row) = object_text columns row
+-- a row, or null where there is none any more
+unfoldable pub row_text : (List Value → List ℕ) → Option (List Value) → List ℕ
+row_text print None = codes "null"
+row_text print (Some row) = print row
 
 -- What is shown of a change: the partition in which it stands, its time, its key and window, and the row that it leaves, where
 -- there is one.
@@ -42,21 +41,21 @@ abbrev pub shown_in : ℕ → Change → Shown
 shown_in part c = record { part = part; time = c.time; key = c.key; span = c.span; row = row_in c.body }
 
 -- time, key, window and value, up to the end of the line
-unfoldable pub fields_text : List Column → Shown → List ℕ
-fields_text columns shown =
+unfoldable pub fields_text : (List Value → List ℕ) → Shown → List ℕ
+fields_text print shown =
     codes "\"t\":" ++ (decimal shown.time
     ++ (codes ",\"k\":" ++ (key_text shown.key
     ++ (span_text shown.span
-    ++ (codes ",\"v\":" ++ (row_text columns shown.row
+    ++ (codes ",\"v\":" ++ (row_text print shown.row
     ++ codes "}\n"))))))
 
 -- the line of a change
-unfoldable pub change_line : List Column → Shown → List ℕ
-change_line columns shown = codes "{\"p\":" ++ (decimal shown.part ++ (codes "," ++ fields_text columns shown))
+unfoldable pub change_line : (List Value → List ℕ) → Shown → List ℕ
+change_line print shown = codes "{\"p\":" ++ (decimal shown.part ++ (codes "," ++ fields_text print shown))
 
 -- the line of a row that a table has
-unfoldable pub row_line : List Column → Shown → List ℕ
-row_line columns shown = codes "row {" ++ fields_text columns shown
+unfoldable pub row_line : (List Value → List ℕ) → Shown → List ℕ
+row_line print shown = codes "row {" ++ fields_text print shown
 
 -- the line of a record that was fed: feed, topic, partition, offset and time
 unfoldable pub order_line : List ℕ → SourceRecord → List ℕ

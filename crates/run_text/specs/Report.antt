@@ -1,12 +1,11 @@
 -- The report on the relations of a program, and its summary.
-use Rattle.std.specs.Prelude.{◌≡◌, ℕ, ◌≤◌, List, [], ◌∷◌, ◌++◌, length, map, filter, flat_map, count_by, codes, decimal, Bool, true, false, ◌&&◌, if◌then◌else◌, Option, None, Some, slice_get, slice_index_or, is_some}
+use Rattle.std.specs.Prelude.{ℕ, ◌≤◌, List, [], ◌∷◌, ◌++◌, length, map, filter, flat_map, count_by, codes, decimal, Bool, true, false, ◌&&◌, if◌then◌else◌, Option, None, Some, slice_get, slice_index_or, is_some}
 use Rattle.std.specs.List.{list_any}
 use Rattle.std.specs.Option.{option_cmp, option_map_or}
 use Rattle.std.specs.Cmp.Lexicographic.{slice_cmp}
 use Rattle.std.specs.declared.cmp.Ordering.{Ordering}
 use Rattle.std.specs.Ordering.{nat_cmp, ordering_then}
 use Rattle.ksql_types.specs.Order.{value_cmp}
-use Rattle.ksql_types.specs.declared.relation.Format.TheVariants.{Json}
 use Rattle.ksql_types.specs.declared.relation.Kind.{Kind}
 use Rattle.ksql_types.specs.declared.relation.Kind.TheVariants as kinds
 use Rattle.ksql_types.specs.declared.relation.Relation.{Relation}
@@ -23,13 +22,13 @@ use Rattle.ksql_nodes.specs.Entries.{is_same_key}
 use Rattle.ksql_nodes.specs.Windows.{is_same_span}
 use Rattle.query_meaning.specs.Meaning.{partition_of, up_to}
 use Rattle.query_meaning.specs.Queries.{changes_at}
+use Rattle.topic_files.specs.Printed.{value_text}
 use Rattle.run_text.specs.Printed.{change_line, order_line, row_line, shown_in, Shown}
 
--- a relation whose report is written as yet: of JSON values, of 1 to 64 partitions
+-- a relation whose report can be written: of 1 to 64 partitions
 pub record IsPrintable (relation : Relation) : Type 0 where
   pub some : 1 ≤ relation.partitions
   pub few : relation.partitions ≤ 64
-  pub json : relation.format ≡ Json
 
 -- ---- what is shown of a relation
 
@@ -134,11 +133,11 @@ head_line s =
 
 -- the lines of the rows, of a table alone
 unfoldable pub row_lines : Section → List ℕ
-row_lines s = flat_map (row_line s.relation.schema.values) (table_rows s.relation.kind s.shown)
+row_lines s = flat_map (row_line (value_text s.relation)) (table_rows s.relation.kind s.shown)
 
 -- a relation's head line, the lines of its changes and those of its rows
 unfoldable pub section_text : Section → List ℕ
-section_text s = head_line s ++ (flat_map (change_line s.relation.schema.values) s.shown ++ row_lines s)
+section_text s = head_line s ++ (flat_map (change_line (value_text s.relation)) s.shown ++ row_lines s)
 
 -- the topic's name of the relation with this number
 abbrev pub topic_name : List Relation → ℕ → List ℕ

@@ -1,15 +1,14 @@
 //! The lines of a report on records and changes.
 
-ghost use Rattle.std.specs.Prelude.{◌≡◌, ◌++◌, List, OnOk, map, option_map, string_bytes};
-ghost use Rattle.ksql_types.specs.declared.relation.Column.{Column as OneColumn};
-ghost use Rattle.topic_files.specs.Printed.{labels_of};
+ghost use Rattle.std.specs.Prelude.{◌≡◌, ◌++◌, OnOk, option_map, string_bytes};
+ghost use Rattle.topic_files.specs.Printed.{printed_by};
 ghost use Rattle.run_text.specs.Lines.{shown_of};
 ghost use Rattle.run_text.specs.Printed.{cells_text, change_line, fields_text, key_text, order_line, row_line, row_text, span_text};
 
 use ksql_place::SourceRecord;
 use ksql_types::{Span, Value};
 use std::alloc::{AllocError, Global};
-use topic_files::{push_object, push_printed};
+use topic_files::{Printer, push_printed};
 
 /// A line of a relation's section: the partition in which a change stands, its time, its key and window, and the row that
 /// it leaves, where there is one.
@@ -63,73 +62,69 @@ fn push_span(out: &mut String, span: Option<Span>) -> Result<(), AllocError>
     }
 }
 
-/// Appends a row of the columns that have these labels, or null where there is none.
+/// Appends a row, or null where there is none.
 #[tactic(auto, unfolding(crate::specs::Printed::row_text))]
 fn push_row(
     out: &mut String,
     alloc: Global,
-    labels: &[String],
+    printer: &Printer,
     row: Option<&[Value]>,
 ) -> Result<(), AllocError>
-    ensures { (columns : List OneColumn) → map string_bytes labels.now ≡ labels_of columns
-        → OnOk result (string_bytes out.new
-        ≡ string_bytes out.old ++ row_text columns (option_map (λ r. r.now) row.entry)) }
+    ensures { OnOk result (string_bytes out.new
+        ≡ string_bytes out.old ++ row_text (printed_by printer.now) (option_map (λ r. r.now) row.entry)) }
 {
     match row {
-        Some(row) => push_object(out, alloc, labels, row),
+        Some(row) => printer.push_row(out, alloc, row),
         None => out.push_str("null"),
     }
 }
 
-/// Appends time, key, window and value, up to the end of the line, where the value columns have these labels.
+/// Appends time, key, window and value, up to the end of the line.
 #[tactic(auto, using(crate::proofs::ReportLemmas::appends), unfolding(crate::specs::Printed::fields_text))]
 fn push_fields(
     out: &mut String,
     alloc: Global,
-    labels: &[String],
+    printer: &Printer,
     line: Line,
 ) -> Result<(), AllocError>
-    ensures { (columns : List OneColumn) → map string_bytes labels.now ≡ labels_of columns
-        → OnOk result (string_bytes out.new ≡ string_bytes out.old ++ fields_text columns (shown_of line.entry)) }
+    ensures { OnOk result (string_bytes out.new ≡ string_bytes out.old ++ fields_text (printed_by printer.now) (shown_of line.entry)) }
 {
     let time = line.time;
     write!(out, "\"t\":{time},\"k\":")?;
     push_key(out, alloc, line.key)?;
     push_span(out, line.span)?;
     out.push_str(",\"v\":")?;
-    push_row(out, alloc, labels, line.row)?;
+    push_row(out, alloc, printer, line.row)?;
     out.push_str("}\n")
 }
 
-/// Appends the line of a change of a relation whose value columns have these labels.
+/// Appends the line of a change of a relation whose rows this prints.
 #[tactic(auto, using(crate::proofs::ReportLemmas::appends), unfolding(crate::specs::Printed::change_line))]
 pub fn push_change(
     out: &mut String,
     alloc: Global,
-    labels: &[String],
+    printer: &Printer,
     line: Line,
 ) -> Result<(), AllocError>
-    ensures { (columns : List OneColumn) → map string_bytes labels.now ≡ labels_of columns
-        → OnOk result (string_bytes out.new ≡ string_bytes out.old ++ change_line columns (shown_of line.entry)) }
+    ensures { OnOk result (string_bytes out.new ≡ string_bytes out.old ++ change_line (printed_by printer.now) (shown_of line.entry)) }
 {
     let part = line.part;
     write!(out, "{{\"p\":{part},")?;
-    push_fields(out, alloc, labels, line)
+    push_fields(out, alloc, printer, line)
 }
 
-/// Appends the line of a row of a relation whose value columns have these labels.
+/// Appends the line of a row of a relation whose rows this prints.
 #[tactic(auto, using(crate::proofs::ReportLemmas::appends), unfolding(crate::specs::Printed::row_line))]
 pub fn push_row_line(
     out: &mut String,
     alloc: Global,
-    labels: &[String],
+    printer: &Printer,
     line: Line,
 ) -> Result<(), AllocError>
-    ensures { (columns : List OneColumn) → map string_bytes labels.now ≡ labels_of columns
-        → OnOk result (string_bytes out.new ≡ string_bytes out.old ++ row_line columns (shown_of line.entry)) }
+    ensures { OnOk result (string_bytes out.new ≡ string_bytes out.old ++ row_line (printed_by printer.now) (shown_of line.entry)) }
 {
     out.push_str("row {")?;
-    push_fields(out, alloc, labels, line)
+    push_fields(out, alloc, printer, line)
 }
 
 /// Appends the line of a record that was fed from this topic.

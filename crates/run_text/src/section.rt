@@ -1,13 +1,12 @@
 //! The lines of a relation's section, and its text.
 
 ghost use Rattle.std.specs.Prelude.{◌≡◌, ◌∷◌, ◌++◌, [], IfOk, List, OnOk, flat_map, length, map, option_map, string_bytes};
-ghost use Rattle.ksql_types.specs.declared.relation.Column.{Column as OneColumn};
 ghost use Rattle.ksql_place.specs.Said.{row_in};
 ghost use Rattle.query_meaning.specs.Plain.{changes_of, rows_said};
 ghost use Rattle.run_text.specs.Lines.{extent_text, shown_of};
 ghost use Rattle.run_text.specs.Printed.{change_line, row_line, shown_in, Shown};
 ghost use Rattle.run_text.specs.Report.{count_text, head_line, kind_text, meant, origin_text, table_rows, IsPrintable};
-ghost use Rattle.topic_files.specs.Printed.{labels_of};
+ghost use Rattle.topic_files.specs.Printed.{printed_by};
 
 use crate::printed::{Line, push_change, push_row_line};
 use crate::rows::table_rows;
@@ -15,7 +14,7 @@ use ksql_place::{Body, Change, SourceRecord, said_by};
 use ksql_types::{Kind, Relation, Row, Value, lane};
 use query_meaning::{Listed, partition_of};
 use std::alloc::{AllocError, Global};
-use topic_files::labels;
+use topic_files::Printer;
 
 /// How much is written of a section: the whole, or what a summary has of it.
 #[derive(Clone, Copy, Drop)]
@@ -157,47 +156,47 @@ pub fn push_section(
 {
     let rows = table_rows(alloc, relation.kind, lines)?;
     push_head(out, relation, closed, skipped, lines, rows.as_slice())?;
-    let labels = labels(alloc, relation.schema.values.items())?;
+    let printer = Printer::of(alloc, relation)?;
     match extent {
         Extent::Whole => {
-            push_changes(out, alloc, &labels, lines)?;
-            push_rows(out, alloc, &labels, rows.as_slice())
+            push_changes(out, alloc, &printer, lines)?;
+            push_rows(out, alloc, &printer, rows.as_slice())
         }
         Extent::Summary => match relation.kind {
-            Kind::Table => push_rows(out, alloc, &labels, rows.as_slice()),
+            Kind::Table => push_rows(out, alloc, &printer, rows.as_slice()),
             Kind::Stream | Kind::Windowed => Ok(()),
         },
     }
 }
 
-/// Appends the lines of the changes of a relation whose value columns have these labels.
+/// Appends the lines of the changes of a relation whose rows this prints.
 fn push_changes(
     out: &mut String,
     alloc: Global,
-    labels: &[String],
+    printer: &Printer,
     lines: &[Line],
 ) -> Result<(), AllocError>
-    ensures { (columns : List OneColumn) → map string_bytes labels.now ≡ labels_of columns
-        → OnOk result (string_bytes out.new ≡ string_bytes out.old ++ flat_map (change_line columns) (map shown_of lines.now)) }
+    ensures { OnOk result (string_bytes out.new
+        ≡ string_bytes out.old ++ flat_map (change_line (printed_by printer.now)) (map shown_of lines.now)) }
 {
     for line in lines {
-        push_change(out, alloc, labels, *line)?;
+        push_change(out, alloc, printer, *line)?;
     }
     Ok(())
 }
 
-/// Appends the lines of the rows of a relation whose value columns have these labels.
+/// Appends the lines of the rows of a relation whose rows this prints.
 fn push_rows(
     out: &mut String,
     alloc: Global,
-    labels: &[String],
+    printer: &Printer,
     rows: &[Line],
 ) -> Result<(), AllocError>
-    ensures { (columns : List OneColumn) → map string_bytes labels.now ≡ labels_of columns
-        → OnOk result (string_bytes out.new ≡ string_bytes out.old ++ flat_map (row_line columns) (map shown_of rows.now)) }
+    ensures { OnOk result (string_bytes out.new
+        ≡ string_bytes out.old ++ flat_map (row_line (printed_by printer.now)) (map shown_of rows.now)) }
 {
     for row in rows {
-        push_row_line(out, alloc, labels, *row)?;
+        push_row_line(out, alloc, printer, *row)?;
     }
     Ok(())
 }

@@ -1,5 +1,3 @@
-pub mod LineBytes
-pub mod LineLemmas
 pub mod Numbers
 pub mod Pairs
 pub mod Reached

@@ -7,10 +7,11 @@ use Rattle.topology.specs.declared.schedule.Step.{Step}
 use Rattle.topology.specs.declared.topology.Topology.{Topology}
 use Rattle.schedule_text.specs.declared.fault.StepWhy.{StepWhy}
 use Rattle.schedule_text.specs.declared.standing.Standing.{Standing}
-use Rattle.schedule_text.specs.Lines.{lines_of}
+use Rattle.topic_files.specs.Lines.{lines_of}
 use Rattle.schedule_text.specs.Standing.{Setting, first, most_bytes, most_rounds, read_line}
 use Rattle.schedule_text.specs.Schedules.{after_line, then_read, lined, lines_from, schedule_of, setting_of}
-use Rattle.schedule_text.proofs.LineBytes.{bytes_of, bytes_of-lines_of}
+use Rattle.topic_files.specs.File.{bytes_of}
+use Rattle.topic_files.proofs.FileLemmas.{bytes_of-lines_of}
 
 -- these steps were read, and what stands before the lines that are left is this, where all that is read is `wanted`
 pub record Reached (wanted : Result (List Lined) (ℕ × StepWhy)) (setting : Setting) (left : List (List ℕ)) (s : Standing) (steps : List Lined) : Type 0 where

@@ -12,7 +12,8 @@ use Rattle.schedule_text.specs.declared.fault.StepWhy.{StepWhy}
 use Rattle.schedule_text.specs.declared.standing.Standing.{Standing}
 use Rattle.schedule_text.specs.Forms.{Form, form_of_line}
 use Rattle.schedule_text.specs.Forms as form
-use Rattle.schedule_text.specs.Lines.{is_skipped, lines_of}
+use Rattle.schedule_text.specs.Lines.{is_skipped}
+use Rattle.topic_files.specs.Lines.{lines_of}
 use Rattle.schedule_text.specs.Schedules.{IsSteady, after_line, then_read, lined, lines_from, schedule_of, setting_of}
 use Rattle.schedule_text.specs.Standing.{Setting, counts_of, feed_of, first, is_live, is_task, most_bytes, most_rounds, most_steps, most_workers, passed, read_form, read_line, read_short, rounds_of, step_of, take_step}
 

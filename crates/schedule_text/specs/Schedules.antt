@@ -8,7 +8,7 @@ use Rattle.topology.specs.declared.schedule.Step.TheVariants as step
 use Rattle.topology.specs.declared.topology.Topology.{Topology}
 use Rattle.schedule_text.specs.declared.fault.StepWhy.{StepWhy}
 use Rattle.schedule_text.specs.declared.standing.Standing.{Standing}
-use Rattle.schedule_text.specs.Lines.{lines_of}
+use Rattle.topic_files.specs.Lines.{lines_of}
 use Rattle.schedule_text.specs.Standing.{Setting, first, read_line}
 
 -- these steps, and what is read after them

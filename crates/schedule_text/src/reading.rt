@@ -4,11 +4,11 @@ ghost use Rattle.std.specs.Prelude.{◌≡◌, ℕ, Ok, Err, IfOk};
 ghost use Rattle.schedule_text.specs.Schedules.{schedule_of};
 
 use crate::fault::{LineFault, ScheduleFault, StepWhy};
-use crate::lines::Lines;
 use crate::standing::{Setting, Standing};
 use ksql_program::Program;
 use ksql_types::Items;
 use std::alloc::Global;
+use topic_files::Lines;
 use topology::{Lined, Schedule, Topology, chain_of};
 
 /// The steps of the text of a schedule for a program, its topology and the workers from 1 up to a number; or its first refused

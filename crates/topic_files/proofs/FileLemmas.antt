@@ -8,7 +8,7 @@ use borrow.Author.Tests.{ltb-false}
 use Rattle.std.proofs.lemmas.List.{map-append}
 use Rattle.std.proofs.lemmas.List.Elements.{filter-append, filter_map-append}
 use Rattle.serde_json.specs.Data.{Data}
-use Rattle.ksql_types.specs.declared.relation.Schema.{Schema}
+use Rattle.ksql_types.specs.declared.relation.Relation.{Relation}
 use Rattle.topic_files.specs.declared.topic.Fed.{Fed}
 use Rattle.topic_files.specs.declared.topic.FileFault.{FileFault}
 use Rattle.topic_files.specs.declared.topic.FileFault.TheVariants.{Refused}
@@ -57,7 +57,8 @@ bytes_of-without_empty_end (piece ∷ []) = by_test (length piece == 0)
     by_test false = omega arith
 bytes_of-without_empty_end (piece ∷ next ∷ more) = omega (arith, bytes_of-without_empty_end (next ∷ more))
 
-bytes_of-lines_of : (file : List ℕ) → bytes_of (lines_of file) ≤ length file + 1
+-- the lines of a file have its bytes, and one line feed more at most
+pub bytes_of-lines_of : (file : List ℕ) → bytes_of (lines_of file) ≤ length file + 1
 bytes_of-lines_of file = omega (arith, bytes_of-without_empty_end (slice_split is_line_feed file), bytes_of-slice_split file)
 
 -- each line has a byte at least
@@ -84,29 +85,29 @@ record_lines-push lines line true e =
 record_lines-push lines line false e =
     filter-append (λ l. not (is_blank l)) lines (line ∷ []) ∙ ap (λ b. record_lines lines ++ cond (not b) (line ∷ []) []) e
 
-feds_of-blank : (schema : Schema) (lines : List (List ℕ)) (line : List ℕ) → is_blank line ≡ true
-    → feds_of schema (lines ++ line ∷ []) ≡ feds_of schema lines
-feds_of-blank schema lines line e =
-    ap (filter_map (fed_of schema)) (record_lines-push lines line true e ∙ append-nil (record_lines lines))
+feds_of-blank : (relation : Relation) (lines : List (List ℕ)) (line : List ℕ) → is_blank line ≡ true
+    → feds_of relation (lines ++ line ∷ []) ≡ feds_of relation lines
+feds_of-blank relation lines line e =
+    ap (filter_map (fed_of relation)) (record_lines-push lines line true e ∙ append-nil (record_lines lines))
 
-feds_of-record : (schema : Schema) (lines : List (List ℕ)) (line : List ℕ) (fed : Fed) → is_blank line ≡ false → fed_of schema line ≡ Some fed
-    → feds_of schema (lines ++ line ∷ []) ≡ feds_of schema lines ++ fed ∷ []
-feds_of-record schema lines line fed e is =
-    ap (filter_map (fed_of schema)) (record_lines-push lines line false e)
-    ∙ filter_map-append (fed_of schema) (record_lines lines) (line ∷ [])
-    ∙ ap (λ o. feds_of schema lines ++ cons_option o []) is
+feds_of-record : (relation : Relation) (lines : List (List ℕ)) (line : List ℕ) (fed : Fed) → is_blank line ≡ false → fed_of relation line ≡ Some fed
+    → feds_of relation (lines ++ line ∷ []) ≡ feds_of relation lines ++ fed ∷ []
+feds_of-record relation lines line fed e is =
+    ap (filter_map (fed_of relation)) (record_lines-push lines line false e)
+    ∙ filter_map-append (fed_of relation) (record_lines lines) (line ∷ [])
+    ∙ ap (λ o. feds_of relation lines ++ cons_option o []) is
 
 -- ---- faults
 
 -- a line is a topic line where it says a record
-is_topic_line-is : (schema : Schema) (line : List ℕ) → is_topic_line line ≡ is_some (fed_of schema line)
-is_topic_line-is schema line = by_data (data_of line)
+is_topic_line-is : (relation : Relation) (line : List ℕ) → is_topic_line line ≡ is_some (fed_of relation line)
+is_topic_line-is relation line = by_data (data_of line)
   where
-    by_time : (json : Data) (o : Option ℕ) → is_some o ≡ is_some (option_map (record_at schema json) o)
+    by_time : (json : Data) (o : Option ℕ) → is_some o ≡ is_some (option_map (record_at relation json) o)
     by_time json None = refl
     by_time json (Some time) = refl
 
-    by_data : (o : Option Data) → is_some (option_and_then topic_time o) ≡ is_some (option_and_then (fed_of_data schema) o)
+    by_data : (o : Option Data) → is_some (option_and_then topic_time o) ≡ is_some (option_and_then (fed_of_data relation) o)
     by_data None = refl
     by_data (Some json) = by_time json (topic_time json)
 
@@ -129,28 +130,28 @@ next_fault room file lines line more found e =
 
 -- ---- what is known when some lines of a file were read
 
-pub record Reached (schema : Schema) (room : Room) (file : List ℕ) (lines left : List (List ℕ)) (number records taken : ℕ) (feds : List Fed) : Type 0 where
+pub record Reached (relation : Relation) (room : Room) (file : List ℕ) (lines left : List (List ℕ)) (number records taken : ℕ) (feds : List Fed) : Type 0 where
   pub parts : lines_of file ≡ lines ++ left
   pub number_is : number ≡ length lines
   pub records_is : records ≡ length (record_lines lines)
   pub taken_is : taken ≡ bytes_of lines
   pub within : min taken (length file) ≤ room.bytes
   pub fault_is : first_fault room file ≡ first_fault_behind room file lines left
-  pub feds_is : feds ≡ feds_of schema lines
+  pub feds_is : feds ≡ feds_of relation lines
 
 -- the same, with lists that are equal
-pub moved : {schema : Schema} {room : Room} {file : List ℕ} {lines left : List (List ℕ)} {number records taken : ℕ} {feds : List Fed}
-    → Reached schema room file lines left number records taken feds
+pub moved : {relation : Relation} {room : Room} {file : List ℕ} {lines left : List (List ℕ)} {number records taken : ℕ} {feds : List Fed}
+    → Reached relation room file lines left number records taken feds
     → (lines' left' : List (List ℕ)) (feds' : List Fed) → lines' ≡ lines → left' ≡ left → feds' ≡ feds
-    → Reached schema room file lines' left' number records taken feds'
-moved {schema = schema} {room = room} {file = file} reached lines' left' feds' ls ms fs = record {
+    → Reached relation room file lines' left' number records taken feds'
+moved {relation = relation} {room = room} {file = file} reached lines' left' feds' ls ms fs = record {
   parts = reached.parts ∙ ap₂ ◌++◌ (sym ls) (sym ms);
   number_is = reached.number_is ∙ ap length (sym ls);
   records_is = reached.records_is ∙ ap (λ l. length (record_lines l)) (sym ls);
   taken_is = reached.taken_is ∙ ap bytes_of (sym ls);
   within = reached.within;
   fault_is = reached.fault_is ∙ ap₂ (first_fault_behind room file) (sym ls) (sym ms);
-  feds_is = fs ∙ reached.feds_is ∙ ap (feds_of schema) (sym ls);
+  feds_is = fs ∙ reached.feds_is ∙ ap (feds_of relation) (sym ls);
 }
 
 -- what a refusal says is the first fault
@@ -166,8 +167,8 @@ pub refused_answers : (refusal : FileFault) (number : ℕ) (why : LineWhy) (foun
     → refusal ≡ Refused number why → found ≡ Some (number, why) → ◌≡◌ {A = Result TopicLines FileFault} (Err refusal) (answer found lines)
 refused_answers refusal number why found lines said is = ap Err said ∙ ap (λ f. answer f lines) (sym is)
 
-module _ (schema : Schema) (room : Room) (file : List ℕ) (lines : List (List ℕ)) (line : List ℕ) (more : List (List ℕ)) (number records taken : ℕ) (feds : List Fed)
-    (reached : Reached schema room file lines (line ∷ more) number records taken feds) where
+module _ (relation : Relation) (room : Room) (file : List ℕ) (lines : List (List ℕ)) (line : List ℕ) (more : List (List ℕ)) (number records taken : ℕ) (feds : List Fed)
+    (reached : Reached relation room file lines (line ∷ more) number records taken feds) where
   -- the next line lies within the file
   pub taken_fits : taken + (length line + 1) ≤ length file + 1
   taken_fits = omega (arith, reached.taken_is, bytes_of-lines_of file, ap bytes_of reached.parts, bytes_of-append lines (line ∷ more))
@@ -207,16 +208,16 @@ module _ (schema : Schema) (room : Room) (file : List ℕ) (lines : List (List �
       reached.fault_is ∙ next_fault room file lines line more (Some TooLarge) (fault-large room file lines line (passes_is blank one e counts ∙ over))
       ∙ ap (λ n. Some (n + 1, TooLarge)) (sym reached.number_is)
 
-  pub is_bad : (one : ℕ) → is_blank line ≡ false → one ≡ 1 → is_over one ≡ false → fed_of schema line ≡ None
+  pub is_bad : (one : ℕ) → is_blank line ≡ false → one ≡ 1 → is_over one ≡ false → fed_of relation line ≡ None
       → first_fault room file ≡ Some (number + 1, BadLine)
   is_bad one e counts within none =
       reached.fault_is
       ∙ next_fault room file lines line more (Some BadLine)
-      (fault-within room file lines line false (passes_is false one e counts ∙ within) (ap (λ b. b || is_topic_line line) e ∙ is_topic_line-is schema line ∙ ap is_some none))
+      (fault-within room file lines line false (passes_is false one e counts ∙ within) (ap (λ b. b || is_topic_line line) e ∙ is_topic_line-is relation line ∙ ap is_some none))
       ∙ ap (λ n. Some (n + 1, BadLine)) (sym reached.number_is)
 
   pub blank_passed : (one : ℕ) → is_blank line ≡ true → one ≡ 0 → is_over one ≡ false
-      → Reached schema room file (lines ++ line ∷ []) more (number + 1) (records + one) (taken + (length line + 1)) feds
+      → Reached relation room file (lines ++ line ∷ []) more (number + 1) (records + one) (taken + (length line + 1)) feds
   blank_passed one e counts within = record {
     parts = reached.parts ∙ sym (append_assoc lines (line ∷ []) more);
     number_is = number_next;
@@ -225,11 +226,11 @@ module _ (schema : Schema) (room : Room) (file : List ℕ) (lines : List (List �
     within = fits_of one within;
     fault_is = reached.fault_is ∙ next_fault room file lines line more None
         (fault-within room file lines line true (passes_is true one e counts ∙ within) (ap (λ b. b || is_topic_line line) e));
-    feds_is = reached.feds_is ∙ sym (feds_of-blank schema lines line e);
+    feds_is = reached.feds_is ∙ sym (feds_of-blank relation lines line e);
   }
 
-  pub record_passed : (one : ℕ) (fed : Fed) → is_blank line ≡ false → one ≡ 1 → is_over one ≡ false → fed_of schema line ≡ Some fed
-      → Reached schema room file (lines ++ line ∷ []) more (number + 1) (records + one) (taken + (length line + 1)) (feds ++ fed ∷ [])
+  pub record_passed : (one : ℕ) (fed : Fed) → is_blank line ≡ false → one ≡ 1 → is_over one ≡ false → fed_of relation line ≡ Some fed
+      → Reached relation room file (lines ++ line ∷ []) more (number + 1) (records + one) (taken + (length line + 1)) (feds ++ fed ∷ [])
   record_passed one fed e counts within is = record {
     parts = reached.parts ∙ sym (append_assoc lines (line ∷ []) more);
     number_is = number_next;
@@ -237,6 +238,6 @@ module _ (schema : Schema) (room : Room) (file : List ℕ) (lines : List (List �
     taken_is = taken_next;
     within = fits_of one within;
     fault_is = reached.fault_is ∙ next_fault room file lines line more None
-        (fault-within room file lines line true (passes_is false one e counts ∙ within) (ap (λ b. b || is_topic_line line) e ∙ is_topic_line-is schema line ∙ ap is_some is));
-    feds_is = ap (λ xs. xs ++ fed ∷ []) reached.feds_is ∙ sym (feds_of-record schema lines line fed e is);
+        (fault-within room file lines line true (passes_is false one e counts ∙ within) (ap (λ b. b || is_topic_line line) e ∙ is_topic_line-is relation line ∙ ap is_some is));
+    feds_is = ap (λ xs. xs ++ fed ∷ []) reached.feds_is ∙ sym (feds_of-record relation lines line fed e is);
   }

@@ -3,7 +3,6 @@ use Rattle.std.specs.Prelude.{ℕ, ◌+◌, List, [], ◌∷◌, ◌++◌, lengt
 use Rattle.std.specs.List.{filter_map}
 use Rattle.std.specs.Option.{option_or}
 use Rattle.ksql_types.specs.declared.relation.Relation.{Relation}
-use Rattle.ksql_types.specs.declared.relation.Schema.{Schema}
 use Rattle.topic_files.specs.declared.topic.Fed.{Fed}
 use Rattle.topic_files.specs.declared.topic.FileFault.{FileFault}
 use Rattle.topic_files.specs.declared.topic.FileFault.TheVariants.{Refused}
@@ -47,13 +46,13 @@ first_fault_behind room file before (line ∷ more) =
 abbrev pub first_fault : Room → List ℕ → Option (ℕ × LineWhy)
 first_fault room file = first_fault_behind room file [] (lines_of file)
 
--- the records of lines, by the columns of their relation
-abbrev pub feds_of : Schema → List (List ℕ) → List Fed
-feds_of schema lines = filter_map (fed_of schema) (record_lines lines)
+-- the records of lines, by the columns and the format of their relation
+abbrev pub feds_of : Relation → List (List ℕ) → List Fed
+feds_of relation lines = filter_map (fed_of relation) (record_lines lines)
 
--- the records of a good file of JSON values
+-- the records of a good file
 abbrev pub topic_lines : Relation → List ℕ → TopicLines
-topic_lines relation file = record { relation = relation.number; feds = feds_of relation.schema (lines_of file) }
+topic_lines relation file = record { relation = relation.number; feds = feds_of relation (lines_of file) }
 
 -- what is answered where the first fault is this, and the records are these
 abbrev pub answer : Option (ℕ × LineWhy) → TopicLines → Result TopicLines FileFault

@@ -1,4 +1,5 @@
 pub mod Cells
+pub mod Delimited
 pub mod File
 pub mod Lines
 pub mod Printed

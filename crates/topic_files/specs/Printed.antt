@@ -1,11 +1,17 @@
 -- The printed text of a row.
-use Rattle.std.specs.Prelude.{ℕ, List, [], ◌∷◌, ◌++◌, codes, if◌then◌else◌, map}
+use Rattle.std.specs.Prelude.{ℕ, List, [], ◌∷◌, ◌++◌, codes, if◌then◌else◌, map, string_bytes}
 use Rattle.std.specs.Fmt.{signed_decimal}
 use Rattle.std.specs.List.{join_with_byte}
 use Rattle.json.specs.Print.{quoted}
 use Rattle.ksql_types.specs.declared.relation.Column.{Column}
+use Rattle.ksql_types.specs.declared.relation.Format.{Format}
+use Rattle.ksql_types.specs.declared.relation.Format.TheVariants.{Json, Delimited}
+use Rattle.ksql_types.specs.declared.relation.Relation.{Relation}
 use Rattle.ksql_types.specs.declared.value.Value.{Value}
 use Rattle.ksql_types.specs.declared.value.Value.TheVariants as values
+use Rattle.topic_files.specs.Delimited.{line_of}
+use Rattle.topic_files.specs.declared.printed.Printer.{Printer}
+use Rattle.topic_files.specs.declared.printed.Printer.TheVariants.{Objects, Texts}
 
 -- a value, as JSON
 unfoldable pub printed : Value → List ℕ
@@ -32,6 +38,24 @@ fields_of [] values = []
 fields_of (label ∷ labels) [] = []
 fields_of (label ∷ labels) (value ∷ row) = (label ++ printed value) ∷ fields_of labels row
 
--- a row as JSON: an object of these columns in their order, without blanks
-unfoldable pub object_text : List Column → List Value → List ℕ
-object_text columns row = codes "{" ++ (comma_joined (fields_of (labels_of columns) row) ++ codes "}")
+-- an object whose fields have these labels, without blanks
+unfoldable pub labelled_text : List (List ℕ) → List Value → List ℕ
+labelled_text labels row = codes "{" ++ (comma_joined (fields_of labels row) ++ codes "}")
+
+-- a row as JSON: an object of these columns in their order
+abbrev pub object_text : List Column → List Value → List ℕ
+object_text columns row = labelled_text (labels_of columns) row
+
+-- a row in a format: an object, or the text of its fields with commas between, as JSON
+unfoldable pub row_in : Format → List Column → List Value → List ℕ
+row_in Json columns row = object_text columns row
+row_in Delimited columns row = quoted (line_of row)
+
+-- the printed value of a row of a relation
+abbrev pub value_text : Relation → List Value → List ℕ
+value_text relation row = row_in relation.format relation.schema.values row
+
+-- a row as a printer prints it
+abbrev pub printed_by : Printer → List Value → List ℕ
+printed_by (Objects labels) row = labelled_text (map string_bytes labels.items) row
+printed_by Texts row = quoted (line_of row)

@@ -130,7 +130,7 @@ fn text_form(alloc: Global, field: &Json) -> Result<Option<Value>, AllocError>
 
 /// A text as a value, None where it has more than 65,536 bytes.
 #[tactic(auto, unfolding(ksql_types::specs::Text::longest_text))]
-fn text_value(alloc: Global, text: &str) -> Result<Option<Value>, AllocError>
+pub(crate) fn text_value(alloc: Global, text: &str) -> Result<Option<Value>, AllocError>
     ensures value { IfOk result (λ value. value ≡ text_value text.now) }
     ensures present { IfOk result (λ value. IfSome value (λ v. is_null v ≡ false)) }
 {

@@ -5,10 +5,10 @@ use crate::lines::{Lines, is_blank};
 use crate::record::fed_of_line;
 use crate::topic::{FileFault, LineWhy, Room, TopicLines};
 use json::Scratch;
-use ksql_types::{Format, Items, Relation};
+use ksql_types::{Items, Relation};
 use std::alloc::Global;
 
-/// The records of the topic file of a relation of JSON values, in the order of its lines, or the first line that isn't a
+/// The records of the topic file of a relation, in the order of its lines, or the first line that isn't a
 /// topic line or that passes the room, counted from 1: it is too large where it does both.
 pub fn read_topic(
     alloc: Global,
@@ -16,7 +16,6 @@ pub fn read_topic(
     bytes: &[u8],
     room: Room,
 ) -> Result<TopicLines, FileFault>
-    requires json { relation.now.format ≡ Format.Json }
     requires few { room.records ≤ 200000 }
     requires short { room.bytes ≤ 67108864 }
     ensures good { IfOk result (λ read. first_fault room bytes.now ≡ None) }
@@ -41,7 +40,7 @@ pub fn read_topic(
         if blank {
             continue;
         }
-        match fed_of_line(alloc, &relation.schema, line, &mut scratch)? {
+        match fed_of_line(alloc, relation, line, &mut scratch)? {
             Some(fed) => feds.push(fed)?,
             None => return Err(refused(number, LineWhy::BadLine)),
         }

@@ -1,6 +1,8 @@
-//! Topic files: their lines, the records that these say by the schema of a relation, and the printed text of a value.
+//! Topic files: their lines, the records that these say by the schema and the format of a relation, and the printed text of
+//! a value.
 #![tactic(auto)]
 
+mod delimited;
 mod fields;
 mod file;
 mod line;
@@ -13,7 +15,8 @@ mod topic;
 mod tree;
 
 pub use file::read_topic;
-pub use printed::{labels, push_object, push_printed, value_text};
+pub use lines::Lines;
+pub use printed::{Printer, push_printed, value_text};
 pub use topic::{Fed, Feds, FileFault, LineWhy, Room, TopicLines};
 
 #[cfg(test)]

@@ -3,17 +3,28 @@ ghost use Rattle.std.specs.Iterator.{YieldsFirstRef, item_count};
 ghost use Rattle.topic_files.specs.Lines.{is_blank, lines_of};
 
 use memchr::memchr;
+use std::marker::Model;
 
-/// The lines of a file, one after another, without their line feeds.
+/// The lines of a file, one after another, without their line feeds: the pieces between these, and what stands after the
+/// last of them unless it is empty. Contracts see the list of the lines that are left. Takes no memory.
 #[derive(Drop)]
-pub(crate) struct Lines<'a> {
+pub struct Lines<'a> {
     rest: &'a [u8],
+}
+
+impl<'a> Model for Lines<'a> {
+    ghost use Rattle.std.specs.Prelude.{List, ℕ};
+    ghost use Rattle.topic_files.specs.Lines.{lines_of};
+
+    ghost Value = { List (List ℕ) };
+
+    ghost view = { λ lines. lines_of lines.rest.now };
 }
 
 impl<'a> Lines<'a> {
     /// All lines of the file.
-    pub(crate) fn of(file: &'a [u8]) -> Lines<'a>
-        ensures { result.rest.now ≡ file.now }
+    pub fn of(file: &'a [u8]) -> Lines<'a>
+        ensures { result ≡ lines_of file.now }
     {
         Lines { rest: file }
     }
@@ -22,9 +33,9 @@ impl<'a> Lines<'a> {
 impl<'a> Iterator for Lines<'a> {
     type Item = &'a [u8];
 
-    ghost next_gives = { YieldsFirstRef (λ lines. lines_of lines.rest.now) };
+    ghost next_gives = { YieldsFirstRef (λ lines. lines) };
 
-    ghost remaining = { item_count (λ lines. lines_of lines.rest.now) };
+    ghost remaining = { item_count (λ lines. lines) };
 
     fn next(&mut self) -> Option<&'a [u8]> {
         let rest = self.rest;

@@ -4,28 +4,61 @@ ghost use Rattle.std.specs.Prelude.{◌≡◌, ◌++◌, IfOk, List, OnOk, lengt
 ghost use Rattle.std.specs.List.{list_all};
 ghost use Rattle.json.specs.Print.{quoted};
 ghost use Rattle.json.specs.Run.{is_plain};
-ghost use Rattle.ksql_types.specs.declared.relation.Column.{Column as OneColumn};
-ghost use Rattle.topic_files.specs.Printed.{comma_joined, fields_of, label_of, labels_of, object_text, printed};
+ghost use Rattle.ksql_types.specs.declared.value.Value.{Value as OneValue};
+ghost use Rattle.topic_files.specs.Printed.{comma_joined, fields_of, label_of, labelled_text, labels_of, printed, printed_by, value_text};
 
+use crate::delimited::line_of;
 use ksql_types::{Bytes, Column, Format, Items, Relation, Value};
 use serde_json::Value as Json;
 use std::alloc::{AllocError, Global};
 
-/// The printed value of a row of a relation of JSON values: a JSON object of its value columns in their order, without
-/// blanks.
+/// How the rows of a relation are printed: as JSON objects whose fields have these labels, or as JSON texts of fields with
+/// commas between.
+#[derive(Drop)]
+pub enum Printer {
+    Objects(Vec<String>),
+    Texts,
+}
+
+impl Printer {
+    /// How the rows of this relation are printed.
+    pub fn of(alloc: Global, relation: &Relation) -> Result<Printer, AllocError>
+        ensures { IfOk result (λ printer. (row : List OneValue) → printed_by printer row ≡ value_text relation.now row) }
+    {
+        match relation.format {
+            Format::Json => Ok(Printer::Objects(labels(alloc, relation.schema.values.items())?)),
+            Format::Delimited => Ok(Printer::Texts),
+        }
+    }
+
+    /// Appends a row: a JSON object of the value columns in their order, without blanks, or the JSON text of what `csv` writes
+    /// by default without the line end, NULL as an empty field.
+    pub fn push_row(&self, out: &mut String, alloc: Global, row: &[Value]) -> Result<(), AllocError>
+        ensures { OnOk result (string_bytes out.new ≡ string_bytes out.old ++ printed_by self.now row.now) }
+    {
+        match self {
+            Printer::Objects(labels) => push_object(out, alloc, labels, row),
+            Printer::Texts => {
+                let text = line_of(alloc, row)?;
+                push_quoted(out, alloc, text.as_str())
+            }
+        }
+    }
+}
+
+/// The printed value of a row of a relation: a JSON object, or a JSON text where the format is DELIMITED, as `Printer` appends
+/// them.
 pub fn value_text(alloc: Global, relation: &Relation, row: &[Value]) -> Result<Bytes, AllocError>
-    requires json { relation.now.format ≡ Format.Json }
     requires whole { length row.now ≡ length relation.now.schema.values }
-    ensures { IfOk result (λ text. text ≡ object_text relation.now.schema.values row.now) }
+    ensures { IfOk result (λ text. text ≡ value_text relation.now row.now) }
 {
-    let labels = labels(alloc, relation.schema.values.items())?;
     let mut out = String::new(alloc);
-    push_object(&mut out, alloc, &labels, row)?;
+    Printer::of(alloc, relation)?.push_row(&mut out, alloc, row)?;
     Ok(Items::of(out.into_bytes()))
 }
 
 /// The labels of columns: of each its name as a JSON text and a colon.
-pub fn labels(alloc: Global, columns: &[Column]) -> Result<Vec<String>, AllocError>
+fn labels(alloc: Global, columns: &[Column]) -> Result<Vec<String>, AllocError>
     ensures { IfOk result (λ labels. map string_bytes labels.items ≡ labels_of columns.now) }
 {
     let mut labels = Vec::new(alloc);
@@ -47,15 +80,14 @@ fn label(alloc: Global, column: &Column) -> Result<String, AllocError>
 }
 
 /// Appends a row as a JSON object of the columns that have these labels, without blanks.
-#[tactic(auto, using(crate::proofs::Texts::appends), unfolding(crate::specs::Printed::object_text))]
-pub fn push_object(
+#[tactic(auto, using(crate::proofs::Texts::appends), unfolding(crate::specs::Printed::labelled_text))]
+fn push_object(
     out: &mut String,
     alloc: Global,
     labels: &[String],
     row: &[Value],
 ) -> Result<(), AllocError>
-    ensures { (columns : List OneColumn) → map string_bytes labels.now ≡ labels_of columns
-        → OnOk result (string_bytes out.new ≡ string_bytes out.old ++ object_text columns row.now) }
+    ensures { OnOk result (string_bytes out.new ≡ string_bytes out.old ++ labelled_text (map string_bytes labels.now) row.now) }
 {
     out.push_str("{")?;
     push_fields(out, alloc, labels, row)?;

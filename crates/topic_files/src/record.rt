@@ -1,10 +1,11 @@
-//! The record of a topic line, by the schema of its relation.
+//! The record of a topic line, by the schema and the format of its relation.
 
 ghost use Rattle.std.specs.Prelude.{◌≡◌, ◌∷◌, [], IfOk, option_map};
 ghost use Rattle.topic_files.specs.Cells.{typed};
-ghost use Rattle.topic_files.specs.Record.{decoded, fed_of, fed_of_data, field_value, key_of, object_row};
+ghost use Rattle.topic_files.specs.Record.{decoded, delimited_row, fed_of, fed_of_data, field_value, key_of, object_row, row_in};
 ghost use Rattle.topic_files.specs.Tree.{view};
 
+use crate::delimited::text_row;
 use crate::fields::{cells, typed};
 use crate::line::{present, topic_time};
 use crate::read::json_of_line;
@@ -12,34 +13,34 @@ use crate::topic::Fed;
 use crate::tree::Json;
 use json::Scratch;
 use ksql_place::Decoded;
-use ksql_types::{Column, Items, Key, Row, Schema, SqlType};
+use ksql_types::{Column, Format, Items, Key, Relation, Row, SqlType};
 use std::alloc::{AllocError, Global};
 
 /// The record of a line, None where it isn't a topic line.
 pub(crate) fn fed_of_line(
     alloc: Global,
-    schema: &Schema,
+    relation: &Relation,
     line: &[u8],
     scratch: &mut Scratch,
 ) -> Result<Option<Fed>, AllocError>
-    ensures { IfOk result (λ fed. fed ≡ fed_of schema.now line.now) }
+    ensures { IfOk result (λ fed. fed ≡ fed_of relation.now line.now) }
 {
     match json_of_line(alloc, line, scratch)? {
-        Some(json) => fed_of_json(alloc, schema, &json),
+        Some(json) => fed_of_json(alloc, relation, &json),
         None => Ok(None),
     }
 }
 
 /// The record that a line's JSON says, None where it isn't a topic line.
-fn fed_of_json(alloc: Global, schema: &Schema, json: &Json) -> Result<Option<Fed>, AllocError>
-    ensures { IfOk result (λ fed. fed ≡ fed_of_data schema.now (view json.now)) }
+fn fed_of_json(alloc: Global, relation: &Relation, json: &Json) -> Result<Option<Fed>, AllocError>
+    ensures { IfOk result (λ fed. fed ≡ fed_of_data relation.now (view json.now)) }
 {
     let Some(time) = topic_time(json) else {
         return Ok(None);
     };
-    match key_of(alloc, schema.keys.items(), present(json, "k"))? {
+    match key_of(alloc, relation.schema.keys.items(), present(json, "k"))? {
         Some(key) => {
-            let value = field_value(alloc, schema.values.items(), present(json, "v"))?;
+            let value = field_value(alloc, relation, present(json, "v"))?;
             Ok(Some(Fed { time, key, value }))
         }
         None => Ok(Some(Fed {
@@ -82,25 +83,50 @@ fn single_key(alloc: Global, ty: SqlType, json: &Json) -> Result<Option<Key>, Al
 /// The value that the field `v` stands for: a tombstone where it is missing or null.
 fn field_value(
     alloc: Global,
-    columns: &[Column],
+    relation: &Relation,
     field: Option<&Json>,
 ) -> Result<Decoded, AllocError>
     ensures { IfOk result
-        (λ value. value ≡ field_value columns.now (option_map (λ f. view f.now) field.entry)) }
+        (λ value. value ≡ field_value relation.now (option_map (λ f. view f.now) field.entry)) }
 {
     match field {
-        Some(json) => decoded(alloc, columns, json),
+        Some(json) => decoded(alloc, relation, json),
         None => Ok(Decoded::Tombstone),
     }
 }
 
 /// The value that a field stands for: a row, or skipped where it stands for none.
-fn decoded(alloc: Global, columns: &[Column], json: &Json) -> Result<Decoded, AllocError>
-    ensures { IfOk result (λ value. value ≡ decoded columns.now (view json.now)) }
+fn decoded(alloc: Global, relation: &Relation, json: &Json) -> Result<Decoded, AllocError>
+    ensures { IfOk result (λ value. value ≡ decoded relation.now (view json.now)) }
 {
-    match object_row(alloc, columns, json)? {
+    match row_in(alloc, relation.format, relation.schema.values.items(), json)? {
         Some(row) => Ok(Decoded::Good(row)),
         None => Ok(Decoded::Skipped),
+    }
+}
+
+/// The row that a field stands for in a format, None where it stands for none.
+fn row_in(
+    alloc: Global,
+    format: Format,
+    columns: &[Column],
+    json: &Json,
+) -> Result<Option<Row>, AllocError>
+    ensures { IfOk result (λ row. row ≡ row_in format columns.now (view json.now)) }
+{
+    match format {
+        Format::Json => object_row(alloc, columns, json),
+        Format::Delimited => delimited_row(alloc, columns, json),
+    }
+}
+
+/// The row of a text of fields with commas between, None where the field is no text or not one row of these columns.
+fn delimited_row(alloc: Global, columns: &[Column], json: &Json) -> Result<Option<Row>, AllocError>
+    ensures { IfOk result (λ row. row ≡ delimited_row columns.now (view json.now)) }
+{
+    match json.as_str() {
+        Some(text) => text_row(alloc, columns, text),
+        None => Ok(None),
     }
 }
 

@@ -1,5 +1,3 @@
-ghost use Rattle.std.specs.Prelude.{◌≡◌, IfOk};
-
 use super::*;
 use ksql_place::Decoded;
 use ksql_types::{Chars, Column, CopyOf, Format, Items, Kind, Relation, Schema, SqlType, Value};
@@ -29,9 +27,7 @@ fn column(alloc: Global, name: &str, ty: SqlType) -> Result<Column, AllocError> 
 }
 
 /// A stream with the text key K and the column AB of this type.
-fn stream(alloc: Global, ty: SqlType) -> Result<Relation, AllocError>
-    ensures { IfOk result (λ relation. relation.format ≡ Format.Json) }
-{
+fn stream(alloc: Global, ty: SqlType) -> Result<Relation, AllocError> {
     let keys = Items::of(vec![in alloc; column(alloc, "K", SqlType::Text)?]?);
     let values = Items::of(vec![in alloc; column(alloc, "AB", ty)?]?);
     Ok(Relation {
@@ -44,6 +40,24 @@ fn stream(alloc: Global, ty: SqlType) -> Result<Relation, AllocError>
         format: Format::Json,
         declared: true,
     })
+}
+
+/// A stream of texts with the INTEGER key K and these columns.
+fn stream_of_texts(alloc: Global, columns: Vec<Column>) -> Result<Relation, AllocError> {
+    let mut stream = stream(alloc, SqlType::Int)?;
+    stream.schema.keys = Items::of(vec![in alloc; column(alloc, "K", SqlType::Int)?]?);
+    stream.schema.values = Items::of(columns);
+    stream.format = Format::Delimited;
+    Ok(stream)
+}
+
+/// The columns A VARCHAR, B BIGINT and C BOOLEAN.
+fn three_columns(alloc: Global) -> Result<Vec<Column>, AllocError> {
+    Ok(vec![in alloc;
+        column(alloc, "A", SqlType::Text)?,
+        column(alloc, "B", SqlType::Big)?,
+        column(alloc, "C", SqlType::Bool)?,
+    ]?)
 }
 
 /// The refusal of the file of a stream whose AB is an INTEGER, None where it is read.
@@ -62,8 +76,12 @@ fn refusal(alloc: Global, file: &str, room: Room) -> Result<Option<(u32, LineWhy
 
 /// The one record of a line of such a stream.
 fn one(alloc: Global, ty: SqlType, line: &str) -> Result<Fed, Fail> {
-    let stream = stream(alloc, ty)?;
-    match read_topic(alloc, &stream, line.as_bytes(), ALL) {
+    record_of(alloc, &stream(alloc, ty)?, line)
+}
+
+/// The one record of a line.
+fn record_of(alloc: Global, stream: &Relation, line: &str) -> Result<Fed, Fail> {
+    match read_topic(alloc, stream, line.as_bytes(), ALL) {
         Ok(lines) => lines
             .feds
             .into_items()
@@ -287,6 +305,102 @@ fn a_row_is_printed_without_blanks(rt: HostRuntime) -> Result<(), Fail> {
     assert_eq!(rt;
         printed.items(),
         b"{\"A\":1,\"b\\\"\":\"x\\n\",\"C\":null,\"D\":true}".as_slice()
+    );
+    Ok(())
+}
+
+#[test]
+fn a_text_is_read_as_the_row_of_its_fields(rt: HostRuntime) -> Result<(), Fail> {
+    let alloc = rt.alloc();
+    let stream = stream_of_texts(alloc, three_columns(alloc)?)?;
+    for (line, value) in [
+        (
+            "{\"t\":1,\"k\":7,\"v\":\"\\\"x,y\\\",41,TRUE\"}",
+            "Good(Items { inner: [Txt(Chars { text: \"x,y\" }), Big(41), Bool(true)] })",
+        ),
+        (
+            "{\"t\":2,\"k\":8,\"v\":\"z,,\"}",
+            "Good(Items { inner: [Txt(Chars { text: \"z\" }), Null, Null] })",
+        ),
+        ("{\"t\":3,\"k\":9,\"v\":\"a,b\"}", "Skipped"),
+        (
+            "{\"t\":4,\"k\":9,\"v\":{\"A\":\"a\",\"B\":1,\"C\":true}}",
+            "Skipped",
+        ),
+    ] {
+        let fed = record_of(alloc, &stream, line)?;
+        assert_eq!(rt; written(alloc, &fed.value)?.as_str(), value);
+    }
+    Ok(())
+}
+
+/// What is printed of the one field that a text is read as, None where it is skipped.
+fn read_and_printed(alloc: Global, ty: SqlType, text: &str) -> Result<Option<String>, Fail> {
+    let stream = stream_of_texts(alloc, vec![in alloc; column(alloc, "A", ty)?]?)?;
+    let line = format!(in alloc; "{{\"t\":1,\"v\":\"{text}\"}}")?;
+    let fed = record_of(alloc, &stream, line.as_str())?;
+    match &fed.value {
+        Decoded::Good(row) => Ok(Some(printed(alloc, &stream, row.items())?)),
+        _ => Ok(None),
+    }
+}
+
+/// A row as it is printed.
+fn printed(alloc: Global, stream: &Relation, row: &[Value]) -> Result<String, AllocError> {
+    let mut out = String::new(alloc);
+    Printer::of(alloc, stream)?.push_row(&mut out, alloc, row)?;
+    Ok(out)
+}
+
+#[test]
+fn a_field_is_read_by_its_type(rt: HostRuntime) -> Result<(), Fail> {
+    for (ty, text, value) in [
+        (SqlType::Int, "-0", Some("\"0\"")),
+        (SqlType::Int, "007", Some("\"7\"")),
+        (SqlType::Int, "-2147483648", Some("\"-2147483648\"")),
+        (SqlType::Int, "2147483648", None),
+        (SqlType::Int, "+1", None),
+        (SqlType::Int, "1 ", None),
+        (
+            SqlType::Big,
+            "9223372036854775807",
+            Some("\"9223372036854775807\""),
+        ),
+        (SqlType::Big, "9223372036854775808", None),
+        (SqlType::Big, "--1", None),
+        (SqlType::Bool, "fAlSe", Some("\"false\"")),
+        (SqlType::Bool, "0", None),
+        (SqlType::Text, "\\\"\\\"", Some("\"\\\"\\\"\"")),
+        (SqlType::Text, "\\ufeffa", Some("\"a\"")),
+        (SqlType::Text, "\\\"a,\\n", Some("\"\\\"a,\\n\\\"\"")),
+        (SqlType::Text, "a\\nb", None),
+        (SqlType::Text, "", None),
+    ] {
+        let found = read_and_printed(rt.alloc(), ty, text)?;
+        assert_eq!(rt; found.as_ref().map(String::as_str), value);
+    }
+    Ok(())
+}
+
+#[test]
+fn a_row_is_printed_as_the_text_of_its_fields(rt: HostRuntime) -> Result<(), Fail> {
+    let alloc = rt.alloc();
+    let stream = stream_of_texts(alloc, three_columns(alloc)?)?;
+    let row = vec![in alloc;
+        Value::Txt(chars(alloc, "x,y")?),
+        Value::Big(42),
+        Value::Bool(true),
+    ]?;
+    assert_eq!(rt;
+        printed(alloc, &stream, &row)?.as_str(),
+        "\"\\\"x,y\\\",42,true\""
+    );
+    let row = vec![in alloc; Value::Txt(chars(alloc, "z")?), Value::Null, Value::Null]?;
+    assert_eq!(rt; printed(alloc, &stream, &row)?.as_str(), "\"z,,\"");
+    let stream = stream_of_texts(alloc, vec![in alloc; column(alloc, "A", SqlType::Int)?]?)?;
+    assert_eq!(rt;
+        printed(alloc, &stream, &[Value::Null])?.as_str(),
+        "\"\\\"\\\"\""
     );
     Ok(())
 }

@@ -68,7 +68,8 @@ step_text line planned happened =
     ++ (option_map_or (λ s. own_lines s happened) planned []
     ++ flat_map moved_line happened))))
 
--- each step of a journal: the first one is this step of the schedule or none, and each later one that of the next of these lines, or none
+-- the steps of a journal, the first of which took this step of the schedule, and each later one that of the next of these lines; none
+-- where the schedule has none for it
 unfoldable pub steps_text : List JournalEntry → Option Step → List Lined → List ℕ
 steps_text [] planned lines = []
 steps_text (entry.Step number ∷ later) planned [] = step_text number planned (before_first is_step later) ++ steps_text later None []

@@ -7,7 +7,7 @@ use std::alloc::Global;
 use std::fmt::Debug;
 use std::test::Fail;
 
-// The program of an accepted script, built or not.
+// The program of an accepted script.
 #[tactic(auto, unfolding(ksql_types::specs::Text::longest_text))]
 fn accepted(alloc: Global, text: &str) -> Result<Program, Fail> {
     if text.len() > 1_048_576 {

@@ -7,7 +7,7 @@ use ksql_place::{Body, Change, Decoded, Place, Stamp};
 use ksql_program::{From, Query, Shape};
 use ksql_types::{Chars, Column, Format, Items, Key, Kind, Row, Schema, Span, SqlType, Value};
 use std::test::Fail;
-use topic_files::labels;
+use topic_files::Printer;
 
 #[tactic(auto, unfolding(ksql_types::specs::Text::longest_text))]
 fn chars(alloc: Global, text: &str) -> Result<Chars, AllocError> {
@@ -118,12 +118,12 @@ fn nulls(alloc: Global) -> Result<Row, AllocError> {
 /// The line of a change of the stream S.
 fn line_of(alloc: Global, change: Change) -> Result<String, AllocError> {
     let stream = stream(alloc, 0, "S", "s", true)?;
-    let labels = labels(alloc, stream.schema.values.items())?;
+    let printer = Printer::of(alloc, &stream)?;
     let listed = Listed::Made(Items::of(vec![in alloc; change]?));
     let lines = lines_of(alloc, &stream, &listed)?;
     let mut text = String::new(alloc);
     for line in lines.as_slice() {
-        push_change(&mut text, alloc, &labels, *line)?;
+        push_change(&mut text, alloc, &printer, *line)?;
     }
     Ok(text)
 }

@@ -2,12 +2,8 @@ use Rattle.std.proofs.Common.{List, [], ◌∷◌, ◌++◌, subst, sym}
 use Rattle.ksql_program.specs.declared.program.Item.{Item}
 use Rattle.topic_files.specs.declared.topic.TopicLines.{TopicLines}
 use Rattle.feed_laws.specs.Fitting.{AreFilesOf}
-use Rattle.cluster_rows.proofs.Built.{declared-json}
 use Rattle.cluster_rows.proofs.Filing.{declared-last, started-last}
 use Rattle.cluster_rows.proofs.files.push_file.Goals as goal
-
-pub file_of-requires : goal.file_of-requires
-file_of-requires c = declared-json c.args.item.now c.in-Declared.relation c.requires c.in-Declared.is
 
 pub returns-in_ok-push-in-Declared : goal.returns-in_ok-push-in-Declared
 returns-in_ok-push-in-Declared c = λ before fit.

@@ -30,7 +30,7 @@ standings_of-requires c =
     (has-writers c.args.program.now.items c.requires.sound c.args.cluster.broker c.requires.topics))
 
 pub broker_report-requires-clause-printable : goal.broker_report-requires-clause-printable
-broker_report-requires-clause-printable c = printable c.args.program.now.items c.requires.sound c.requires.built
+broker_report-requires-clause-printable c = printable c.args.program.now.items c.requires.sound
 
 pub broker_report-requires-clause-topics : goal.broker_report-requires-clause-topics
 broker_report-requires-clause-topics c =

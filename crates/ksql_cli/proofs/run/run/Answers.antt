@@ -11,7 +11,7 @@ use Rattle.ksql_cli.proofs.run.run.Goals as goal
 
 pub read_topics-requires-clause-feedable : goal.read_topics-requires-clause-feedable
 read_topics-requires-clause-feedable g c =
-    subst (λ (items : List Item). All IsFeedable (declared_of items)) (sym c.items-2.ensures) (feedable c.in-Ok.program.items c.in-Ok.ensures.sound c.in-Ok.ensures.built)
+    subst (λ (items : List Item). All IsFeedable (declared_of items)) (sym c.items-2.ensures) (feedable c.in-Ok.program.items c.in-Ok.ensures.sound)
 
 pub read_topics-requires-clause-few : goal.read_topics-requires-clause-few
 read_topics-requires-clause-few g c = whole_few c.whole_room.result c.whole_room.ensures

@@ -13,7 +13,7 @@ use Rattle.ksql_cli.proofs.texts.report.Goals.{then-trace+in_ok-push_trace, else
 use Rattle.ksql_cli.proofs.texts.report.Goals as goal
 
 pub broker_report-requires-clause-printable : goal.broker_report-requires-clause-printable
-broker_report-requires-clause-printable c = printable c.args.ran.now.program.items c.requires.sound c.requires.built
+broker_report-requires-clause-printable c = printable c.args.ran.now.program.items c.requires.sound
 
 pub broker_report-requires-clause-topics : goal.broker_report-requires-clause-topics
 broker_report-requires-clause-topics c =

@@ -2,7 +2,7 @@ use Rattle.std.proofs.Common.{◌∙◌, sym}
 use Rattle.ksql_types.specs.declared.relation.Kind.TheVariants.{Stream, Table}
 use Rattle.query_meaning.specs.Plain.{rows_said}
 use Rattle.query_meaning.proofs.ChangeByChange.{changed-from-side}
-use Rattle.query_meaning.proofs.EachBuilt.{declared_changes-by}
+use Rattle.query_meaning.proofs.DeclaredChanges.{declared_changes-by}
 use Rattle.query_meaning.proofs.meaning.declared_changes.Goals as goal
 
 pub returns-in-Stream : goal.returns-in-Stream

@@ -5,7 +5,7 @@ use Rattle.ksql_place.specs.declared.change.Change.{Change}
 use Rattle.ksql_place.specs.declared.change.SourceRecord.{SourceRecord}
 use Rattle.query_meaning.specs.Plain.{rows_said, said_to}
 use Rattle.query_meaning.proofs.ChangeByChange.{changed-from-side}
-use Rattle.query_meaning.proofs.EachBuilt.{declared_changes-by}
+use Rattle.query_meaning.proofs.DeclaredChanges.{declared_changes-by}
 use Rattle.run_text.specs.Lines.{shown_of}
 use Rattle.run_text.specs.RowKeys.{as_fed}
 use Rattle.run_text.proofs.TableLemmas.{said_to-windowed}

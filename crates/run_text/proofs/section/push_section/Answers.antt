@@ -1,11 +1,13 @@
-use Rattle.std.proofs.Common.{◌≡◌, ◌∙◌, ℕ, List, [], ap, append_assoc, arith, inl, inr, map, string_bytes}
+use Rattle.std.proofs.Common.{◌≡◌, ◌∙◌, ℕ, List, [], ap, append_assoc, arith, inl, inr, map}
 use Rattle.std.proofs.lemmas.Grind.{common_steps}
 use Rattle.std.proofs.lemmas.List.{append-nil}
 use Rattle.ksql_types.specs.declared.relation.Relation.{Relation}
-use Rattle.topic_files.specs.Printed.{labels_of}
+use Rattle.topic_files.specs.Printed.{printed_by, value_text}
 use Rattle.run_text.specs.Lines.{extent_text, shown_of}
+use Rattle.run_text.specs.Printed.{change_line, row_line}
 use Rattle.run_text.specs.Report.{row_lines, section_text, summary_rows, summary_text, Section}
 use Rattle.run_text.specs.declared.printed.Line.{Line}
+use Rattle.run_text.proofs.ReportLemmas.{lines-by}
 use Rattle.run_text.proofs.section.push_section.Goals as goal
 
 -- what is shown of a relation whose changes have these lines
@@ -18,30 +20,25 @@ push_head-requires c = ap (map shown_of) c.as_slice.ensures.value ∙ c.in_ok-ro
 pub returns-in-Whole : goal.returns-in-Whole
 unfolding section_text row_lines
 returns-in-Whole c =
-    let columns = c.args.relation.now.schema.values in
-    let section = told c.args.relation.now c.args.closed c.args.skipped c.args.lines.now in
-    let changes_labels : map string_bytes c.deref.result.now ≡ labels_of columns =
-    ap (map string_bytes) c.deref.ensures.value ∙ c.in_ok-labels.ensures ∙ ap labels_of c.items.ensures in
-    let rows_labels : map string_bytes c.deref-in-Whole.result.now ≡ labels_of columns =
-    ap (map string_bytes) c.deref-in-Whole.ensures.value ∙ c.in_ok-labels.ensures ∙ ap labels_of c.items.ensures in
-    let changes = c.in_ok-push_changes-in-Whole.ensures columns changes_labels in
-    let rows = c.push_rows.ensures columns rows_labels in
+    let relation = c.args.relation.now in
+    let section = told relation c.args.closed c.args.skipped c.args.lines.now in
+    let by = printed_by c.in_ok-printer.printer in
+    let changes = lines-by change_line by (value_text relation) c.in_ok-printer.ensures (map shown_of c.args.lines.now) in
+    let rows = lines-by row_line by (value_text relation) c.in_ok-printer.ensures (map shown_of c.as_slice-in-Whole.result.now) in
     let shown = ap (map shown_of) c.as_slice-in-Whole.ensures.value ∙ c.in_ok-rows.ensures in
     let text = ap (λ e. extent_text e section) c.in-Whole.is in
-    grind (arith, common_steps, append_assoc, c.in_ok-push_head.ensures, changes, rows, shown, text)
+    grind (arith, common_steps, append_assoc, c.in_ok-push_head.ensures, c.in_ok-push_changes-in-Whole.ensures, c.push_rows.ensures, changes, rows, shown, text)
 
 pub returns-in-Table : goal.returns-in-Table
 unfolding summary_text row_lines
 returns-in-Table c =
-    let columns = c.args.relation.now.schema.values in
-    let section = told c.args.relation.now c.args.closed c.args.skipped c.args.lines.now in
-    let labels : map string_bytes c.deref-in-Table.result.now ≡ labels_of columns =
-    ap (map string_bytes) c.deref-in-Table.ensures.value ∙ c.in_ok-labels.ensures ∙ ap labels_of c.items.ensures in
-    let rows = c.push_rows-in-Table.ensures columns labels in
+    let relation = c.args.relation.now in
+    let section = told relation c.args.closed c.args.skipped c.args.lines.now in
+    let rows = lines-by row_line (printed_by c.in_ok-printer.printer) (value_text relation) c.in_ok-printer.ensures (map shown_of c.as_slice-in-Table.result.now) in
     let shown = ap (map shown_of) c.as_slice-in-Table.ensures.value ∙ c.in_ok-rows.ensures in
     let text = ap (λ e. extent_text e section) c.in-Summary.is in
     let listed = ap (λ k. summary_rows k section) c.in-Table.is in
-    grind (arith, common_steps, append_assoc, c.in_ok-push_head.ensures, rows, shown, text, listed)
+    grind (arith, common_steps, append_assoc, c.in_ok-push_head.ensures, c.push_rows-in-Table.ensures, rows, shown, text, listed)
 
 pub returns : goal.returns
 unfolding summary_text

@@ -1,6 +1,6 @@
 -- Of each member in turn: where it is like the name, the lesser of it and of what was found before it.
-use Rattle.std.proofs.Common.{◌≡◌, ℕ, List, true, false, Some, Bor, option_map, sym, ap, ◌∙◌}
-use Rattle.topic_files.specs.Cells.{is_like, lesser}
+use Rattle.std.proofs.Common.{ℕ, List, true, false, Some, Bor, option_map, sym, ap, ◌∙◌}
+use Rattle.topic_files.specs.Cells.{lesser}
 use Rattle.topic_files.specs.Tree.{named}
 use Rattle.topic_files.specs.declared.tree.Json.{Json}
 use Rattle.topic_files.proofs.Members.{is_like-is, least_like-elsewhere, least_like-here}

@@ -1,4 +1,3 @@
-use Rattle.topic_files.specs.Lines.{lines_of}
 use Rattle.topic_files.proofs.FileLemmas.{before, Reached}
 use Rattle.topic_files.proofs.file.read_topic.Given as goal
 
@@ -7,5 +6,5 @@ abbrev pub invariant-loop-line : goal.invariant-loop-line
 invariant-loop-line l = record {
   can_next : (goal.iterator-loop-line).can_next l.line-iterator;
   is_finite : (goal.iterator-loop-line).is_finite l.line-iterator;
-  reached : Reached l.fn.relation.schema l.fn.room l.fn.bytes (before l.yielded) (lines_of l.line-iterator.rest.now) l.number l.records l.taken l.feds.items;
+  reached : Reached l.fn.relation l.fn.room l.fn.bytes (before l.yielded) l.line-iterator l.number l.records l.taken l.feds.items;
 }

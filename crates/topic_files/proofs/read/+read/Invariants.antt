@@ -1,4 +1,4 @@
-use Rattle.std.proofs.Common.{ℕ, ◌+◌, ◌*◌, length}
+use Rattle.std.proofs.Common.{◌+◌, ◌*◌, length}
 use Rattle.json.specs.Json.{value}
 use Rattle.topic_files.proofs.ReadLemmas.{ItemsRead, MembersRead}
 use Rattle.topic_files.proofs.read.+read.Given as goal

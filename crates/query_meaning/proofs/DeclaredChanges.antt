@@ -1,9 +1,6 @@
--- What is built: each item of a program without an unbuilt one; and the changes of declared relations.
-use Rattle.std.proofs.Common.{◌≡◌, ap, refl, ◌+◌, ℕ, List, [], ◌∷◌, Bool, true, false}
-use Rattle.std.specs.Prelude.{Option, Some, if◌then◌else◌, IsTrue, is_none, option_and_then, option_map}
-use Rattle.std.specs.List.{AllByRecursion}
-use Rattle.ksql_types.specs.declared.relation.Format.{Format}
-use Rattle.ksql_types.specs.declared.relation.Format.TheVariants.{Json, Delimited}
+-- The changes of declared relations, and what a record says.
+use Rattle.std.proofs.Common.{◌≡◌, ap, refl, List, [], ◌∷◌}
+use Rattle.std.specs.Prelude.{option_and_then, option_map}
 use Rattle.ksql_types.specs.declared.relation.Kind.{Kind}
 use Rattle.ksql_types.specs.declared.relation.Kind.TheVariants.{Stream, Table, Windowed}
 use Rattle.ksql_types.specs.declared.relation.Relation.{Relation}
@@ -12,26 +9,8 @@ use Rattle.ksql_place.specs.Said.{row_in, said, said_by}
 use Rattle.ksql_place.specs.declared.change.Decoded.{Decoded}
 use Rattle.ksql_place.specs.declared.change.Decoded.TheVariants.{Good, Tombstone, Skipped}
 use Rattle.ksql_place.specs.declared.change.SourceRecord.{SourceRecord}
-use Rattle.ksql_program.specs.declared.program.Item.{Item}
-use Rattle.query_meaning.specs.Built.{first_unbuilt_from, is_built, is_json}
 use Rattle.query_meaning.specs.Meaning.{declared_changes}
 use Rattle.query_meaning.specs.Plain.{changes_by, raw_body}
-
-built-first : (b : Bool) (rest : Option ℕ) (number : ℕ) → IsTrue (is_none (if b then rest else Some number)) → IsTrue b × IsTrue (is_none rest)
-built-first true rest number h = (refl, h)
-built-first false rest number h = cc
-
--- each item of a program without an unbuilt one is run
-pub each-built : (number : ℕ) (items : List Item) → IsTrue (is_none (first_unbuilt_from number items)) → AllByRecursion (λ i. IsTrue (is_built i)) items
-each-built number [] h = tt
-each-built number (x ∷ xs) h =
-    let (first, rest) = built-first (is_built x) (first_unbuilt_from (number + 1) xs) number h in
-    (first, each-built (number + 1) xs rest)
-
--- JSON is the only format that is run
-pub json-of : (format : Format) → IsTrue (is_json format) → format ≡ Json
-json-of Json is = refl
-json-of Delimited is = absurd (cc (is))
 
 -- the changes of a declared relation by its kind
 pub declared_changes-by : (relation : Relation) (kind : Kind) (order : List SourceRecord) → relation.kind ≡ kind →
