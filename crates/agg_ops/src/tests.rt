@@ -5,7 +5,7 @@ ghost use Rattle.agg_ops.specs.Totals.{is_sound_window};
 use crate::{AggOp, TableAggOp, WindowAggOp};
 use ksql_expr::AggFun;
 use ksql_nodes::Node;
-use ksql_place::{Body, Change, Place, Stamp};
+use ksql_place::{Body, Change, Path, Place, Stamp};
 use ksql_program::Agg;
 use ksql_types::{Items, Key, Kind, Value, Window};
 use operator::Operator;
@@ -55,7 +55,7 @@ fn given(alloc: Global, op: &mut WindowAggOp, time: u64) -> Result<Vec<i64>, All
     let change = Change {
         place: Place {
             stamp,
-            path: Items::of(Vec::new(alloc)),
+            path: Path::root(alloc),
         },
         time,
         key: Key::of(Vec::new(alloc)),

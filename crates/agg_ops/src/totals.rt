@@ -9,7 +9,7 @@ use ksql_expr::AggFun;
 use ksql_place::{Body, Change};
 use ksql_program::Agg;
 use ksql_types::{CopyOf, Items, Key, Kind, Row, Span, SqlType, Value};
-use node_steps::{argument, greater, lesser, row_in, row_out, type_of_agg};
+use node_steps::{argument, greater, lesser, push_copies, row_in, row_out, type_of_agg};
 use std::alloc::{AllocError, Global};
 
 /// What is kept of a group after one more change.
@@ -25,7 +25,8 @@ pub(crate) fn next_totals(
 {
     let time = kept_time(mine).max(change.time);
     let worths = kept_worths(mine);
-    let mut totals = vec![in alloc; Value::Big(time.cast_signed())]?;
+    let mut totals = Vec::with_capacity(alloc, 1 + aggs.len())?;
+    totals.push(Value::Big(time.cast_signed()))?;
     for (index, agg) in aggs.iter().enumerate() {
         let worth = worth_at(alloc, over, worths, index, agg)?;
         totals.push(next_worth(alloc, over, agg, worth, change)?)?;
@@ -221,10 +222,9 @@ fn result_of(
     let [_, worths @ ..] = mine else {
         return Ok(None);
     };
-    let mut row = group.copy(alloc)?.into_items();
-    for worth in worths {
-        row.push(worth.copy(alloc)?)?;
-    }
+    let mut row = Vec::with_capacity(alloc, group.items().len() + mine.len() + 1)?;
+    push_copies(alloc, &mut row, group.items())?;
+    push_copies(alloc, &mut row, worths)?;
     if let Some(span) = span {
         row.push(Value::Big(span.start.cast_signed()))?;
         row.push(Value::Big(span.end.cast_signed()))?;

@@ -23,7 +23,7 @@ use crate::windows::windows_of;
 use ksql_nodes::Node;
 use ksql_place::{Change, Place};
 use ksql_program::{Agg, Aggs};
-use ksql_types::{Changelog, CopyOf, Items, Kind, Span, StoreEntry, Window};
+use ksql_types::{Changelog, CopyOf, Kind, Span, StoreEntry, Window};
 use operator::{Operator, StoredOperator, spelled_key, with_number};
 use std::alloc::{AllocError, Global};
 use std::marker::Model;
@@ -202,29 +202,16 @@ fn window_change(
     requires { HasBigBounds span }
     ensures { IfOk result (λ made. made ≡ at_path (change.now.place.path ++ index ∷ []) (changed change.now (Some span) turn.now.before.items turn.now.after.items)) }
 {
-    let Change {
-        place,
-        time,
-        key,
-        span,
-        body,
-    } = group_change(
+    let given = group_change(
         alloc,
         change,
         Some(span),
         turn.before.as_slice(),
         turn.after.as_slice(),
     )?;
-    let mut path = place.path.into_items();
-    path.push(index)?;
-    Ok(Change {
-        place: Place {
-            stamp: place.stamp,
-            path: Items::of(path),
-        },
-        time,
-        key,
-        span,
-        body,
-    })
+    let place = Place {
+        stamp: given.place.stamp,
+        path: given.place.path.with_last(alloc, index)?,
+    };
+    Ok(Change { place, ..given })
 }

@@ -14,6 +14,7 @@ use ksql_program::Item;
 use ksql_types::{CopyOf, Items, Relation};
 use std::alloc::{AllocError, Global};
 use std::collections::VecDeque;
+use std::mem;
 use topic_feeds::Reached;
 use topic_files::{Fed, Feds, TopicLines};
 use topology::{Count, Step};
@@ -150,12 +151,25 @@ fn count_of(counts: &[Count], topic: u32) -> u64
     0
 }
 
+/// Takes all records that are left, so many. Takes no memory.
+fn take_all(alloc: Global, left: &mut VecDeque<Fed>, count: usize) -> Feds
+    requires { length left.old.items ≤ count }
+    ensures taken { result ≡ take count left.old.items }
+    ensures left { left.new.items ≡ drop count left.old.items }
+{
+    let all = mem::replace(left, VecDeque::new(alloc));
+    Items::of(all.into_vec())
+}
+
 /// Takes the first records that are left, so many.
 fn take_feds(alloc: Global, left: &mut VecDeque<Fed>, count: usize) -> Result<Feds, AllocError>
     requires { count ≤ length left.old.items }
     ensures taken { IfOk result (λ feds. feds ≡ take count left.old.items) }
     ensures left { OnOk result (left.new.items ≡ drop count left.old.items) }
 {
+    if count == left.len() {
+        return Ok(take_all(alloc, left, count));
+    }
     let mut feds = Vec::with_capacity(alloc, count)?;
     for _ in 0..count {
         if let Some(fed) = left.pop_front() {

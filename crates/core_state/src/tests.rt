@@ -1,5 +1,5 @@
 use super::*;
-use ksql_place::{Body, Change, Decoded, Place, SourceRecord, Stamp};
+use ksql_place::{Body, Change, Decoded, Path, Place, SourceRecord, Stamp};
 use ksql_types::{Bytes, Changelog, CopyOf, Items, Key, Row, StoreEntry, TaskName, Value};
 use std::alloc::{AllocError, Global};
 use std::test::Fail;
@@ -24,7 +24,7 @@ fn change(alloc: Global) -> Result<Change, AllocError> {
     Ok(Change {
         place: Place {
             stamp: STAMP,
-            path: Items::of(vec![in alloc; 3]?),
+            path: Path::of(vec![in alloc; 3]?),
         },
         time: 9,
         key: key(alloc)?,

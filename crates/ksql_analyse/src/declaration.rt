@@ -48,7 +48,7 @@ fn topic_or_empty(alloc: Global, topic: Option<&Chars>) -> Result<Chars, AllocEr
 {
     match topic {
         Some(topic) => topic.copy(alloc),
-        None => Ok(Chars::of(String::new(alloc))),
+        None => Chars::of(String::new(alloc)),
     }
 }
 

@@ -38,7 +38,7 @@ pub fn made_name(alloc: Global, alias: &Chars, name: &Chars) -> Result<Chars, Al
     let mut made = String::from_str(alloc, alias.items())?;
     made.push_str("_")?;
     made.push_str(name.items())?;
-    Ok(Chars::of(made))
+    Chars::of(made)
 }
 
 /// Whether a relation has a column of the name.
@@ -104,7 +104,7 @@ fn plain_name(alloc: Global, known: &[Known], expr: &Expr) -> Result<Option<Char
 fn numbered_name(alloc: Global, number: u64) -> Result<Chars, AllocError>
     ensures { IfOk result (λ name. name ≡ spec.numbered_name number) }
 {
-    Ok(Chars::of(format!(in alloc; "KSQL_COL_{number}")?))
+    Chars::of(format!(in alloc; "KSQL_COL_{number}")?)
 }
 
 fn star_column(

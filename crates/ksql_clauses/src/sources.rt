@@ -243,7 +243,7 @@ fn rowkey_of(alloc: Global, key: &Column) -> Result<ScopeColumn, AllocError>
     Ok(ScopeColumn {
         alias: None,
         column: Column {
-            name: Chars::of(String::from_str(alloc, "ROWKEY")?),
+            name: Chars::of(String::from_str(alloc, "ROWKEY")?)?,
             ty: key.ty,
         },
     })

@@ -3,11 +3,11 @@ use crate::headline::ksql;
 use crate::status::Status;
 use ksql_outside::{DirFolder, NoGate, StdSink};
 use ksql_types::{Items, Word, Words};
-use std::env;
 use std::env::Env;
 use std::io::ErrorKind;
 use std::process::ExitCode;
 use std::rt::Files;
+use std::{env, mem};
 
 /// Runs the command that the process was started with, in the working folder and to standard output, and gives the exit
 /// code of its status.
@@ -15,13 +15,16 @@ pub fn run_command<R: AllocGlobal + Env + Files + Print>(rt: &R) -> ExitCode {
     let alloc = rt.alloc();
     let mut folder = DirFolder::new(rt, alloc);
     let mut out = StdSink::new(rt);
+    let mut ran = None;
     let status = match words(rt) {
-        Ok(words) => ksql(rt, alloc, &words, &mut folder, &mut out, &NoGate, &mut None),
+        Ok(words) => ksql(rt, alloc, &words, &mut folder, &mut out, &NoGate, &mut ran),
         Err(status) => {
             let _ = write_fault(&mut out, &status);
             status
         }
     };
+    // The process ends: to give its memory back record by record would only take time.
+    mem::forget(ran);
     ExitCode::from(status.code())
 }
 

@@ -43,7 +43,7 @@ fn file(alloc: Global, name: &str, bytes: &[u8]) -> Result<(Chars, Bytes), Alloc
     requires { length name.now ≤ longest_text }
     ensures { IfOk result (λ pair. pair.0 ≡ name.now) }
 {
-    let name = Chars::of(String::from_str(alloc, name)?);
+    let name = Chars::of(String::from_str(alloc, name)?)?;
     Ok((name, Bytes::of(Vec::from_slice(alloc, bytes)?)))
 }
 
@@ -52,7 +52,7 @@ fn chars(alloc: Global, text: &str) -> Result<Chars, Fail> {
     if text.len() > 100 {
         return Err(Fail::from("a long text"));
     }
-    Ok(Chars::of(String::from_str(alloc, text)?))
+    Ok(Chars::of(String::from_str(alloc, text)?)?)
 }
 
 /// A folder with a script and two topic files, in which the reads of these numbers fail.

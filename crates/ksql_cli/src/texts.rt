@@ -1,5 +1,6 @@
 //! The texts of commands.
 ghost use Rattle.std.specs.Prelude.{◌≡◌, ◌≤◌, IfErr, IfOk, IfSome, None, length};
+ghost use Rattle.ksql_types.specs.Text.{longest_text};
 ghost use Rattle.std.specs.Option.{IsSomeAnd};
 ghost use Rattle.ksql_outside.specs.Outside.{MayJoin};
 ghost use Rattle.ksql_words.specs.Words.{longest_word};
@@ -165,19 +166,18 @@ fn demo_folder(alloc: Global, records: u32) -> Result<MemFolder, AllocError>
 {
     let mut files = Vec::new(alloc);
     let script = Bytes::of(Vec::from_slice(alloc, script().as_bytes())?);
-    files.push((name(alloc, "script.sql")?, script))?;
+    files.push((copied_name(alloc, "script.sql")?, script))?;
     let topic = Bytes::of(topic_file(alloc, records)?);
-    files.push((name(alloc, "./hits.jsonl")?, topic))?;
+    files.push((copied_name(alloc, "./hits.jsonl")?, topic))?;
     let schedule = Bytes::of(schedule(alloc, records)?);
-    files.push((name(alloc, "schedule")?, schedule))?;
+    files.push((copied_name(alloc, "schedule")?, schedule))?;
     Ok(MemFolder::new(alloc, files, Vec::new(alloc)))
 }
 
-/// A short name.
-#[tactic(auto, unfolding(ksql_types::specs::Text::longest_text))]
-fn name(alloc: Global, name: &str) -> Result<Chars, AllocError>
-    requires { length name.now ≤ 32 }
-    ensures { IfOk result (λ text. text ≡ name.now) }
+/// A name, copied.
+pub(crate) fn copied_name(alloc: Global, name: &str) -> Result<Chars, AllocError>
+    requires { length name.now ≤ longest_text }
+    ensures { IfOk result (λ copied. copied ≡ name.now) }
 {
-    Ok(Chars::of(String::from_str(alloc, name)?))
+    Chars::of(String::from_str(alloc, name)?)
 }

@@ -13,6 +13,7 @@ ghost use Rattle.ksql_words.specs.Words.{longest_word};
 ghost use Rattle.ksql_cli.specs.Steps.{AreTopicsDue, HasGrown, IsFeedable, IsFileFailure, IsJoined, IsReadFailure, IsTopicFailure, IsTopicRefusal};
 
 use crate::status::Status;
+use crate::texts::copied_name;
 use ksql_outside::{Folder, ReadFail};
 use ksql_program::Item;
 use ksql_types::{Chars, CopyOf, Relation};
@@ -157,9 +158,8 @@ pub(crate) fn due_file<F: Folder>(
     ensures same_files { F.files folder.new ≡ F.files folder.old }
     ensures grows { MayJoin (F.failed folder.old) (F.failed folder.new) name.now }
 {
-    let kept = match String::from_str(alloc, name) {
-        Ok(kept) => Chars::of(kept),
-        Err(_) => return Err(Status::OutOfMemory),
+    let Ok(kept) = copied_name(alloc, name) else {
+        return Err(Status::OutOfMemory);
     };
     match folder.read(alloc, name) {
         Ok(bytes) => Ok(bytes),

@@ -280,7 +280,7 @@ fn concatenated<'a>(alloc: Global, args: &'a [Typed], view: &RowView<'a>) -> Eva
             return Ok(Operand::Made(Value::Null));
         }
     }
-    Ok(Operand::Made(Value::Txt(Chars::of(whole))))
+    Ok(Operand::Made(Value::Txt(Chars::of(whole)?)))
 }
 
 /// The first value that isn't NULL, in the type of the whole; else NULL.

@@ -20,7 +20,7 @@ fn chars(alloc: Global, text: &str) -> Result<Chars, Fail> {
     if text.len() > 100_000 {
         return Err(Fail::from("a long text"));
     }
-    Ok(Chars::of(String::from_str(alloc, text)?))
+    Ok(Chars::of(String::from_str(alloc, text)?)?)
 }
 
 fn typed(ty: Option<SqlType>, value: Value) -> Typed {
@@ -61,7 +61,7 @@ fn shown(alloc: Global, value: Value) -> Result<String, Fail> {
         Value::Null => String::from_str(alloc, "NULL")?,
         Value::Int(number) => format!(in alloc; "{number}")?,
         Value::Big(number) => format!(in alloc; "{number}L")?,
-        Value::Txt(text) => text.into_items(),
+        Value::Txt(text) => String::from_str(alloc, text.items())?,
         Value::Bool(truth) => format!(in alloc; "{truth}")?,
     })
 }

@@ -24,7 +24,7 @@ pub fn joined(alloc: Global, left: &Value, right: &Value) -> Result<Value, Alloc
             let mut both = String::with_capacity(alloc, len)?;
             both.push_str(left)?;
             both.push_str(right)?;
-            Ok(Value::Txt(Chars::of(both)))
+            Ok(Value::Txt(Chars::of(both)?))
         }
         _ => Ok(Value::Null),
     }
@@ -130,7 +130,7 @@ pub fn tail_of(alloc: Global, text: &Value, at: &Value) -> Result<Value, AllocEr
     match (text, whole(at)) {
         (Value::Txt(text), Some(at)) => {
             let part = String::from_str(alloc, part_of(text.items(), at, None))?;
-            Ok(Value::Txt(Chars::of(part)))
+            Ok(Value::Txt(Chars::of(part)?))
         }
         _ => Ok(Value::Null),
     }
@@ -144,7 +144,7 @@ pub fn middle_of(alloc: Global, text: &Value, at: &Value, len: &Value) -> Result
     match (text, whole(at), whole(len)) {
         (Value::Txt(text), Some(at), Some(len)) => {
             let part = String::from_str(alloc, part_of(text.items(), at, Some(len)))?;
-            Ok(Value::Txt(Chars::of(part)))
+            Ok(Value::Txt(Chars::of(part)?))
         }
         _ => Ok(Value::Null),
     }
@@ -182,7 +182,7 @@ pub fn without_spaces(alloc: Global, value: &Value) -> Result<Value, AllocError>
     match value {
         Value::Txt(text) => {
             let kept = String::from_str(alloc, before_spaces(behind_spaces(text.items())))?;
-            Ok(Value::Txt(Chars::of(kept)))
+            Ok(Value::Txt(Chars::of(kept)?))
         }
         _ => Ok(Value::Null),
     }
@@ -195,7 +195,7 @@ pub fn in_capitals(alloc: Global, value: &Value) -> Result<Value, AllocError>
     match value {
         Value::Txt(text) => {
             let capitals = text.items().to_ascii_uppercase(alloc)?;
-            Ok(Value::Txt(Chars::of(capitals)))
+            Ok(Value::Txt(Chars::of(capitals)?))
         }
         _ => Ok(Value::Null),
     }
@@ -208,7 +208,7 @@ pub fn in_small_letters(alloc: Global, value: &Value) -> Result<Value, AllocErro
     match value {
         Value::Txt(text) => {
             let small = text.items().to_ascii_lowercase(alloc)?;
-            Ok(Value::Txt(Chars::of(small)))
+            Ok(Value::Txt(Chars::of(small)?))
         }
         _ => Ok(Value::Null),
     }
@@ -241,7 +241,7 @@ pub fn cast_number(to: SqlType, value: &Value) -> Value
 fn decimal(alloc: Global, number: i64) -> Result<Value, AllocError>
     ensures { IfOk result (λ text. text ≡ Value.Txt (signed_decimal number)) }
 {
-    Ok(Value::Txt(Chars::of(number.to_string(alloc)?)))
+    Ok(Value::Txt(Chars::of(number.to_string(alloc)?)?))
 }
 
 /// The text of a truth value.
@@ -262,7 +262,7 @@ pub fn cast_text(alloc: Global, value: &Value) -> Result<Value, AllocError>
         Value::Big(number) => decimal(alloc, *number),
         Value::Bool(truth) => {
             let text = String::from_str(alloc, truth_text(*truth))?;
-            Ok(Value::Txt(Chars::of(text)))
+            Ok(Value::Txt(Chars::of(text)?))
         }
         _ => value.copy(alloc),
     }

@@ -34,7 +34,7 @@ fn read_word(alloc: Global, text: &str) -> Result<Option<Found<'_>>, AllocError>
     let mut name = String::from_str(alloc, word)?;
     name.make_ascii_uppercase();
     Ok(Some(Found {
-        kind: Some(TokenKind::Word(Chars::of(name))),
+        kind: Some(TokenKind::Word(Chars::of(name)?)),
         rest,
     }))
 }
@@ -49,7 +49,7 @@ fn read_digits(alloc: Global, text: &str) -> Result<Option<Found<'_>>, AllocErro
         return Ok(None);
     }
     Ok(Some(Found {
-        kind: Some(TokenKind::Digits(Chars::of(String::from_str(alloc, word)?))),
+        kind: Some(TokenKind::Digits(Chars::of(String::from_str(alloc, word)?)?)),
         rest,
     }))
 }
@@ -67,7 +67,7 @@ fn read_quoted(alloc: Global, text: &str) -> Result<Option<Found<'_>>, AllocErro
     }
     let name = String::from_str(alloc, name)?;
     Ok(Some(Found {
-        kind: Some(TokenKind::Quoted(Chars::of(name))),
+        kind: Some(TokenKind::Quoted(Chars::of(name)?)),
         rest,
     }))
 }
@@ -88,7 +88,7 @@ fn read_text(alloc: Global, text: &str) -> Result<Option<Found<'_>>, AllocError>
         rest = behind;
     }
     Ok(Some(Found {
-        kind: Some(TokenKind::Text(Chars::of(content))),
+        kind: Some(TokenKind::Text(Chars::of(content)?)),
         rest,
     }))
 }

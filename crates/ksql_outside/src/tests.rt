@@ -10,7 +10,7 @@ fn file(alloc: Global, name: &str, bytes: &[u8]) -> Result<(Chars, Bytes), Alloc
     requires { length name.now ≤ longest_text }
     ensures { IfOk result (λ pair. pair.0 ≡ name.now) }
 {
-    let name = Chars::of(String::from_str(alloc, name)?);
+    let name = Chars::of(String::from_str(alloc, name)?)?;
     Ok((name, Bytes::of(Vec::from_slice(alloc, bytes)?)))
 }
 

@@ -3,3 +3,4 @@ pub mod Merge
 pub mod Order
 pub mod Said
 pub mod Routing
+pub mod Path

@@ -4,6 +4,7 @@
 mod change;
 mod laws;
 mod order;
+mod path;
 mod said;
 mod stamp;
 
@@ -13,8 +14,9 @@ pub use laws::{
     places_between_are_ordered, stamps_are_ordered,
 };
 pub use order::{PartTimes, cmp_between, cmp_place, order_of, stamps_of};
+pub use path::Path;
 pub use said::{is_skipped, said_by};
-pub use stamp::{Path, Place, Stamp};
+pub use stamp::{Place, Stamp};
 
 #[cfg(test)]
 mod tests;

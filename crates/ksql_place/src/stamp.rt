@@ -1,4 +1,5 @@
-use ksql_types::{CopyOf, Items};
+use crate::path::Path;
+use ksql_types::CopyOf;
 use std::alloc::{AllocError, Global};
 
 /// The place of a record in the order of consumption. Stamps are compared field by field: the number of the feed,
@@ -12,9 +13,6 @@ pub struct Stamp {
     pub part: u32,
     pub offset: u64,
 }
-
-/// The numbers that tell apart the changes that one record causes.
-pub type Path = Items<u32>;
 
 /// The place of a change: the stamp of the record that caused it, and a path.
 #[derive(Debug, Drop)]

@@ -18,7 +18,7 @@ fn stamp(high: u64, part: u32, offset: u64) -> Stamp {
 fn place(alloc: Global, offset: u64, path: &[u32]) -> Result<Place, Fail> {
     Ok(Place {
         stamp: stamp(9, 1, offset),
-        path: Items::of(Vec::from_slice(alloc, path)?),
+        path: Path::of(Vec::from_slice(alloc, path)?),
     })
 }
 
@@ -118,13 +118,13 @@ fn records_say_by_kind_key_and_value(rt: HostRuntime) -> Result<(), Fail> {
 fn table(alloc: Global, number: u32) -> Result<Relation, Fail> {
     Ok(Relation {
         number,
-        name: Chars::of(String::new(alloc)),
+        name: Chars::of(String::new(alloc))?,
         kind: Kind::Table,
         schema: Schema {
             keys: Items::of(Vec::new(alloc)),
             values: Items::of(Vec::new(alloc)),
         },
-        topic: Chars::of(String::new(alloc)),
+        topic: Chars::of(String::new(alloc))?,
         partitions: 1,
         format: Format::Json,
         declared: true,
@@ -181,7 +181,17 @@ fn copies_are_equal(rt: HostRuntime) -> Result<(), Fail> {
     assert!(rt; is_copied(alloc, &change)?);
     assert!(rt; is_copied(alloc, &change.place)?);
     assert!(rt; is_copied(alloc, &change.body)?);
-    let copied = written(alloc, &change.place.copy(alloc)?.path)?;
-    assert_eq!(rt; copied.as_str(), "Items { inner: [2, 0] }");
+    let copied = change.place.copy(alloc)?.path;
+    assert!(rt; copied.items() == [2, 0].as_slice());
+    Ok(())
+}
+
+#[test]
+fn paths_grow_at_both_ends(rt: HostRuntime) -> Result<(), Fail> {
+    let alloc = rt.alloc();
+    let one = Path::root(alloc).with_last(alloc, 2)?;
+    let longer = one.with_first(alloc, 1)?.with_last(alloc, 3)?;
+    assert!(rt; one.items() == [2].as_slice());
+    assert!(rt; longer.items() == [1, 2, 3].as_slice());
     Ok(())
 }

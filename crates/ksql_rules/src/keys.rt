@@ -193,7 +193,7 @@ fn with(mut exprs: Vec<Expr>, expr: Expr) -> Result<Vec<Expr>, AllocError>
 fn rowkey(alloc: Global) -> Result<Expr, AllocError>
     ensures { IfOk result (λ key. key ≡ Expr.Name None (codes "ROWKEY")) }
 {
-    let name = Chars::of(String::from_str(alloc, "ROWKEY")?);
+    let name = Chars::of(String::from_str(alloc, "ROWKEY")?)?;
     Ok(Expr::Name {
         qualifier: None,
         name,

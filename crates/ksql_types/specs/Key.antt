@@ -1,6 +1,8 @@
 -- What a key is.
-use Rattle.std.specs.Prelude.{List, length, Bool, true, false, not, nat_le, ◌&&◌, IsTrue}
+use Rattle.std.specs.Prelude.{List, [], ◌∷◌, length, Bool, true, false, not, nat_le, ◌&&◌, IsTrue}
 use Rattle.std.specs.List.{list_all}
+use Rattle.ksql_types.specs.declared.key.KeyValues.{KeyValues}
+use Rattle.ksql_types.specs.declared.key.KeyValues.TheVariants.{One, Several}
 use Rattle.ksql_types.specs.declared.value.Value.{Value}
 use Rattle.ksql_types.specs.declared.value.Value.TheVariants.{Null}
 
@@ -15,3 +17,8 @@ is_key values = nat_le (length values) 8 && list_all (λ v. not (is_null v)) val
 
 abbrev pub IsKey : List Value → Type 0
 IsKey values = IsTrue (is_key values)
+
+-- the values that stand in a key
+abbrev pub values_of : KeyValues → List Value
+values_of (One value) = value ∷ []
+values_of (Several values) = values

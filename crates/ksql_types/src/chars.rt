@@ -1,4 +1,4 @@
-ghost use Rattle.std.specs.Prelude.{◌≡◌, ◌≤◌, length, Some, refl, bytes_eq, string_bytes, string_len};
+ghost use Rattle.std.specs.Prelude.{◌≡◌, ◌≤◌, length, IfOk, Some, refl, bytes_eq, string_bytes, string_len};
 ghost use Rattle.std.proofs.Common.{rules};
 ghost use Rattle.std.specs.Ordering.{nat_cmp};
 ghost use Rattle.std.specs.Str.{IsUtf8};
@@ -13,15 +13,17 @@ use std::alloc::{AllocError, Global};
 use std::cmp::Ordering;
 use std::hash::{Hash, Hasher};
 use std::marker::Model;
+use std::sync::ArcStr;
 
-/// A text of at most 1,048,576 bytes of UTF-8, which contracts see as the list of its bytes.
+/// A text of at most 1,048,576 bytes of UTF-8, which contracts see as the list of its bytes. Its copies share the bytes.
 #[derive(Debug, Drop)]
 pub struct Chars {
-    text: String,
+    text: ArcStr,
 }
 
 impl Model for Chars {
-    ghost use Rattle.std.specs.Prelude.{List, ℕ, ◌≤◌, length, string_bytes};
+    ghost use Rattle.std.specs.Prelude.{List, ℕ, ◌≤◌, length};
+    ghost use Rattle.std.specs.Arc.{arc_str_bytes};
     ghost use Rattle.std.specs.Coded.{coded_list, coded_ℕ};
     ghost use Rattle.ksql_types.specs.Text.{longest_text};
 
@@ -29,18 +31,19 @@ impl Model for Chars {
 
     ghost coded = { coded_list coded_ℕ };
 
-    ghost view = { λ c. string_bytes c.text };
+    ghost view = { λ c. arc_str_bytes c.text };
 
-    ghost invariant = { λ c. length (string_bytes c.text) ≤ longest_text };
+    ghost invariant = { λ c. length (arc_str_bytes c.text) ≤ longest_text };
 }
 
 impl Chars {
-    /// The text. Takes no memory.
-    pub fn of(text: String) -> Chars
+    /// The text.
+    pub fn of(text: String) -> Result<Chars, AllocError>
         requires { string_len text ≤ longest_text }
-        ensures { result ≡ string_bytes text }
+        ensures { IfOk result (λ made. made ≡ string_bytes text) }
     {
-        Chars { text }
+        let text = ArcStr::from_string(text)?;
+        Ok(Chars { text })
     }
 
     /// The text, lent.
@@ -51,19 +54,12 @@ impl Chars {
     {
         self.text.as_str()
     }
-
-    /// The text as a `String`. Takes no memory.
-    pub fn into_items(self) -> String
-        ensures { string_bytes result ≡ self }
-    {
-        let Chars { text } = self;
-        text
-    }
 }
 
 impl CopyOf for Chars {
-    fn copy(&self, alloc: Global) -> Result<Chars, AllocError> {
-        Ok(Chars::of(String::from_str(alloc, self.items())?))
+    fn copy(&self, _alloc: Global) -> Result<Chars, AllocError> {
+        let text = self.text.clone()?;
+        Ok(Chars { text })
     }
 }
 

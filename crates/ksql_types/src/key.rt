@@ -1,4 +1,4 @@
-ghost use Rattle.std.specs.Prelude.{◌≡◌, not};
+ghost use Rattle.std.specs.Prelude.{◌≡◌, ◌∷◌, [], IfErr, IfOk, not, false};
 ghost use Rattle.std.specs.List.{list_all};
 ghost use Rattle.ksql_types.specs.Key.{IsKey, is_key, is_null};
 
@@ -6,35 +6,55 @@ use crate::copying::CopyOf;
 use crate::items::Items;
 use crate::value::Value;
 use std::alloc::{AllocError, Global};
+use std::array;
 use std::marker::Model;
+
+/// The values of a key: most keys have one, which takes no list.
+#[derive(Debug, Drop)]
+enum KeyValues {
+    One(Value),
+    Several(Items<Value>),
+}
 
 /// A key: at most 8 values, none of which is `Null`. The empty list is no key.
 #[derive(Debug, Drop)]
 pub struct Key {
-    values: Items<Value>,
+    values: KeyValues,
 }
 
 impl Model for Key {
     ghost use Rattle.std.specs.Prelude.{List};
     ghost use Rattle.ksql_types.specs.declared.value.Value.{Value as OneValue};
-    ghost use Rattle.ksql_types.specs.Key.{IsKey};
+    ghost use Rattle.ksql_types.specs.Key.{IsKey, values_of};
 
     ghost Value = { List OneValue };
 
-    ghost view = { λ k. k.values };
+    ghost view = { λ k. values_of k.values };
 
-    ghost invariant = { λ k. IsKey k.values };
+    ghost invariant = { λ k. IsKey (values_of k.values) };
 }
 
 impl Key {
+    /// The key of one value. Takes no memory.
+    pub fn one(value: Value) -> Key
+        requires { is_null value ≡ false }
+        ensures { result ≡ value ∷ [] }
+    {
+        Key {
+            values: KeyValues::One(value),
+        }
+    }
+
     /// The key of these values. Takes no memory.
     pub fn of(values: Vec<Value>) -> Key
         requires { IsKey values.items }
         ensures { result ≡ values.items }
     {
-        Key {
-            values: Items::of(values),
-        }
+        let values = match single(values) {
+            Ok(value) => KeyValues::One(value),
+            Err(values) => KeyValues::Several(Items::of(values)),
+        };
+        Key { values }
     }
 
     /// Whether these values make a key.
@@ -49,16 +69,25 @@ impl Key {
         ensures value { result.now ≡ self.now }
         ensures key { IsKey self.now }
     {
-        self.values.items()
+        match &self.values {
+            KeyValues::One(value) => array::from_ref(value),
+            KeyValues::Several(values) => values.items(),
+        }
     }
+}
 
-    /// The values as a vector. Takes no memory.
-    pub fn into_items(self) -> Vec<Value>
-        ensures value { result.items ≡ self }
-        ensures key { IsKey self }
-    {
-        let Key { values } = self;
-        values.into_items()
+/// The only value of a list of one, or the list.
+fn single(values: Vec<Value>) -> Result<Value, Vec<Value>>
+    ensures one { IfOk result (λ value. values.items ≡ value ∷ []) }
+    ensures several { IfErr result (λ same. same.items ≡ values.items) }
+{
+    let mut values = values;
+    if values.len() != 1 {
+        return Err(values);
+    }
+    match values.pop() {
+        Some(value) => Ok(value),
+        None => unreachable!(),
     }
 }
 
@@ -67,6 +96,15 @@ fn are_present(values: &[Value]) -> bool
     ensures { result ≡ list_all (λ v. not (is_null v)) values.now }
 {
     values.iter().all(|value| !value.is_null())
+}
+
+impl CopyOf for KeyValues {
+    fn copy(&self, alloc: Global) -> Result<KeyValues, AllocError> {
+        match self {
+            KeyValues::One(value) => Ok(KeyValues::One(value.copy(alloc)?)),
+            KeyValues::Several(values) => Ok(KeyValues::Several(values.copy(alloc)?)),
+        }
+    }
 }
 
 impl CopyOf for Key {

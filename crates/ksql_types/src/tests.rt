@@ -10,7 +10,7 @@ fn chars(alloc: Global, text: &str) -> Result<Chars, Fail> {
     if text.len() > 100 {
         return Err(Fail::from("a long text"));
     }
-    Ok(Chars::of(String::from_str(alloc, text)?))
+    Ok(Chars::of(String::from_str(alloc, text)?)?)
 }
 
 fn column(alloc: Global, name: &str, ty: SqlType) -> Result<Columns, Fail> {
@@ -46,7 +46,7 @@ fn a_relation_is_copied_whole(rt: HostRuntime) -> Result<(), Fail> {
 fn values_keys_and_boxes_are_copied(rt: HostRuntime) -> Result<(), Fail> {
     let alloc = rt.alloc();
     let key = Key::of(vec![in alloc; Value::Int(7), Value::Bool(true)]?);
-    assert_eq!(rt; key.copy(alloc)?.into_items().len(), 2);
+    assert_eq!(rt; key.copy(alloc)?.items().len(), 2);
     let boxed = Boxed::of(alloc, Some(Value::Big(8)))?;
     assert!(rt; matches!(boxed.copy(alloc)?.into_inner(), Some(Value::Big(8))));
     let bytes: Bytes = Items::of(vec![in alloc; 1, 2]?);

@@ -10,7 +10,7 @@ fn chars(alloc: Global, text: &str) -> Result<Chars, AllocError> {
     if text.len() > 100 {
         return Err(AllocError);
     }
-    Ok(Chars::of(String::from_str(alloc, text)?))
+    Ok(Chars::of(String::from_str(alloc, text)?)?)
 }
 
 fn columns(alloc: Global, name: &str) -> Result<Items<Column>, AllocError> {

@@ -6,7 +6,7 @@ ghost use Rattle.node_steps.specs.Steps.{entry_of};
 
 use crate::aggregates::{aggregate, balance};
 use crate::entries::{EntryRef, latest_time, of_key, row_in, row_out};
-use crate::rows::value_of;
+use crate::rows::{push_copies, value_of};
 use ksql_expr::{Typed, agg_type};
 use ksql_place::{Body, Change};
 use ksql_program::Agg;
@@ -51,7 +51,8 @@ fn outcome(
     if entries.is_empty() {
         return Ok(None);
     }
-    let mut row = group.copy(alloc)?.into_items();
+    let mut row = Vec::with_capacity(alloc, group.items().len() + aggs.len())?;
+    push_copies(alloc, &mut row, group.items())?;
     for agg in aggs {
         row.push(worth(alloc, over, entries, agg)?)?;
     }

@@ -5,11 +5,11 @@ ghost use Rattle.ksql_nodes.specs.Groups.{grouped, in_group, member, moved};
 ghost use Rattle.ksql_nodes.specs.Joins.{join_key, rekeyed};
 ghost use Rattle.node_steps.specs.Steps.{member_of};
 
-use crate::keys::{is_same_key, key_of};
+use crate::keys::{is_same_key, key_of, one_key};
 use crate::rows::{copied, value_of, values_of, with_body};
 use ksql_expr::Typed;
 use ksql_place::{Body, Change, Place};
-use ksql_types::{CopyOf, Items, Key, Row};
+use ksql_types::{CopyOf, Key, Row};
 use std::alloc::{AllocError, Global};
 
 /// A row, lent, beside the group that it is in.
@@ -51,7 +51,7 @@ fn join_key(alloc: Global, on: &Typed, change: &Change) -> Result<Key, AllocErro
     match &change.body {
         Body::Said(row) => {
             let value = value_of(alloc, on, change.time, row)?;
-            Ok(key_of(alloc, vec![in alloc; value]?))
+            Ok(one_key(alloc, value))
         }
         Body::Turned { .. } => Ok(Key::of(Vec::new(alloc))),
     }
@@ -143,12 +143,10 @@ fn in_group(
 ) -> Result<Change, AllocError>
     ensures { IfOk result (λ made. made ≡ in_group group step change.now (body.Turned (option_map (λ r. r.now) old.entry) (option_map (λ r. r.now) new.entry))) }
 {
-    let mut path = change.place.path.copy(alloc)?.into_items();
-    path.push(step)?;
     Ok(Change {
         place: Place {
             stamp: change.place.stamp,
-            path: Items::of(path),
+            path: change.place.path.with_last(alloc, step)?,
         },
         time: change.time,
         key: group,

@@ -1,4 +1,4 @@
-ghost use Rattle.std.specs.Prelude.{◌≡◌};
+ghost use Rattle.std.specs.Prelude.{◌≡◌, ◌∷◌, []};
 ghost use Rattle.ksql_nodes.specs.Entries.{is_same_key, is_same_value};
 ghost use Rattle.ksql_nodes.specs.Rows.{key_of};
 
@@ -48,5 +48,16 @@ pub fn key_of(alloc: Global, values: Vec<Value>) -> Key
         Key::of(values)
     } else {
         Key::of(Vec::new(alloc))
+    }
+}
+
+/// The key of a value: none where it is NULL.
+pub(crate) fn one_key(alloc: Global, value: Value) -> Key
+    ensures { result ≡ key_of (value ∷ []) }
+{
+    if value.is_null() {
+        Key::of(Vec::new(alloc))
+    } else {
+        Key::one(value)
     }
 }

@@ -14,7 +14,7 @@ pub use entries::{EntryRef, latest_time, row_in, row_out};
 pub use group_changes::{argument, type_of_agg};
 pub use groups::{grouped, rekeyed};
 pub use keys::{is_same_key, key_of};
-pub use rows::{copied, filtered, selected, turned, values_of, with_body};
+pub use rows::{copied, filtered, push_copies, push_nulls, selected, turned, values_of, with_body};
 pub use steps::results;
 
 #[cfg(test)]

@@ -1,5 +1,6 @@
 //! Steps that look at each row by itself.
-ghost use Rattle.std.specs.Prelude.{◌≡◌, ◌∷◌, [], IfOk, map, option_and_then, option_map};
+ghost use Rattle.std.specs.Prelude.{◌≡◌, ◌∷◌, ◌++◌, [], IfOk, OnOk, map, replicate, option_and_then, option_map};
+ghost use Rattle.ksql_types.specs.declared.value.Value.TheVariants as value;
 ghost use Rattle.ksql_expr.specs.Value.{value_of};
 ghost use Rattle.ksql_nodes.specs.Rows.{by_rows, filtered, passing, selected, selected_key, turned, values, with_body};
 
@@ -101,6 +102,30 @@ pub fn copied(alloc: Global, row: Option<&Row>) -> Result<Option<Row>, AllocErro
         Some(row) => Ok(Some(row.copy(alloc)?)),
         None => Ok(None),
     }
+}
+
+/// Adds copies of values.
+pub fn push_copies(
+    alloc: Global,
+    cells: &mut Vec<Value>,
+    values: &[Value],
+) -> Result<(), AllocError>
+    ensures { OnOk result (cells.new.items ≡ cells.old.items ++ values.now) }
+{
+    for value in values {
+        cells.push(value.copy(alloc)?)?;
+    }
+    Ok(())
+}
+
+/// Adds so many NULLs.
+pub fn push_nulls(cells: &mut Vec<Value>, count: u32) -> Result<(), AllocError>
+    ensures { OnOk result (cells.new.items ≡ cells.old.items ++ replicate count value.Null) }
+{
+    for _ in 0..count {
+        cells.push(Value::Null)?;
+    }
+    Ok(())
 }
 
 /// What a condition leaves of a change.

@@ -1,7 +1,7 @@
 use crate::{EntryRef, results};
 use ksql_expr::{AggFun, Typed, TypedNode};
 use ksql_nodes::Node;
-use ksql_place::{Body, Change, Place, Stamp};
+use ksql_place::{Body, Change, Path, Place, Stamp};
 use ksql_program::{Agg, Aggs};
 use ksql_types::{Items, Key, Kind, SqlType, Value};
 use std::alloc::{AllocError, Global};
@@ -23,7 +23,7 @@ fn change(alloc: Global, time: u64, number: Option<i32>) -> Result<Change, Alloc
     Ok(Change {
         place: Place {
             stamp,
-            path: Items::of(Vec::new(alloc)),
+            path: Path::root(alloc),
         },
         time,
         key: Key::of(vec![in alloc; Value::Int(1)]?),

@@ -41,7 +41,7 @@ fn stepped(op: &mut Op, alloc: Global, entries: &[Entry]) -> Result<Vec<Change>,
     ensures next { IfOk result (λ given. Steps (⟦<Op as Operator>⟧.node op.old) (⟦<Op as Operator>⟧.held op.old) (⟦<Op as Operator>⟧.held op.new) (entries_of entries.now) given.items) }
     ensures base { (base : Maps) → IsBaseOf base (⟦<Op as Operator>⟧.held op.old) → IsBaseOf base (⟦<Op as Operator>⟧.held op.new) }
 {
-    let mut given = Vec::new(alloc);
+    let mut given = Vec::with_capacity(alloc, entries.len())?;
     for entry in entries {
         op.step(alloc, entry.side, &entry.change, &mut given)?;
     }

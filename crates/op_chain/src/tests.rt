@@ -4,7 +4,7 @@ ghost use Rattle.op_chain.specs.Plain.{AreFiltered, IsPlain};
 use crate::{Chain, Entry};
 use ksql_expr::{Typed, TypedNode};
 use ksql_nodes::Node;
-use ksql_place::{Body, Change, Place, Stamp};
+use ksql_place::{Body, Change, Path, Place, Stamp};
 use ksql_types::{Items, Key, SqlType, Value};
 use std::alloc::{AllocError, Global};
 use std::test::Fail;
@@ -50,7 +50,7 @@ fn entry(alloc: Global, passes: bool) -> Result<Entry, AllocError>
     let change = Change {
         place: Place {
             stamp,
-            path: Items::of(Vec::new(alloc)),
+            path: Path::root(alloc),
         },
         time: 0,
         key: Key::of(Vec::new(alloc)),

@@ -3,7 +3,7 @@ ghost use Rattle.std.specs.Prelude.{IfOk};
 ghost use Rattle.record_codec.specs.Spelling.{IsShortRow};
 ghost use Rattle.operator_bench.specs.Plain.{IsPlain};
 
-use ksql_place::{Body, Change, Place, Stamp};
+use ksql_place::{Body, Change, Path, Place, Stamp};
 use ksql_types::{Items, Key, Row, Value};
 use std::alloc::{AllocError, Global};
 
@@ -31,7 +31,7 @@ pub fn entry(alloc: Global, number: u32, of_table: bool) -> Result<Change, Alloc
     Ok(Change {
         place: Place {
             stamp,
-            path: Items::of(Vec::new(alloc)),
+            path: Path::root(alloc),
         },
         time: u64::from(number),
         key: Key::of(vec![in alloc; Value::Big(key)]?),

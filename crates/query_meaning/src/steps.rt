@@ -13,10 +13,10 @@ ghost use Rattle.query_meaning.specs.Queries.{after_aggregate, filter_of, key_ce
 
 use ksql_expr::{Exprs, Typed};
 use ksql_nodes::Node;
-use ksql_place::{Body, Change, Place, SourceRecord, said_by};
+use ksql_place::{Body, Change, Path, Place, SourceRecord, said_by};
 use ksql_program::Aggs;
 use ksql_types::{CopyOf, Items, Key, Kind, Row, Value};
-use node_steps::{EntryRef, results};
+use node_steps::{EntryRef, push_copies, results};
 use std::alloc::{AllocError, Global};
 
 /// The changes of a declared table: each record of its topic turns the row that the latest one of its key left.
@@ -70,7 +70,7 @@ fn push_said(
     changes.push(Change {
         place: Place {
             stamp: fed.stamp,
-            path: Items::of(Vec::new(alloc)),
+            path: Path::root(alloc),
         },
         time: fed.time,
         key: fed.key.copy(alloc)?,
@@ -155,8 +155,9 @@ fn whole_row(alloc: Global, columns: usize, key: &Key, row: &Row) -> Result<Row,
 {
     let mut whole = match key.items() {
         [] => nulls(alloc, columns)?,
-        _ => key.copy(alloc)?.into_items(),
+        _ => Vec::new(alloc),
     };
+    push_copies(alloc, &mut whole, key.items())?;
     push_copies(alloc, &mut whole, row.items())?;
     Ok(Items::of(whole))
 }
@@ -170,16 +171,6 @@ pub fn nulls(alloc: Global, count: usize) -> Result<Vec<Value>, AllocError>
         row.push(Value::Null)?;
     }
     Ok(row)
-}
-
-/// Adds copies of values.
-fn push_copies(alloc: Global, row: &mut Vec<Value>, values: &[Value]) -> Result<(), AllocError>
-    ensures { OnOk result (row.new.items ≡ row.old.items ++ values.now) }
-{
-    for value in values {
-        row.push(value.copy(alloc)?)?;
-    }
-    Ok(())
 }
 
 /// The node of WHERE, where there is one.

@@ -13,7 +13,7 @@ fn chars(alloc: Global, text: &str) -> Result<Chars, AllocError> {
     if text.len() > 100 {
         return Err(AllocError);
     }
-    Ok(Chars::of(String::from_str(alloc, text)?))
+    Ok(Chars::of(String::from_str(alloc, text)?)?)
 }
 
 /// A relation over two partitions with one key column.

@@ -7,7 +7,7 @@ ghost use Rattle.record_codec.specs.Reading as read;
 ghost use Rattle.record_codec.specs.Reading.{Gives, with_rest, with_items};
 
 use crate::fault::ReadError;
-use ksql_place::{Body, Change, Place, Stamp};
+use ksql_place::{Body, Change, Path, Place, Stamp};
 use ksql_types::{Chars, Items, Key, Row, Span, Value};
 use std::alloc::{AllocError, Global};
 use std::str;
@@ -70,7 +70,7 @@ fn chars(alloc: Global, text: &str) -> Result<Chars, AllocError>
     requires { length text.now ≤ 65536 }
     ensures { IfOk result (λ chars. chars ≡ text.now) }
 {
-    Ok(Chars::of(String::from_str(alloc, text)?))
+    Chars::of(String::from_str(alloc, text)?)
 }
 
 #[tactic(auto, unfolding(crate::specs::Reading::truth_at))]
@@ -113,7 +113,7 @@ fn value(alloc: Global, bytes: &[u8]) -> Result<(Value, &[u8]), ReadError>
 fn many_values(alloc: Global, count: u32, bytes: &[u8]) -> Result<(Vec<Value>, &[u8]), ReadError>
     ensures { Gives with_items result (read.times read.value_at count bytes.now) }
 {
-    let mut values = Vec::new(alloc);
+    let mut values = Vec::with_capacity(alloc, bytes.len().min(count as usize))?;
     let mut rest = bytes;
     for _ in 0..count {
         let (value, after) = value(alloc, rest)?;
@@ -156,7 +156,7 @@ fn key(alloc: Global, bytes: &[u8]) -> Result<(Key, &[u8]), ReadError>
 fn many_numbers(alloc: Global, count: u32, bytes: &[u8]) -> Result<(Vec<u32>, &[u8]), ReadError>
     ensures { Gives with_items result (read.times read.four_at count bytes.now) }
 {
-    let mut numbers = Vec::new(alloc);
+    let mut numbers = Vec::with_capacity(alloc, bytes.len().min(count as usize))?;
     let mut rest = bytes;
     for _ in 0..count {
         let (number, after) = four(rest)?;
@@ -167,7 +167,7 @@ fn many_numbers(alloc: Global, count: u32, bytes: &[u8]) -> Result<(Vec<u32>, &[
 }
 
 #[tactic(auto, unfolding(crate::specs::Reading::path_at, crate::specs::Reading::list_at))]
-fn path(alloc: Global, bytes: &[u8]) -> Result<(Items<u32>, &[u8]), ReadError>
+fn path(alloc: Global, bytes: &[u8]) -> Result<(Path, &[u8]), ReadError>
     ensures { Gives with_rest result (read.path_at bytes.now) }
 {
     let (count, rest) = four(bytes)?;
@@ -175,7 +175,7 @@ fn path(alloc: Global, bytes: &[u8]) -> Result<(Items<u32>, &[u8]), ReadError>
         return Err(ReadError::Unspelled);
     }
     let (numbers, rest) = many_numbers(alloc, count, rest)?;
-    Ok((Items::of(numbers), rest))
+    Ok((Path::of(numbers), rest))
 }
 
 #[tactic(auto, unfolding(crate::specs::Reading::stamp_at))]

@@ -2,7 +2,7 @@ ghost use Rattle.std.specs.Prelude.{◌≤◌, length, IfOk};
 ghost use Rattle.record_codec.specs.Spelling.{IsWithinLimits};
 
 use super::*;
-use ksql_place::{Body, Change, Place, Stamp};
+use ksql_place::{Body, Change, Path, Place, Stamp};
 use ksql_types::{Chars, Items, Key, Value};
 use std::alloc::Global;
 use std::test::Fail;
@@ -31,7 +31,7 @@ fn chars(alloc: Global, text: &str) -> Result<Chars, Fail>
     if text.len() > 100 {
         return Err(Fail::from("a long text"));
     }
-    Ok(Chars::of(String::from_str(alloc, text)?))
+    Ok(Chars::of(String::from_str(alloc, text)?)?)
 }
 
 fn click(alloc: Global) -> Result<Change, Fail>
@@ -46,7 +46,7 @@ fn click(alloc: Global) -> Result<Change, Fail>
     };
     let place = Place {
         stamp,
-        path: Items::of(Vec::new(alloc)),
+        path: Path::root(alloc),
     };
     let text = chars(alloc, "a")?;
     let key = Key::of(vec![in alloc; Value::Txt(text)]?);

@@ -153,7 +153,7 @@ pub fn encode(alloc: Global, change: &Change) -> Result<Bytes, AllocError>
     ensures bytes { IfOk result (λ bytes. bytes ≡ spelling change.now) }
     ensures spellable { OnOk result (IsSpellable change.now) }
 {
-    let mut out = Vec::new(alloc);
+    let mut out = Vec::with_capacity(alloc, 128)?;
     put_head(&mut out, &change.body)?;
     put_stamp(&mut out, &change.place.stamp)?;
     put_path(&mut out, change.place.path.items())?;
@@ -170,7 +170,7 @@ pub fn encode_row(alloc: Global, row: &Row) -> Result<Bytes, AllocError>
     ensures bytes { IfOk result (λ bytes. bytes ≡ spelled.values row.now) }
     ensures spellable { OnOk result (IsSpellableRow row.now) }
 {
-    let mut out = Vec::new(alloc);
+    let mut out = Vec::with_capacity(alloc, row.items().len() * 16 + 4)?;
     put_values(&mut out, row.items())?;
     Ok(Items::of(out))
 }
@@ -182,7 +182,7 @@ pub fn encode_values(alloc: Global, values: &[Value]) -> Result<Bytes, AllocErro
     ensures bytes { IfOk result (λ bytes. bytes ≡ spelled.values values.now) }
     ensures spellable { OnOk result (AreSpellable values.now) }
 {
-    let mut out = Vec::new(alloc);
+    let mut out = Vec::with_capacity(alloc, values.len() * 16 + 4)?;
     put_values(&mut out, values)?;
     Ok(Items::of(out))
 }

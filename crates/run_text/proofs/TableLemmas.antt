@@ -28,8 +28,8 @@ use Rattle.query_meaning.proofs.ChangeByChange.{changed-from-side}
 use Rattle.run_text.specs.Printed.{Shown}
 use Rattle.run_text.specs.Report.{cell_cmp}
 use Rattle.run_text.specs.RowKeys.{as_fed, key_cmp, AreRowKeys}
+use Rattle.run_text.specs.RowOrder.{key-ties}
 use Rattle.run_text.specs.declared.row_keys.LentKey.{LentKey}
-use Rattle.run_text.proofs.RowLemmas.{key-ties}
 
 -- ---- what is said
 

@@ -2,6 +2,8 @@ pub mod KeyOrder
 pub mod Lines
 pub mod Printed
 pub mod Report
+pub mod RowHash
 pub mod RowKeys
+pub mod RowOrder
 pub mod Shown
 pub mod Standings

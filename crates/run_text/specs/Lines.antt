@@ -1,6 +1,5 @@
--- What the lines of a section show, which of them stay as rows, which records count as skipped, and how much is written of a section.
-use Rattle.std.specs.Prelude.{ℕ, List, Bool, false, ◌&&◌, nat_le, not, Option, is_some, option_map}
-use Rattle.std.specs.Option.{option_map_or}
+-- What the lines of a section show, which records count as skipped, and how much is written of a section.
+use Rattle.std.specs.Prelude.{ℕ, List, Bool, ◌&&◌, nat_le, option_map}
 use Rattle.ksql_types.specs.declared.relation.Relation.{Relation}
 use Rattle.ksql_place.specs.Said.{is_skipped}
 use Rattle.ksql_place.specs.declared.change.SourceRecord.{SourceRecord}
@@ -8,15 +7,11 @@ use Rattle.run_text.specs.declared.printed.Line.{Line}
 use Rattle.run_text.specs.declared.section.Extent.{Extent}
 use Rattle.run_text.specs.declared.section.Extent.TheVariants.{Whole, Summary}
 use Rattle.run_text.specs.Printed.{Shown}
-use Rattle.run_text.specs.Report.{is_same_row, section_text, summary_text, Section}
+use Rattle.run_text.specs.Report.{section_text, summary_text, Section}
 
 -- what a line shows
 abbrev pub shown_of : Line → Shown
 shown_of line = record { part = line.part; time = line.time; key = line.key.now; span = line.span; row = option_map (λ row. row.now) line.row }
-
--- whether a row stays as a change leaves it, of changes that are sorted: the next one, where there is one, is of another row
-abbrev pub is_row : Shown → Option Shown → Bool
-is_row a next = not (option_map_or (is_same_row a) next false) && is_some a.row
 
 -- whether a record, up to a feed, is a skipped one of a relation's topic
 abbrev pub is_skipped_up_to : Relation → ℕ → SourceRecord → Bool

@@ -24,7 +24,8 @@ use topic_log::Broker;
 
 /// The report of a program as a broker shows it, whatever that is: the records of its declared relations in their order,
 /// a head line and the changes of each relation and, of a table, its rows, the trace, and a last line. The broker has the
-/// topic of each relation. What it shows is lent, not copied. Takes of the order of n log n steps for n entries.
+/// topic of each relation. What it shows is lent, not copied. Takes of the order of n log n steps for n entries, where few
+/// rows share a hash.
 #[tactic(auto, using(crate::proofs::ReportLemmas::appends), unfolding(crate::specs::Report::report, crate::specs::Shown::shown_report))]
 pub fn broker_report(
     alloc: Global,
@@ -47,7 +48,8 @@ pub fn broker_report(
 }
 
 /// The summary of a program as a broker shows it: a head line of each relation and, of a table without windows, its rows,
-/// and a last line. The broker has the topic of each relation. Takes of the order of n log n steps for n entries.
+/// and a last line. The broker has the topic of each relation. Takes of the order of n log n steps for n entries, where
+/// few rows share a hash.
 #[tactic(auto, unfolding(crate::specs::Report::summary, crate::specs::Shown::shown_summary))]
 pub fn broker_summary(
     alloc: Global,

@@ -47,7 +47,7 @@ fn stream_lines<'a>(
 ) -> Result<Vec<Line<'a>>, AllocError>
     ensures { IfOk result (λ lines. map shown_of lines.items ≡ as_fed (rows_said number (map (λ r. r.now) records.now))) }
 {
-    let mut lines = Vec::new(alloc);
+    let mut lines = Vec::with_capacity(alloc, records.len())?;
     for fed in records {
         push_row(&mut lines, number, fed)?;
     }
@@ -85,7 +85,7 @@ fn table_lines<'a>(
         ≡ as_fed (changes_by kind.Table number (map (λ r. r.now) records.now))) }
 {
     let mut table = TableLines {
-        lines: Vec::new(alloc),
+        lines: Vec::with_capacity(alloc, records.len())?,
         rows: BTreeSet::new(alloc),
     };
     for fed in records {

@@ -6,6 +6,7 @@ mod declared;
 mod printed;
 mod program_report;
 mod row_keys;
+mod row_lines;
 mod rows;
 mod section;
 mod visible;

@@ -1,10 +1,11 @@
 //! The lines of a report on records and changes.
 
-ghost use Rattle.std.specs.Prelude.{◌≡◌, ◌++◌, OnOk, option_map, string_bytes};
+ghost use Rattle.std.specs.Prelude.{◌≡◌, ◌++◌, OnOk, codes, decimal, option_map, string_bytes};
 ghost use Rattle.topic_files.specs.Printed.{printed_by};
 ghost use Rattle.run_text.specs.Lines.{shown_of};
 ghost use Rattle.run_text.specs.Printed.{cells_text, change_line, fields_text, key_text, order_line, row_line, row_text, span_text};
 
+use itoa::Buffer;
 use ksql_place::SourceRecord;
 use ksql_types::{Span, Value};
 use std::alloc::{AllocError, Global};
@@ -19,6 +20,13 @@ pub struct Line<'a> {
     pub key: &'a [Value],
     pub span: Option<Span>,
     pub row: Option<&'a [Value]>,
+}
+
+/// Appends a number.
+fn push_number(out: &mut String, number: u64) -> Result<(), AllocError>
+    ensures { OnOk result (string_bytes out.new ≡ string_bytes out.old ++ decimal number) }
+{
+    out.push_str(Buffer::new().format(number))
 }
 
 /// Appends the values with commas between.
@@ -52,13 +60,19 @@ fn push_key(out: &mut String, alloc: Global, key: &[Value]) -> Result<(), AllocE
 }
 
 /// Appends the window of a change, where it has one.
-#[tactic(auto, unfolding(crate::specs::Printed::span_text))]
+#[tactic(auto, using(crate::proofs::ReportLemmas::appends), unfolding(crate::specs::Printed::span_text))]
 fn push_span(out: &mut String, span: Option<Span>) -> Result<(), AllocError>
     ensures { OnOk result (string_bytes out.new ≡ string_bytes out.old ++ span_text span) }
 {
     match span {
         None => Ok(()),
-        Some(Span { start, end }) => write!(out, ",\"w\":[{start},{end}]"),
+        Some(Span { start, end }) => {
+            out.push_str(",\"w\":[")?;
+            push_number(out, start)?;
+            out.push_str(",")?;
+            push_number(out, end)?;
+            out.push_str("]")
+        }
     }
 }
 
@@ -79,6 +93,17 @@ fn push_row(
     }
 }
 
+/// Appends the time of a change, up to its key.
+#[tactic(auto, using(crate::proofs::ReportLemmas::appends))]
+fn push_time(out: &mut String, time: u64) -> Result<(), AllocError>
+    ensures { OnOk result (string_bytes out.new
+        ≡ string_bytes out.old ++ (codes "\"t\":" ++ (decimal time ++ codes ",\"k\":"))) }
+{
+    out.push_str("\"t\":")?;
+    push_number(out, time)?;
+    out.push_str(",\"k\":")
+}
+
 /// Appends time, key, window and value, up to the end of the line.
 #[tactic(auto, using(crate::proofs::ReportLemmas::appends), unfolding(crate::specs::Printed::fields_text))]
 fn push_fields(
@@ -89,8 +114,7 @@ fn push_fields(
 ) -> Result<(), AllocError>
     ensures { OnOk result (string_bytes out.new ≡ string_bytes out.old ++ fields_text (printed_by printer.now) (shown_of line.entry)) }
 {
-    let time = line.time;
-    write!(out, "\"t\":{time},\"k\":")?;
+    push_time(out, line.time)?;
     push_key(out, alloc, line.key)?;
     push_span(out, line.span)?;
     out.push_str(",\"v\":")?;
@@ -108,8 +132,9 @@ pub fn push_change(
 ) -> Result<(), AllocError>
     ensures { OnOk result (string_bytes out.new ≡ string_bytes out.old ++ change_line (printed_by printer.now) (shown_of line.entry)) }
 {
-    let part = line.part;
-    write!(out, "{{\"p\":{part},")?;
+    out.push_str("{\"p\":")?;
+    push_number(out, line.part as u64)?;
+    out.push_str(",")?;
     push_fields(out, alloc, printer, line)
 }
 

@@ -18,7 +18,8 @@ use std::alloc::{AllocError, Global};
 
 /// The report on a program's relations: the records that were fed in their order, a head line and the changes of each
 /// relation and, of a table, its rows, the trace, and a last line. `lists` has the changes of each relation at its number,
-/// up to the feed that `closed` has there. Takes of the order of n log n steps for a table of n changes.
+/// up to the feed that `closed` has there. Takes of the order of n log n steps for a table of n changes, where few rows
+/// share a hash.
 #[tactic(auto, using(crate::proofs::ReportLemmas::appends), unfolding(crate::specs::Report::report))]
 pub fn report(
     alloc: Global,

@@ -1,14 +1,14 @@
 //! The rows that a table has after its changes.
 
-ghost use Rattle.std.specs.Prelude.{◌≡◌, IfOk, OnOk, filter, is_some, map, option_map};
-ghost use Rattle.std.specs.List.Sorted.{IsSorted};
+ghost use Rattle.std.specs.Prelude.{◌≡◌, IfOk, OnOk, filter, is_some, map};
 ghost use Rattle.std.specs.Option.{option_cmp};
 ghost use Rattle.std.specs.Cmp.Lexicographic.{slice_cmp};
 ghost use Rattle.ksql_place.specs.Ascending.{ascending};
-ghost use Rattle.run_text.specs.Lines.{is_row, shown_of};
-ghost use Rattle.run_text.specs.Report.{cell_cmp, is_same_row, latest_of, rank, row_cmp, rows_of, span_cmp, table_rows};
+ghost use Rattle.run_text.specs.Lines.{shown_of};
+ghost use Rattle.run_text.specs.Report.{cell_cmp, latest_of, rank, row_cmp, rows_of, span_cmp, table_rows};
 
 use crate::printed::Line;
+use indexmap::IndexSet;
 use ksql_types::{Kind, Span, Value};
 use std::alloc::{AllocError, Global};
 use std::cmp::Ordering;
@@ -28,13 +28,34 @@ pub fn table_rows<'a>(
 }
 
 /// The rows that these changes leave, by key and window: of each row the line of its latest change. Takes of the order of
-/// n log n steps.
+/// n + m log m steps for n changes of m rows, where few rows share a hash.
 fn rows_of<'a>(alloc: Global, lines: &[Line<'a>]) -> Result<Vec<Line<'a>>, AllocError>
     ensures { IfOk result (λ rows. map shown_of rows.items ≡ rows_of (map shown_of lines.now)) }
 {
-    let mut sorted = Vec::from_slice(alloc, lines)?;
-    sort_by_row(&mut sorted)?;
-    latest_rows(alloc, sorted.as_slice())
+    let latest = latest_lines(alloc, lines)?;
+    let mut rows = lines_with_row(alloc, latest.as_slice())?;
+    sort_by_row(&mut rows)?;
+    Ok(rows)
+}
+
+/// Of each row the line of its latest change.
+fn latest_lines<'a>(alloc: Global, lines: &[Line<'a>]) -> Result<IndexSet<Line<'a>>, AllocError>
+    ensures { IfOk result (λ latest. map shown_of latest.keys ≡ latest_of (map shown_of lines.now)) }
+{
+    let mut latest: IndexSet<Line<'a>> = lines.iter().rev().copied().collect(alloc)?;
+    latest.reverse();
+    Ok(latest)
+}
+
+/// The lines whose row isn't gone.
+fn lines_with_row<'a>(alloc: Global, lines: &[Line<'a>]) -> Result<Vec<Line<'a>>, AllocError>
+    ensures { IfOk result (λ rows. rows.items ≡ filter (λ line. is_some line.row) lines.now) }
+{
+    lines
+        .iter()
+        .copied()
+        .filter(|line| line.row.is_some())
+        .collect(alloc)
 }
 
 /// Sorts lines by key and window. Those of one row keep their order.
@@ -44,41 +65,8 @@ fn sort_by_row(lines: &mut Vec<Line>) -> Result<(), AllocError>
     lines.sort_by(cmp_row)
 }
 
-/// Of sorted lines, the latest of each row, unless the row is gone.
-fn latest_rows<'a>(alloc: Global, sorted: &[Line<'a>]) -> Result<Vec<Line<'a>>, AllocError>
-    requires { IsSorted row_cmp (map shown_of sorted.now) }
-    ensures { IfOk result (λ rows. map shown_of rows.items
-        ≡ filter (λ s. is_some s.row) (latest_of (map shown_of sorted.now))) }
-{
-    let mut rows = Vec::new(alloc);
-    for (index, line) in sorted.iter().enumerate() {
-        if is_row(line, sorted.get(index + 1)) {
-            rows.push(*line)?;
-        }
-    }
-    Ok(rows)
-}
-
-/// Whether a line is that of a row: the next of the sorted lines, where there is one, has another row, and the row isn't
-/// gone.
-fn is_row(line: &Line, next: Option<&Line>) -> bool
-    ensures { result ≡ is_row (shown_of line.now) (option_map (λ n. shown_of n.now) next.entry) }
-{
-    match next {
-        Some(next) if is_same_row(line, next) => false,
-        _ => line.row.is_some(),
-    }
-}
-
-/// Whether two lines have the same row.
-fn is_same_row(a: &Line, b: &Line) -> bool
-    ensures { result ≡ is_same_row (shown_of a.now) (shown_of b.now) }
-{
-    cmp_row(a, b) == Ordering::Equal
-}
-
 /// The order of rows: by key, and then by window.
-fn cmp_row(a: &Line, b: &Line) -> Ordering
+pub fn cmp_row(a: &Line, b: &Line) -> Ordering
     ensures { result ≡ row_cmp (shown_of a.now) (shown_of b.now) }
 {
     cmp_cells(a.key, b.key).then(cmp_window(a.span, b.span))

@@ -50,7 +50,7 @@ fn lines_of_records<'a>(
     ensures { IfOk result (λ lines. map shown_of lines.items
         ≡ meant relation.now (rows_said number order.now)) }
 {
-    let mut lines = Vec::new(alloc);
+    let mut lines = Vec::with_capacity(alloc, order.len())?;
     for fed in order {
         push_record(&mut lines, relation, number, fed)?;
     }
@@ -89,7 +89,7 @@ fn lines_of_changes<'a>(
     requires { IsPrintable relation.now }
     ensures { IfOk result (λ lines. map shown_of lines.items ≡ meant relation.now changes.now) }
 {
-    let mut lines = Vec::new(alloc);
+    let mut lines = Vec::with_capacity(alloc, changes.len())?;
     for change in changes {
         lines.push(line_of_change(partition_of(relation, change), change))?;
     }

@@ -1,6 +1,6 @@
 use crate::group_results;
 use ksql_expr::{AggFun, Typed, TypedNode};
-use ksql_place::{Body, Change, Place, Stamp};
+use ksql_place::{Body, Change, Path, Place, Stamp};
 use ksql_program::{Agg, Aggs};
 use ksql_types::{Items, Key, Row, SqlType, Value};
 use node_steps::EntryRef;
@@ -35,7 +35,7 @@ fn change(
     Ok(Change {
         place: Place {
             stamp,
-            path: Items::of(Vec::new(alloc)),
+            path: Path::root(alloc),
         },
         time,
         key: Key::of(vec![in alloc; Value::Int(7)]?),

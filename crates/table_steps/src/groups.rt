@@ -12,8 +12,8 @@ use ksql_place::{Body, Change};
 use ksql_program::Agg;
 use ksql_types::{CopyOf, Items, Key, Row, Value};
 use node_steps::{
-    EntryRef, aggregate, argument, grouped, is_same_key, latest_time, row_in, row_out, type_of_agg,
-    values_of,
+    EntryRef, aggregate, argument, grouped, is_same_key, latest_time, push_copies, row_in, row_out,
+    type_of_agg, values_of,
 };
 use std::alloc::{AllocError, Global};
 
@@ -138,7 +138,8 @@ fn outcome(
         return Ok(None);
     }
     let held = held(alloc, group, view.standing)?;
-    let mut row = group.copy(alloc)?.into_items();
+    let mut row = Vec::with_capacity(alloc, group.items().len() + aggs.len())?;
+    push_copies(alloc, &mut row, group.items())?;
     for agg in aggs {
         row.push(worth(alloc, held.as_slice(), agg)?)?;
     }

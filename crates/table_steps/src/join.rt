@@ -1,6 +1,5 @@
 //! The joined changes, from the rows that stand on the sides of a join.
-ghost use Rattle.std.specs.Prelude.{◌≡◌, ◌∷◌, ◌++◌, max, replicate, IfOk, OnOk, option_map};
-ghost use Rattle.ksql_types.specs.declared.value.Value.TheVariants as value;
+ghost use Rattle.std.specs.Prelude.{◌≡◌, ◌∷◌, ◌++◌, max, IfOk, OnOk, option_map};
 ghost use Rattle.ksql_nodes.specs.Joins.{joined, joined_from, or_nulls, other_side, side_step};
 ghost use Rattle.ksql_nodes.specs.Rows.{at_path};
 ghost use Rattle.table_steps.specs.Joining.{beside, standing_of, turned_beside};
@@ -9,7 +8,7 @@ use ksql_nodes::Side;
 use ksql_place::{Body, Change, Place};
 use ksql_program::JoinKind;
 use ksql_types::{CopyOf, Items, Row, Value};
-use node_steps::{row_in, turned, with_body};
+use node_steps::{push_copies, push_nulls, row_in, turned, with_body};
 use std::alloc::{AllocError, Global};
 
 /// A join of two relations, whichever their kinds.
@@ -97,12 +96,10 @@ fn join_change(
 ) -> Result<Change, AllocError>
     ensures { IfOk result (λ made. made ≡ record (at_path (step ∷ change.now.place.path) change.now) { time = max change.now.time time; body = body }) }
 {
-    let mut path = vec![in alloc; step]?;
-    path.extend_from_slice(change.place.path.items())?;
     Ok(Change {
         place: Place {
             stamp: change.place.stamp,
-            path: Items::of(path),
+            path: change.place.path.with_first(alloc, step)?,
         },
         time: change.time.max(time),
         key: change.key.copy(alloc)?,
@@ -161,7 +158,8 @@ fn sides(
 ) -> Result<Row, AllocError>
     ensures { IfOk result (λ row. row ≡ or_nulls join.now.left (option_map (λ r. r.now) left.entry) ++ or_nulls join.now.right (option_map (λ r. r.now) right.entry) ++ end.now) }
 {
-    let mut cells = Vec::new(alloc);
+    let columns = join.left.columns as usize + join.right.columns as usize;
+    let mut cells = Vec::with_capacity(alloc, columns + end.len())?;
     push_side(alloc, &mut cells, &join.left, left)?;
     push_side(alloc, &mut cells, &join.right, right)?;
     push_copies(alloc, &mut cells, end)?;
@@ -181,24 +179,4 @@ fn push_side(
         Some(row) => push_copies(alloc, cells, row.items()),
         None => push_nulls(cells, side.columns),
     }
-}
-
-/// Adds copies of values.
-fn push_copies(alloc: Global, cells: &mut Vec<Value>, values: &[Value]) -> Result<(), AllocError>
-    ensures { OnOk result (cells.new.items ≡ cells.old.items ++ values.now) }
-{
-    for value in values {
-        cells.push(value.copy(alloc)?)?;
-    }
-    Ok(())
-}
-
-/// Adds so many NULLs.
-fn push_nulls(cells: &mut Vec<Value>, count: u32) -> Result<(), AllocError>
-    ensures { OnOk result (cells.new.items ≡ cells.old.items ++ replicate count value.Null) }
-{
-    for _ in 0..count {
-        cells.push(Value::Null)?;
-    }
-    Ok(())
 }

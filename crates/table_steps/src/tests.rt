@@ -1,7 +1,7 @@
 use crate::join_results;
 use ksql_expr::{Typed, TypedNode};
 use ksql_nodes::{Node, Side};
-use ksql_place::{Body, Change, Place, Stamp};
+use ksql_place::{Body, Change, Path, Place, Stamp};
 use ksql_program::JoinKind;
 use ksql_types::{Items, Key, Row, SqlType, Value};
 use node_steps::EntryRef;
@@ -23,7 +23,7 @@ fn change(alloc: Global, time: u64, key: i32, body: Body) -> Result<Change, Allo
         part: 0,
         offset: 0,
     };
-    let path = Items::of(Vec::new(alloc));
+    let path = Path::root(alloc);
     let key = Key::of(vec![in alloc; Value::Int(key)]?);
     Ok(Change {
         place: Place { stamp, path },

@@ -46,7 +46,7 @@ impl Reader<'_> {
         ensures order { IsOrdered self.new }
         ensures less { OnOk result (0 < left_len self.old → left_len self.new < left_len self.old) }
     {
-        let mut taken = Vec::new(alloc);
+        let mut taken = Vec::with_capacity(alloc, MOST)?;
         while taken.len() < MOST && !self.is_done() {
             if let Some(entry) = self.step(alloc)? {
                 taken.push(entry)?;

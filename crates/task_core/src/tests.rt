@@ -22,17 +22,17 @@ use topology::{Sub, SubInput};
 
 /// A topic of one partition.
 #[tactic(auto, unfolding(ksql_types::specs::Text::longest_text))]
-fn topic(alloc: Global, number: u32, writer: Option<Writer>) -> TopicSpec
-    ensures number { result.number ≡ number }
-    ensures partitions { result.partitions ≡ 1 }
-    ensures writer { result.writer ≡ writer }
+fn topic(alloc: Global, number: u32, writer: Option<Writer>) -> Result<TopicSpec, AllocError>
+    ensures number { IfOk result (λ topic. topic.number ≡ number) }
+    ensures partitions { IfOk result (λ topic. topic.partitions ≡ 1) }
+    ensures writer { IfOk result (λ topic. topic.writer ≡ writer) }
 {
-    TopicSpec {
+    Ok(TopicSpec {
         number,
-        name: Chars::of(String::new(alloc)),
+        name: Chars::of(String::new(alloc))?,
         partitions: 1,
         writer,
-    }
+    })
 }
 
 /// A source, and a topic that sub-topology 0 writes.
@@ -45,8 +45,8 @@ fn two_topics(alloc: Global) -> Result<Vec<TopicSpec>, AllocError>
         sub: 0,
         partitions: 1,
     };
-    let source = topic(alloc, 0, None);
-    let written = topic(alloc, 1, Some(writer));
+    let source = topic(alloc, 0, None)?;
+    let written = topic(alloc, 1, Some(writer))?;
     Ok(vec![in alloc; source, written]?)
 }
 

@@ -7,8 +7,9 @@ ghost use Rattle.query_meaning.specs.Plain.{raw_body};
 ghost use Rattle.topology.specs.Contents.{with_cells};
 ghost use Rattle.task_core.specs.Readers.{whole_row};
 
-use ksql_place::{Body, Change, Place, SourceRecord, said_by};
+use ksql_place::{Body, Change, Path, Place, SourceRecord, said_by};
 use ksql_types::{CopyOf, Items, Key, Kind, Row, Value};
+use node_steps::{push_copies, push_nulls};
 use std::alloc::{AllocError, Global};
 
 /// What a record says to a relation of a kind, where it isn't skipped, with so many key columns in front of its row.
@@ -29,7 +30,7 @@ pub fn said_whole(
     Ok(Some(Change {
         place: Place {
             stamp: fed.stamp,
-            path: Items::of(Vec::new(alloc)),
+            path: Path::root(alloc),
         },
         time: fed.time,
         key: fed.key.copy(alloc)?,
@@ -105,31 +106,11 @@ fn whole_row(alloc: Global, columns: u32, key: &Key, row: &Row) -> Result<Row, A
     if columns == 0 {
         return row.copy(alloc);
     }
-    let mut whole = match key.items() {
-        [] => nulls(alloc, columns)?,
-        _ => key.copy(alloc)?.into_items(),
-    };
+    let mut whole = Vec::with_capacity(alloc, columns as usize + row.items().len())?;
+    match key.items() {
+        [] => push_nulls(&mut whole, columns)?,
+        values => push_copies(alloc, &mut whole, values)?,
+    }
     push_copies(alloc, &mut whole, row.items())?;
     Ok(Items::of(whole))
-}
-
-/// So many NULLs.
-fn nulls(alloc: Global, count: u32) -> Result<Vec<Value>, AllocError>
-    ensures { IfOk result (λ row. row.items ≡ replicate count Null) }
-{
-    let mut row = Vec::with_capacity(alloc, count as usize)?;
-    for _ in 0..count {
-        row.push(Value::Null)?;
-    }
-    Ok(row)
-}
-
-/// Adds copies of values.
-fn push_copies(alloc: Global, row: &mut Vec<Value>, values: &[Value]) -> Result<(), AllocError>
-    ensures { OnOk result (row.new.items ≡ row.old.items ++ values.now) }
-{
-    for value in values {
-        row.push(value.copy(alloc)?)?;
-    }
-    Ok(())
 }

@@ -12,7 +12,7 @@ fn chars(alloc: Global, text: &str) -> Result<Chars, AllocError> {
     if text.len() > 100 {
         return Err(AllocError);
     }
-    Ok(Chars::of(String::from_str(alloc, text)?))
+    Ok(Chars::of(String::from_str(alloc, text)?)?)
 }
 
 /// A stream with the number 3 over two partitions.

@@ -2,6 +2,7 @@ pub mod FieldLemmas
 pub mod FileLemmas
 pub mod LineLemmas
 pub mod Members
+pub mod Numbers
 pub mod ReadLemmas
 pub mod RowTexts
 pub mod Texts

@@ -1,22 +1,46 @@
 //! The number that a text of JSON is.
 
-ghost use Rattle.std.specs.Prelude.{◌≡◌, ◌<◌, ◌==◌, IsTrue, true, false, length, option_map, slice_index};
+ghost use Rattle.std.specs.Prelude.{◌≡◌, ◌<◌, ◌==◌, IfSome, IsTrue, Some, true, false, length, option_map, slice_index};
+ghost use Rattle.serde_json.specs.Data.{unsigned};
 ghost use Rattle.serde_json.specs.Read.{float_of, number_from, number_of};
 ghost use Rattle.serde_json.specs.View.{number_view};
 
 use fast_float::Numeral;
 use serde_json::Number;
 
+/// How many digits always write a number of 64 bits.
+const MOST_DIGITS: usize = 18;
+
 /// The number that a token of JSON writes, None where it is too large for a float.
 pub(crate) fn number_of(text: &str) -> Option<Number>
     ensures { option_map number_view result ≡ number_of text.now }
 {
     let bytes = text.as_bytes();
+    if let Some(number) = few_digits(bytes) {
+        return Some(Number::from(number));
+    }
     if has_minus(bytes) {
         negative(&Numeral::scan(&bytes[1..]))
     } else {
         unsigned(&Numeral::scan(bytes))
     }
+}
+
+/// The number of a text that is 1 to 18 digits.
+fn few_digits(text: &[u8]) -> Option<u64>
+    ensures { IfSome result (λ number. number_of text.now ≡ Some (unsigned number)) }
+{
+    if text.is_empty() || text.len() > MOST_DIGITS {
+        return None;
+    }
+    let mut number = 0;
+    for byte in text {
+        if !byte.is_ascii_digit() {
+            return None;
+        }
+        number = number * 10 + u64::from(byte - b'0');
+    }
+    Some(number)
 }
 
 /// Whether a text begins with a minus sign.

@@ -23,7 +23,7 @@ pub(crate) fn json_of_line<'a>(
 ) -> Result<Option<Json<'a>>, AllocError>
     ensures { IfOk result (λ json. option_map view json ≡ data_of line.now) }
 {
-    match str::from_utf8(line) {
+    match simdutf8::from_utf8_baseline(line) {
         Ok(text) => json_of_text(alloc, text, scratch),
         Err(_) => Ok(None),
     }

@@ -7,7 +7,7 @@ ghost use Rattle.topic_files.specs.Tree.{view};
 
 use crate::delimited::text_row;
 use crate::fields::{cells, typed};
-use crate::line::{present, topic_time};
+use crate::line::topic_line;
 use crate::read::json_of_line;
 use crate::topic::Fed;
 use crate::tree::Json;
@@ -35,16 +35,17 @@ pub(crate) fn fed_of_line(
 fn fed_of_json(alloc: Global, relation: &Relation, json: &Json) -> Result<Option<Fed>, AllocError>
     ensures { IfOk result (λ fed. fed ≡ fed_of_data relation.now (view json.now)) }
 {
-    let Some(time) = topic_time(json) else {
+    let Some(line) = topic_line(json) else {
         return Ok(None);
     };
-    match key_of(alloc, relation.schema.keys.items(), present(json, "k"))? {
-        Some(key) => {
-            let value = field_value(alloc, relation, present(json, "v"))?;
-            Ok(Some(Fed { time, key, value }))
-        }
+    match key_of(alloc, relation.schema.keys.items(), line.key)? {
+        Some(key) => Ok(Some(Fed {
+            time: line.time,
+            key,
+            value: field_value(alloc, relation, line.value)?,
+        })),
         None => Ok(Some(Fed {
-            time,
+            time: line.time,
             key: Key::of(Vec::new(alloc)),
             value: Decoded::Skipped,
         })),
@@ -75,7 +76,7 @@ fn single_key(alloc: Global, ty: SqlType, json: &Json) -> Result<Option<Key>, Al
     ensures { IfOk result (λ key. key ≡ option_map (λ value. value ∷ []) (typed ty (view json.now))) }
 {
     match typed(alloc, ty, json)? {
-        Some(value) => Ok(Some(Key::of(vec![in alloc; value]?))),
+        Some(value) => Ok(Some(Key::one(value))),
         None => Ok(None),
     }
 }

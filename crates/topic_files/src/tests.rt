@@ -16,7 +16,7 @@ fn chars(alloc: Global, text: &str) -> Result<Chars, AllocError> {
     if text.len() > 100 {
         return Err(AllocError);
     }
-    Ok(Chars::of(String::from_str(alloc, text)?))
+    Ok(Chars::of(String::from_str(alloc, text)?)?)
 }
 
 fn column(alloc: Global, name: &str, ty: SqlType) -> Result<Column, AllocError> {

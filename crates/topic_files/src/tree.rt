@@ -1,6 +1,6 @@
 //! JSON as a line has it, with its texts lent.
 
-ghost use Rattle.std.specs.Prelude.{◌≡◌, is_some, option_and_then, option_map};
+ghost use Rattle.std.specs.Prelude.{◌≡◌, bytes_eq, is_some, option_and_then, option_map};
 ghost use Rattle.serde_json.specs.Find.{as_bool, as_i64, as_null, as_number, as_object, as_str, get, get_member};
 ghost use Rattle.topic_files.specs.Tree.{members_view, view};
 
@@ -80,9 +80,25 @@ fn member_of<'t, 'a>(members: &'t [Member<'a>], name: &str) -> Option<&'t Json<'
 {
     let mut found = None;
     for (key, field) in members {
-        if *key == name {
+        if is_named(key, name) {
             found = Some(field);
         }
     }
     found
+}
+
+/// Whether a key is this name. Most names that differ do so in length or in their first letter.
+fn is_named(key: &str, name: &str) -> bool
+    ensures { result ≡ bytes_eq key.now name.now }
+{
+    let (key, name) = (key.as_bytes(), name.as_bytes());
+    if key.len() != name.len() {
+        return false;
+    }
+    for i in 0..key.len() {
+        if key[i] != name[i] {
+            return false;
+        }
+    }
+    true
 }

@@ -1,5 +1,5 @@
 //! Commits to a topic: what a task sent is put to what waits, and what is due is shown in the order of places.
-ghost use Rattle.std.specs.Prelude.{◌≡◌, ◌+◌, ◌≤◌, ◌++◌, ◌⊎◌, [], All, length, map, option_map, vec_capacity};
+ghost use Rattle.std.specs.Prelude.{◌≡◌, ◌∷◌, ◌+◌, ◌<◌, ◌≤◌, ◌++◌, ◌⊎◌, [], All, length, map, option_map, vec_capacity};
 ghost use Rattle.std.specs.VecDeque.{deque_capacity};
 ghost use Rattle.ksql_place.specs.Ascending.{Rises};
 ghost use Rattle.ksql_place.specs.Routing.{change_cmp};
@@ -115,6 +115,18 @@ fn next_writer(waiting: &[VecDeque<Change>], closed: u64) -> Option<usize>
     next
 }
 
+/// Takes the first change that waits. A queue in which nothing is left gives back its room.
+fn take_first(waiting: &mut VecDeque<Change>) -> Change
+    requires { 0 < length waiting.old.items }
+    ensures { waiting.old.items ≡ result ∷ waiting.new.items }
+{
+    let first = waiting.pop_front().unwrap();
+    if waiting.is_empty() {
+        waiting.shrink_to_fit();
+    }
+    first
+}
+
 /// Shows what waits up to a closed feed, in the order of places. The partition has room for it.
 fn show_due(part: &mut PartShelf, closed: u64)
     requires ascends { All (λ w. Rises change_cmp w.items) part.old.waiting.items }
@@ -123,7 +135,7 @@ fn show_due(part: &mut PartShelf, closed: u64)
     ensures waiting { waiting_lists part.new ≡ map (after closed) (waiting_lists part.old) }
 {
     while let Some(writer) = next_writer(part.waiting.as_slice(), closed) {
-        let change = part.waiting[writer].pop_front().unwrap();
+        let change = take_first(&mut part.waiting[writer]);
         part.shown.push_reserved(LogEntry::Said(change));
     }
 }

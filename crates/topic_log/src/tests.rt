@@ -6,7 +6,7 @@ ghost use Rattle.topic_log.specs.Ready.{IsProposal};
 ghost use Rattle.topic_log.specs.Shelves.{AreTopics, part_at, routes_in, shelf_of, topics_of};
 
 use crate::{Broker, LogEntry, Prepared, Proposal};
-use ksql_place::{Body, Change, Changes, Decoded, Place, SourceRecord, Stamp};
+use ksql_place::{Body, Change, Changes, Decoded, Path, Place, SourceRecord, Stamp};
 use ksql_types::{Changelog, Chars, Items, Key, StoreEntry, TaskName, TopicSpec, Writer};
 use std::alloc::{AllocError, Global};
 use std::test::Fail;
@@ -20,7 +20,7 @@ fn topic(alloc: Global, number: u32, writer: Option<Writer>) -> Result<TopicSpec
     ensures partitions { IfOk result (λ topic. topic.partitions ≡ 2) }
     ensures writer { IfOk result (λ topic. topic.writer ≡ writer) }
 {
-    let name = Chars::of(String::new(alloc));
+    let name = Chars::of(String::new(alloc))?;
     Ok(TopicSpec {
         number,
         name,
@@ -193,7 +193,7 @@ fn change(alloc: Global, stamp: Stamp) -> Change
     Change {
         place: Place {
             stamp,
-            path: Items::of(Vec::new(alloc)),
+            path: Path::root(alloc),
         },
         time: 9,
         key: Key::of(Vec::new(alloc)),

@@ -311,7 +311,7 @@ fn repartition_name(alloc: Global, query: &Chars, cut: CutName) -> Result<Chars,
     ensures { IfOk result (λ name. name ≡ repartition_name query.now cut) }
 {
     let (query, cut) = (query.items(), cut_text(cut));
-    Ok(Chars::of(format!(in alloc; "ksql-{query}-{cut}-repartition")?))
+    Ok(Chars::of(format!(in alloc; "ksql-{query}-{cut}-repartition")?)?)
 }
 
 /// What a repartition topic is for, as its name says it.

@@ -3,7 +3,7 @@ ghost use Rattle.core_state.specs.Routes.{IsWriter, routes_of};
 ghost use Rattle.topic_log.specs.Ready.{IsProposal};
 ghost use Rattle.topic_log.specs.Shelves.{AreTopics};
 
-use ksql_place::{Body, Change, Place, Stamp};
+use ksql_place::{Body, Change, Path, Place, Stamp};
 use ksql_types::{Chars, Items, Key, StoreEntry, TaskName, TopicSpec, Writer};
 use std::alloc::{AllocError, Global};
 use std::test::Fail;
@@ -20,7 +20,7 @@ fn one_topic(alloc: Global) -> Result<Vec<TopicSpec>, AllocError>
 {
     let topic = TopicSpec {
         number: 0,
-        name: Chars::of(String::new(alloc)),
+        name: Chars::of(String::new(alloc))?,
         partitions: 1,
         writer: Some(Writer {
             sub: 0,
@@ -43,7 +43,7 @@ fn change(alloc: Global) -> Change
                 part: 0,
                 offset: 0,
             },
-            path: Items::of(Vec::new(alloc)),
+            path: Path::root(alloc),
         },
         time: 0,
         key: Key::of(Vec::new(alloc)),

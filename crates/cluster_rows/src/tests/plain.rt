@@ -33,7 +33,7 @@ fn text(alloc: Global, text: &str) -> Result<Value, Fail> {
     if text.len() > 100 {
         return Err(Fail::from("a long text"));
     }
-    Ok(Value::Txt(Chars::of(String::from_str(alloc, text)?)))
+    Ok(Value::Txt(Chars::of(String::from_str(alloc, text)?)?))
 }
 
 /// The record of a key at a time, the first of its partition, in the first feed.

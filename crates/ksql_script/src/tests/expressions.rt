@@ -12,7 +12,7 @@ fn chars(alloc: Global, text: &str) -> Result<Chars, Fail> {
     if text.len() > 100 {
         return Err(Fail::from("a long text"));
     }
-    Ok(Chars::of(String::from_str(alloc, text)?))
+    Ok(Chars::of(String::from_str(alloc, text)?)?)
 }
 
 fn keyword(word: &str) -> Option<Keyword> {

@@ -8,7 +8,7 @@ ghost use Rattle.run_text.specs.Report.{IsPrintable};
 ghost use Rattle.run_text.specs.Shown.{HasTopicOf};
 
 use super::*;
-use ksql_place::{Body, Change, Decoded, Place, Stamp};
+use ksql_place::{Body, Change, Decoded, Path, Place, Stamp};
 use ksql_program::{From, Query, Shape};
 use ksql_types::{
     Chars, Column, Format, Items, Key, Kind, Row, Schema, Span, SqlType, TaskName, TopicSpec,
@@ -22,7 +22,7 @@ fn chars(alloc: Global, text: &str) -> Result<Chars, AllocError> {
     if text.len() > 1000 {
         return Err(AllocError);
     }
-    Ok(Chars::of(String::from_str(alloc, text)?))
+    Ok(Chars::of(String::from_str(alloc, text)?)?)
 }
 
 /// A relation of this kind in one partition with the value column N.
@@ -152,7 +152,7 @@ fn proposal(alloc: Global, span: Option<Span>, body: Body) -> Result<Proposal, A
     let change = Change {
         place: Place {
             stamp: stamp(),
-            path: Items::of(Vec::new(alloc)),
+            path: Path::root(alloc),
         },
         time: 5,
         key: Key::of(Vec::new(alloc)),

@@ -3,7 +3,7 @@ ghost use Rattle.run_text.specs.Report.{IsPrintable};
 
 use super::*;
 use crate::printed::push_change;
-use ksql_place::{Body, Change, Decoded, Place, Stamp};
+use ksql_place::{Body, Change, Decoded, Path, Place, Stamp};
 use ksql_program::{From, Query, Shape};
 use ksql_types::{Chars, Column, Format, Items, Key, Kind, Row, Schema, Span, SqlType, Value};
 use std::test::Fail;
@@ -14,7 +14,7 @@ fn chars(alloc: Global, text: &str) -> Result<Chars, AllocError> {
     if text.len() > 1000 {
         return Err(AllocError);
     }
-    Ok(Chars::of(String::from_str(alloc, text)?))
+    Ok(Chars::of(String::from_str(alloc, text)?)?)
 }
 
 fn column(alloc: Global, name: &str, ty: SqlType) -> Result<Column, AllocError> {
@@ -100,7 +100,7 @@ fn change(alloc: Global, time: u64, key: Key, span: Option<Span>, body: Body) ->
     Change {
         place: Place {
             stamp: stamp(0, time),
-            path: Items::of(Vec::new(alloc)),
+            path: Path::root(alloc),
         },
         time,
         key,

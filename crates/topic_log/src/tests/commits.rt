@@ -6,7 +6,7 @@ ghost use Rattle.topic_log.specs.Shelves.{routes_in, shelf_of, topics_of};
 
 use super::two_topics;
 use crate::{Broker, LogEntry, Proposal};
-use ksql_place::{Body, Change, Place, Stamp};
+use ksql_place::{Body, Change, Path, Place, Stamp};
 use ksql_types::{Items, Key, TaskName};
 use std::alloc::{AllocError, Global};
 use std::test::Fail;
@@ -28,7 +28,7 @@ fn change(alloc: Global, offset: u64) -> Result<Change, AllocError>
     Ok(Change {
         place: Place {
             stamp,
-            path: Items::of(Vec::new(alloc)),
+            path: Path::root(alloc),
         },
         time: 0,
         key: Key::of(Vec::new(alloc)),

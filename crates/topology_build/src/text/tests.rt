@@ -10,7 +10,7 @@ fn chars(alloc: Global, text: &str) -> Result<Chars, AllocError> {
     if text.len() > 1000 {
         return Err(AllocError);
     }
-    Ok(Chars::of(String::from_str(alloc, text)?))
+    Ok(Chars::of(String::from_str(alloc, text)?)?)
 }
 
 /// A query of this name over the first relation.
@@ -23,7 +23,7 @@ fn query(alloc: Global, name: &str) -> Result<Item, AllocError> {
             keys: Items::of(Vec::new(alloc)),
             values: Items::of(Vec::new(alloc)),
         },
-        topic: Chars::of(String::new(alloc)),
+        topic: Chars::of(String::new(alloc))?,
         partitions: 1,
         format: Format::Json,
         declared: false,

@@ -14,4 +14,4 @@ loop-index-preserved c =
     let worth : c.in_ok-worth.worth ≡ unwrap_or (slice_get (kept_worths c.args.mine.now) i) (initial over a) =
     c.in_ok-worth.ensures ∙ ap (λ (worths : List Value). unwrap_or (slice_get worths i) (initial over a)) c.kept_worths-worths.ensures in
     worths-step over c.args.aggs.now a change (kept_worths c.args.mine.now) i _ _ _ _ c.loop-index-test.true c.index-aggs-index.is
-    c.loop-index.invariant (c.in_ok-next_worth.ensures ∙ ap (next_worth over a change) worth) c.in_ok-push.ensures.items
+    c.loop-index.invariant (c.in_ok-next_worth.ensures ∙ ap (next_worth over a change) worth) c.in_ok-push-2.ensures.items

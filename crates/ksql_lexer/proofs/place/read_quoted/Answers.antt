@@ -12,4 +12,4 @@ returns-then-not-is_quotable c = quoted_nothing _ _ _ c.requires.class c.in-Some
 pub returns : goal.returns
 returns c =
     let line = c.is_quotable.ensures.0 c.if-not-is_quotable.false in
-    quoted_longest _ _ _ _ c.requires.class c.in-Some.ensures (line.0, c.in-Some.ensures.lacks, line.1) (c.of.ensures ∙ c.in_ok-name.ensures.ok)
+    quoted_longest _ _ _ _ c.requires.class c.in-Some.ensures (line.0, c.in-Some.ensures.lacks, line.1) (c.in_ok-of.ensures ∙ c.in_ok-name.ensures.ok)

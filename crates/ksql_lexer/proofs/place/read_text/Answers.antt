@@ -28,4 +28,4 @@ of-requires c = omega (
 )
 
 pub returns : goal.returns
-returns c = text_longest _ _ _ _ c.requires.class c.loop-inside.invariant.split (λ inside rest. c.in_default-between.ensures inside rest) c.of.ensures
+returns c = text_longest _ _ _ _ c.requires.class c.loop-inside.invariant.split (λ inside rest. c.in_default-between.ensures inside rest) c.in_ok-of.ensures

@@ -5,4 +5,4 @@ use Rattle.ksql_lexer.proofs.Places.{word_longest}
 use Rattle.ksql_lexer.proofs.place.read_word.Goals as goal
 
 pub returns : goal.returns
-returns c = word_longest _ _ _ _ c.requires.class c.word_at.ensures (c.of.ensures ∙ c.make_ascii_uppercase.ensures.bytes ∙ ap (map to_ascii_uppercase) c.in_ok-name.ensures.ok)
+returns c = word_longest _ _ _ _ c.requires.class c.word_at.ensures (c.in_ok-of.ensures ∙ c.make_ascii_uppercase.ensures.bytes ∙ ap (map to_ascii_uppercase) c.in_ok-name.ensures.ok)

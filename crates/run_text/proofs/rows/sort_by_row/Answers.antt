@@ -6,7 +6,7 @@ use Rattle.ksql_place.proofs.Ascending.{sorted-ascending}
 use Rattle.ksql_place.proofs.TwoLists.{map-ascending}
 use Rattle.run_text.specs.Lines.{shown_of}
 use Rattle.run_text.specs.Report.{row_cmp}
-use Rattle.run_text.proofs.RowLemmas.{row_total}
+use Rattle.run_text.specs.RowOrder.{row_total}
 use Rattle.run_text.proofs.rows.sort_by_row.Goals as goal
 
 pub returns : goal.returns

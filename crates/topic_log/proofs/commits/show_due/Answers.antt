@@ -1,5 +1,4 @@
-use Rattle.std.proofs.Common.{◌≡◌, ◌∙◌, ◌+◌, ◌<◌, ◌++◌, ap, arith, Some, None, length, get_or, [], ◌∷◌}
-use Rattle.std.specs.Option.{option_to_list}
+use Rattle.std.proofs.Common.{◌≡◌, ◌∙◌, ◌+◌, ◌<◌, arith, Some, None, get_or, [], ◌∷◌}
 use Rattle.std.specs.Vec.{with_item}
 use Rattle.std.proofs.lemmas.List.{map-set}
 use Rattle.topic_log.specs.Commits.{waiting_lists}
@@ -11,14 +10,12 @@ use Rattle.topic_log.proofs.commits.show_due.Goals as goal
 pub loop-writer-init : goal.loop-writer-init
 loop-writer-init c = show_none c.args.closed c.args.part.now c.requires.ascends c.requires.room
 
-pub unwrap-change-requires : goal.unwrap-change-requires
-unwrap-change-requires c =
+pub take_first-change-requires : goal.take_first-change-requires
+take_first-change-requires c =
     let part = c.loop-writer.part in
     let writer = c.in-Some.writer in
     let next = next_at c.args.closed part c.as_slice.result.now (Some writer) c.as_slice.ensures.value c.in-Some.ensures in
-    let has = next_has c.args.closed part writer c.index_mut.result.now next c.index_mut.ensures.value in
-    let some : 0 < length c.index_mut.result.now.items = has.1 in
-    c.pop_front.ensures.variant.1 (omega (arith, some, c.index_mut.result.now.ok.0))
+    (next_has c.args.closed part writer c.index_mut.result.now next c.index_mut.ensures.value).1
 
 pub push_reserved-requires : goal.push_reserved-requires
 push_reserved-requires c =
@@ -26,14 +23,14 @@ push_reserved-requires c =
     let writer = c.in-Some.writer in
     let next = next_at c.args.closed part c.as_slice.result.now (Some writer) c.as_slice.ensures.value c.in-Some.ensures in
     let has = next_has c.args.closed part writer c.index_mut.result.now next c.index_mut.ensures.value in
-    let rest = c.pop_front.new.self.items in
-    let at : get_or (waiting_lists part) writer [] ≡ c.unwrap-change.result ∷ rest = has.0 ∙ c.pop_front.ensures.items ∙ ap (λ o. option_to_list o ++ rest) c.unwrap-change.ensures in
-    let some : 0 < waiting_len part = next_waits c.args.closed part writer c.unwrap-change.result rest next at in
+    let rest = c.take_first-change.new.waiting.items in
+    let at : get_or (waiting_lists part) writer [] ≡ c.take_first-change.result ∷ rest = has.0 ∙ c.take_first-change.ensures in
+    let some : 0 < waiting_len part = next_waits c.args.closed part writer c.take_first-change.result rest next at in
     omega (arith, some, c.loop-writer.invariant.room, part.shown.ok.0)
 
 -- the partition after a step
 abbrev moved : goal.After-push_reserved → PartShelf
-moved c = record { shown = c.push_reserved.new.self; waiting = with_item c.loop-writer.part.waiting c.in-Some.writer c.pop_front.new.self }
+moved c = record { shown = c.push_reserved.new.self; waiting = with_item c.loop-writer.part.waiting c.in-Some.writer c.take_first-change.new.waiting }
 
 moves : (c : goal.After-push_reserved) → IsShowing c.args.closed c.args.part.now (moved c) × (waiting_len (moved c) + 1 ≡ waiting_len c.loop-writer.part)
 moves c =
@@ -41,10 +38,10 @@ moves c =
     let writer = c.in-Some.writer in
     let next = next_at c.args.closed part c.as_slice.result.now (Some writer) c.as_slice.ensures.value c.in-Some.ensures in
     let has = next_has c.args.closed part writer c.index_mut.result.now next c.index_mut.ensures.value in
-    let rest = c.pop_front.new.self.items in
-    let at : get_or (waiting_lists part) writer [] ≡ c.unwrap-change.result ∷ rest = has.0 ∙ c.pop_front.ensures.items ∙ ap (λ o. option_to_list o ++ rest) c.unwrap-change.ensures in
-    show_more c.args.closed c.args.part.now part (moved c) writer c.unwrap-change.result rest c.loop-writer.invariant next at
-    (map-set (λ w. w.items) part.waiting.items writer c.pop_front.new.self) c.push_reserved.ensures.items c.push_reserved.ensures.capacity
+    let rest = c.take_first-change.new.waiting.items in
+    let at : get_or (waiting_lists part) writer [] ≡ c.take_first-change.result ∷ rest = has.0 ∙ c.take_first-change.ensures in
+    show_more c.args.closed c.args.part.now part (moved c) writer c.take_first-change.result rest c.loop-writer.invariant next at
+    (map-set (λ w. w.items) part.waiting.items writer c.take_first-change.new.waiting) c.push_reserved.ensures.items c.push_reserved.ensures.capacity
 
 pub loop-writer-smaller : goal.loop-writer-smaller
 loop-writer-smaller c = let fewer = (moves c).1 in omega (arith, fewer)

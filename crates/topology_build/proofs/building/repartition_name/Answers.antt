@@ -16,5 +16,5 @@ of-requires c =
 
 pub returns : goal.returns
 returns c =
-    c.of.ensures
+    c.in_ok-of.ensures
     ∙ name-spelled (string_bytes c.in_ok-format.field-0) c.items-query.result.now c.cut_text-cut.result.now c.args.query.now c.args.cut c.in_ok-format.ensures.ok c.items-query.ensures.value c.cut_text-cut.ensures
