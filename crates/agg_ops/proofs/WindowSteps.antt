@@ -47,13 +47,13 @@ enumerate-more n [] x = ap (λ (i : ℕ). (i, x) ∷ []) (omega arith)
 enumerate-more n (y ∷ xs) x =
     ap (λ rest. (n, y) ∷ rest) (enumerate-more (n + 1) xs x ∙ ap (λ (i : ℕ). enumerate_from (n + 1) xs ++ (i, x) ∷ []) (omega arith))
 
--- what is said of the change of a window, whatever was kept of the window
+-- what is said of the change of the window under these bytes, whatever was kept of it
 abbrev pub IsTurnOf : List Agg → Change → List ℕ → ℕ → Span → Values → Values → Change → Type 0
-IsTurnOf aggs change key i s m n made =
-    (kept : Option (List Value)) → IfSome kept AreSpellable → get m (under key s.start) ≡ option_map values kept →
+IsTurnOf aggs change at i s m n made =
+    (kept : Option (List Value)) → IfSome kept AreSpellable → get m at ≡ option_map values kept →
     let before = unwrap_or kept [] in
     let after = next_totals Stream aggs change before in
-    (made ≡ at_path (change.place.path ++ i ∷ []) (changed change (Some s) before after)) × AreSpellable after × (n ≡ insert m (under key s.start) (values after))
+    (made ≡ at_path (change.place.path ++ i ∷ []) (changed change (Some s) before after)) × AreSpellable after × (n ≡ insert m at (values after))
 
 -- ---- the window with an index among those of a time
 
@@ -107,7 +107,7 @@ module _ (aggs : List Agg) (w : Window) (time : ℕ) (es : List Entry) (e : Entr
 
   -- an open window takes the entry, and its change is given
   pub open-step : (m n : Values) (old mid new : List Change) (made : Change) → nat_lt time (s.end + w.grace) ≡ true → IsAddedTo aggs w m time es e (take i spans) old mid →
-      IsTurnOf aggs e.change (values e.change.key) i s m n made → new ≡ mid ++ made ∷ [] → IsAddedTo aggs w n time es e (take (i + 1) spans) old new
+      IsTurnOf aggs e.change (under (values e.change.key) s.start) i s m n made → new ≡ mid ++ made ∷ [] → IsAddedTo aggs w n time es e (take (i + 1) spans) old new
   open-step m n old mid new made is_open h turn push =
       let mine = added w s e.change.key (with_times 1 es) in
       let before = unwrap_or (totals Stream aggs mine) [] in

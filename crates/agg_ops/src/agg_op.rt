@@ -47,7 +47,7 @@ impl Operator for AggOp {
         &mut self,
         alloc: Global,
         side: u32,
-        change: &Change,
+        change: Change,
         out: &mut Vec<Change>,
     ) -> Result<(), AllocError> {
         self.groups.step(alloc, side, change, out)

@@ -10,7 +10,7 @@ ghost use Rattle.operator.specs.StandsFor.{StandsFor};
 ghost use Rattle.operator.specs.Storable.{HasShortArguments};
 ghost use Rattle.agg_ops.specs.Groups.{HoldsGroups};
 
-use crate::totals::group_change;
+use crate::totals::{kept_time, turn_of};
 use crate::turn::turned;
 use ksql_place::Change;
 use ksql_program::{Agg, Aggs};
@@ -55,7 +55,7 @@ impl Operator for Groups {
         &mut self,
         alloc: Global,
         _side: u32,
-        change: &Change,
+        change: Change,
         out: &mut Vec<Change>,
     ) -> Result<(), AllocError> {
         if self.failed {
@@ -90,29 +90,31 @@ fn give(
     alloc: Global,
     over: Kind,
     aggs: &[Agg],
-    change: &Change,
+    change: Change,
     out: &mut Vec<Change>,
 ) -> Result<(), AllocError>
-    requires time { change.now.time ≤ 2 ^ 53 }
-    requires key { All IsShort change.now.key }
+    requires time { change.time ≤ 2 ^ 53 }
+    requires key { All IsShort change.key }
     requires few { suc (length aggs.now) < 2 ^ 32 }
-    requires short { HasShortArguments aggs.now change.now }
+    requires short { HasShortArguments aggs.now change }
     ensures next { OnOk result ((side : ℕ) (es : List Entry) → HoldsGroups over aggs.now groups.old.map es →
-        let e : Entry = record { side = side; change = change.now } in
-        (out.new.items ≡ out.old.items ++ group_change over aggs.now None (of_key change.now.key es) e ∷ []) × HoldsGroups over aggs.now groups.new.map (es ++ e ∷ [])) }
+        let e : Entry = record { side = side; change = change } in
+        (out.new.items ≡ out.old.items ++ group_change over aggs.now None (of_key change.key es) e ∷ []) × HoldsGroups over aggs.now groups.new.map (es ++ e ∷ [])) }
     ensures base { (base : Values) → IsBase base groups.old → IsBase base groups.new }
     ensures out { OnErr result (out.new.items ≡ out.old.items) }
 {
     let key = spelled_key(alloc, &change.key)?;
-    let turn = turned(alloc, over, aggs, groups.get(key.items()), change)?;
-    groups.set(alloc, key.items(), turn.bytes.items())?;
-    let given = group_change(
-        alloc,
-        change,
-        None,
-        turn.before.as_slice(),
-        turn.after.as_slice(),
-    )?;
-    out.push(given)?;
+    let found = groups.find(key.items());
+    let place = found.place;
+    let turn = turned(alloc, over, aggs, found.value, &change)?;
+    groups.write_at(alloc, place, key.items(), Some(turn.bytes))?;
+    let after = turn.after.as_slice();
+    let body = turn_of(alloc, &change.key, None, turn.before.as_slice(), after)?;
+    out.push(Change {
+        time: kept_time(after),
+        span: None,
+        body,
+        ..change
+    })?;
     Ok(())
 }

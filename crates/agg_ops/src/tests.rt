@@ -63,7 +63,7 @@ fn given(alloc: Global, op: &mut WindowAggOp, time: u64) -> Result<Vec<i64>, All
         body: Body::Said(Items::of(Vec::new(alloc))),
     };
     let mut out = Vec::new(alloc);
-    op.step(alloc, 0, &change, &mut out)?;
+    op.step(alloc, 0, change, &mut out)?;
     numbers_in(alloc, out.as_slice())
 }
 

@@ -1,8 +1,9 @@
 //! What is kept of a group: its greatest time, and then the values of its aggregates.
 ghost use Rattle.std.specs.Prelude.{◌≡◌, ◌<◌, ◌≤◌, ◌^◌, ◌≤ℤ◌, ◌∷◌, [], IfOk, IfSome, neg_ℤ, option_map, pos, slice_get, unwrap_or};
 ghost use Rattle.ksql_types.specs.declared.relation.Kind.TheVariants as kinds;
+ghost use Rattle.ksql_place.specs.declared.change.Body.TheVariants.{Turned};
 ghost use Rattle.ksql_nodes.specs.Aggregates.{amount};
-ghost use Rattle.agg_ops.specs.Totals.{amount_of, changed, initial, kept_time, kept_worths, more, next_totals, next_worth, present_or, raised, result_of, with_row, HasBigBounds};
+ghost use Rattle.agg_ops.specs.Totals.{amount_of, initial, kept_time, kept_worths, more, next_totals, next_worth, present_or, raised, result_of, with_row, HasBigBounds};
 
 use ksql_eval::{number_in, whole};
 use ksql_expr::AggFun;
@@ -34,31 +35,25 @@ pub(crate) fn next_totals(
     Ok(totals)
 }
 
-/// The change of a group, or of a window's group, from what was kept of it to what is.
-pub(crate) fn group_change(
+/// The turn of a group, or of a window's group, from what was kept of it to what is: its result before, and after.
+pub(crate) fn turn_of(
     alloc: Global,
-    change: &Change,
+    group: &Key,
     span: Option<Span>,
     before: &[Value],
     after: &[Value],
-) -> Result<Change, AllocError>
+) -> Result<Body, AllocError>
     requires { IfSome span HasBigBounds }
-    ensures { IfOk result (λ made. made ≡ changed change.now span before.now after.now) }
+    ensures { IfOk result (λ turn. turn ≡ Turned (result_of group.now span before.now) (result_of group.now span after.now)) }
 {
-    Ok(Change {
-        place: change.place.copy(alloc)?,
-        time: kept_time(after),
-        key: change.key.copy(alloc)?,
-        span,
-        body: Body::Turned {
-            old: result_of(alloc, &change.key, span, before)?,
-            new: result_of(alloc, &change.key, span, after)?,
-        },
+    Ok(Body::Turned {
+        old: result_of(alloc, group, span, before)?,
+        new: result_of(alloc, group, span, after)?,
     })
 }
 
 /// The time that is kept; 0 where none is.
-fn kept_time(mine: &[Value]) -> u64
+pub(crate) fn kept_time(mine: &[Value]) -> u64
     ensures time { result ≡ kept_time mine.now }
     ensures bound { result < 2 ^ 63 }
 {

@@ -13,21 +13,21 @@ ghost use Rattle.record_codec.specs.Spelling.{values, AreSpellable, IsShort};
 ghost use Rattle.operator.specs.Holding.{nothing};
 ghost use Rattle.operator.specs.StandsFor.{StandsFor};
 ghost use Rattle.operator.specs.Storable.{HasShortArguments};
-ghost use Rattle.window_store.specs.Windows.{under};
+ghost use Rattle.window_store.specs.Windows.{IsWindowKey};
 ghost use Rattle.agg_ops.specs.Totals.{changed, is_sound_window, is_window_aggregate, next_totals, HasBigBounds};
 ghost use Rattle.agg_ops.specs.WindowGroups.{HoldsWindows};
 
-use crate::totals::group_change;
-use crate::turn::{Turn, turned};
+use crate::totals::{kept_time, turn_of};
+use crate::turn::turned;
 use crate::windows::windows_of;
 use ksql_nodes::Node;
 use ksql_place::{Change, Place};
 use ksql_program::{Agg, Aggs};
-use ksql_types::{Changelog, CopyOf, Kind, Span, StoreEntry, Window};
+use ksql_types::{Changelog, CopyOf, Kind, Span, StoreEntry, Value, Window};
 use operator::{Operator, StoredOperator, spelled_key, with_number};
 use std::alloc::{AllocError, Global};
 use std::marker::Model;
-use window_store::{WStore, window_key};
+use window_store::{WStore, put_window_key};
 
 /// The operator of the groups of a stream in windows.
 #[derive(Drop)]
@@ -85,7 +85,7 @@ impl Operator for WindowAggOp {
         &mut self,
         alloc: Global,
         _side: u32,
-        change: &Change,
+        change: Change,
         out: &mut Vec<Change>,
     ) -> Result<(), AllocError> {
         if self.failed {
@@ -96,7 +96,7 @@ impl Operator for WindowAggOp {
             alloc,
             self.window,
             self.aggs.items(),
-            change,
+            &change,
             out,
         );
         self.failed = stepped.is_err();
@@ -141,15 +141,18 @@ fn give(
 {
     windows.advance_time(change.time);
     windows.expire(alloc, windows.time().saturating_sub(window.grace))?;
-    let key = spelled_key(alloc, &change.key)?;
+    let spelled = spelled_key(alloc, &change.key)?;
+    let key = spelled.items();
+    let mut at = Vec::with_capacity(alloc, key.len() + 8)?;
     let spans = windows_of(alloc, window, change.time)?;
     for (index, span) in spans.iter().enumerate() {
         if windows.time() < span.end + window.grace {
+            put_window_key(&mut at, key, span.start)?;
             let given = add_to(
                 windows,
                 alloc,
                 aggs,
-                key.items(),
+                at.as_slice(),
                 *span,
                 index as u32,
                 change,
@@ -165,7 +168,7 @@ fn add_to(
     windows: &mut WStore,
     alloc: Global,
     aggs: &[Agg],
-    key: &[u8],
+    at: &[u8],
     span: Span,
     index: u32,
     change: &Change,
@@ -173,22 +176,30 @@ fn add_to(
     requires time { change.now.time ≤ 2 ^ 53 }
     requires few { suc (length aggs.now) < 2 ^ 32 }
     requires short { HasShortArguments aggs.now change.now }
-    requires start { span.start ≤ 2 ^ 56 }
-    requires end { span.end < 2 ^ 63 }
-    ensures next { IfOk result (λ made. (kept : Option (List OneValue)) → IfSome kept AreSpellable → finite.get windows.old.content.map (under key.now span.start) ≡ option_map values kept →
+    requires window { IsWindowKey at.now }
+    requires bounds { HasBigBounds span }
+    ensures next { IfOk result (λ made. (kept : Option (List OneValue)) → IfSome kept AreSpellable → finite.get windows.old.content.map at.now ≡ option_map values kept →
         let before = unwrap_or kept [] in
         let after = next_totals kinds.Stream aggs.now change.now before in
         (made ≡ at_path (change.now.place.path ++ index ∷ []) (changed change.now (Some span) before after))
         × AreSpellable after
-        × (windows.new.content.map ≡ finite.insert windows.old.content.map (under key.now span.start) (values after))) }
+        × (windows.new.content.map ≡ finite.insert windows.old.content.map at.now (values after))) }
     ensures size { windows.new.size ≡ windows.old.size }
     ensures time { windows.new.time ≡ windows.old.time }
     ensures base { (base : Values) → IsBase base windows.old.content → IsBase base windows.new.content }
 {
-    let at = window_key(alloc, key, span.start)?;
-    let turn = turned(alloc, Kind::Stream, aggs, windows.get(at.items()), change)?;
-    windows.set(alloc, at.items(), turn.bytes.items())?;
-    window_change(alloc, change, span, index, &turn)
+    let found = windows.find(at);
+    let place = found.place;
+    let turn = turned(alloc, Kind::Stream, aggs, found.value, change)?;
+    windows.set_at(alloc, place, at, turn.bytes)?;
+    window_change(
+        alloc,
+        change,
+        span,
+        index,
+        turn.before.as_slice(),
+        turn.after.as_slice(),
+    )
 }
 
 /// The change of one of a change's windows, whose index among them ends the path.
@@ -197,21 +208,20 @@ fn window_change(
     change: &Change,
     span: Span,
     index: u32,
-    turn: &Turn,
+    before: &[Value],
+    after: &[Value],
 ) -> Result<Change, AllocError>
     requires { HasBigBounds span }
-    ensures { IfOk result (λ made. made ≡ at_path (change.now.place.path ++ index ∷ []) (changed change.now (Some span) turn.now.before.items turn.now.after.items)) }
+    ensures { IfOk result (λ made. made ≡ at_path (change.now.place.path ++ index ∷ []) (changed change.now (Some span) before.now after.now)) }
 {
-    let given = group_change(
-        alloc,
-        change,
-        Some(span),
-        turn.before.as_slice(),
-        turn.after.as_slice(),
-    )?;
-    let place = Place {
-        stamp: given.place.stamp,
-        path: given.place.path.with_last(alloc, index)?,
-    };
-    Ok(Change { place, ..given })
+    Ok(Change {
+        place: Place {
+            stamp: change.place.stamp,
+            path: change.place.path.with_last(alloc, index)?,
+        },
+        time: kept_time(after),
+        key: change.key.copy(alloc)?,
+        span: Some(span),
+        body: turn_of(alloc, &change.key, Some(span), before, after)?,
+    })
 }

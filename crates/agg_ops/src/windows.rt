@@ -13,8 +13,10 @@ pub(crate) fn windows_of(alloc: Global, window: Window, time: u64) -> Result<Vec
     ensures spans { IfOk result (λ spans. spans.items ≡ windows_of window time) }
     ensures few { IfOk result (λ spans. length spans.items ≤ 64) }
 {
-    let mut spans = Vec::new(alloc);
-    for number in first_open(window, time)..time / window.advance + 1 {
+    let first = first_open(window, time);
+    let count = (time / window.advance + 1).saturating_sub(first);
+    let mut spans = Vec::with_capacity(alloc, count as usize)?;
+    for number in first..time / window.advance + 1 {
         let start = number * window.advance;
         let end = start + window.size;
         spans.push(Span { start, end })?;

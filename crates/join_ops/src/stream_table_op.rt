@@ -1,4 +1,5 @@
 ghost use Rattle.std.specs.Prelude.{◌≡◌, ℕ, false, List, [], ◌∷◌, ◌++◌, All, IfOk, OnOk, OnErr, IsTrue};
+ghost use Rattle.std.specs.Option.{option_to_list};
 ghost use Rattle.ksql_nodes.specs.declared.node.Node.TheVariants as nodes;
 ghost use Rattle.ksql_nodes.specs.Entries.{Entry, of_side};
 ghost use Rattle.ksql_nodes.specs.Joins.{join_row, join_stream};
@@ -15,7 +16,7 @@ use ksql_expr::Typed;
 use ksql_nodes::Node;
 use ksql_place::Change;
 use ksql_types::{Changelog, CopyOf, StoreEntry};
-use node_steps::rekeyed;
+use node_steps::{push_given, rekeyed};
 use operator::{Operator, StoredOperator, with_number};
 use row_ops::{standing, turn};
 use state_store::Store;
@@ -71,7 +72,7 @@ impl Operator for StreamTableOp {
         &mut self,
         alloc: Global,
         side: u32,
-        change: &Change,
+        change: Change,
         out: &mut Vec<Change>,
     ) -> Result<(), AllocError> {
         if self.failed {
@@ -108,13 +109,13 @@ fn take(
     on: &Typed,
     join: &Join,
     side: u32,
-    change: &Change,
+    change: Change,
     out: &mut Vec<Change>,
 ) -> Result<(), AllocError>
-    requires key { All IsShort change.now.key }
-    requires row { side ≡ 1 → HasShortRow change.now }
+    requires key { All IsShort change.key }
+    requires row { side ≡ 1 → HasShortRow change }
     ensures next { OnOk result ((es : List Entry) → HoldsRows rows.old.map (of_side 1 es) →
-        let e : Entry = record { side = side; change = change.now } in
+        let e : Entry = record { side = side; change = change } in
         (out.new.items ≡ out.old.items ++ join_stream join.now.kind on.now join.now.left join.now.right es e)
         × HoldsRows rows.new.map (of_side 1 (es ++ e ∷ []))) }
     ensures base { (base : Values) → IsBase base rows.old → IsBase base rows.new }
@@ -122,7 +123,7 @@ fn take(
 {
     match side {
         0 => give(rows, alloc, on, join, change, out),
-        1 => put(rows, alloc, change),
+        1 => put(rows, alloc, &change),
         _ => Ok(()),
     }
 }
@@ -145,20 +146,18 @@ fn give(
     alloc: Global,
     on: &Typed,
     join: &Join,
-    change: &Change,
+    change: Change,
     out: &mut Vec<Change>,
 ) -> Result<(), AllocError>
     ensures given { OnOk result ((es : List Entry) → HoldsRows rows.now.map (of_side 1 es) →
-        out.new.items ≡ out.old.items ++ join_stream join.now.kind on.now join.now.left join.now.right es (record { side = 0; change = change.now })) }
+        out.new.items ≡ out.old.items ++ join_stream join.now.kind on.now join.now.left join.now.right es (record { side = 0; change = change })) }
     ensures unchanged { OnErr result (out.new.items ≡ out.old.items) }
 {
-    let keyed = rekeyed(alloc, on, change)?;
-    let Some(keyed) = keyed.first() else {
+    let Some(keyed) = rekeyed(alloc, on, change)? else {
         return Ok(());
     };
-    let mut given = beside_row(rows, alloc, join, keyed)?;
-    out.append(&mut given)?;
-    Ok(())
+    let given = beside_row(rows, alloc, join, keyed)?;
+    push_given(out, given)
 }
 
 /// A stream's change, which has its join key, beside the row that the table has for that key.
@@ -166,12 +165,11 @@ fn beside_row(
     rows: &Store,
     alloc: Global,
     join: &Join,
-    change: &Change,
-) -> Result<Vec<Change>, AllocError>
+    change: Change,
+) -> Result<Option<Change>, AllocError>
     ensures { IfOk result (λ made. (es : List Entry) → HoldsRows rows.now.map (of_side 1 es) →
-        made.items ≡ join_row join.now.kind join.now.left join.now.right es change.now) }
+        option_to_list made ≡ join_row join.now.kind join.now.left join.now.right es change) }
 {
     let latest = standing(rows, alloc, &change.key)?;
-    let given = stream_joined(alloc, join, change, row_of(&latest))?;
-    Ok(given)
+    stream_joined(alloc, join, change, row_of(&latest))
 }

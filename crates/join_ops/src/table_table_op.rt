@@ -15,6 +15,7 @@ use crate::tables::Tables;
 use ksql_nodes::Node;
 use ksql_place::Change;
 use ksql_types::{Changelog, StoreEntry};
+use node_steps::push_given;
 use operator::{Operator, StoredOperator};
 use std::alloc::{AllocError, Global};
 use table_steps::{Join, Standing, tables_joined};
@@ -61,7 +62,7 @@ impl Operator for TableTableOp {
         &mut self,
         alloc: Global,
         side: u32,
-        change: &Change,
+        change: Change,
         out: &mut Vec<Change>,
     ) -> Result<(), AllocError> {
         if self.failed {
@@ -89,27 +90,26 @@ fn give(
     alloc: Global,
     join: &Join,
     side: u32,
-    change: &Change,
+    change: Change,
     out: &mut Vec<Change>,
 ) -> Result<(), AllocError>
     requires side { side < 2 }
-    requires key { All IsShort change.now.key }
-    requires row { HasShortRow change.now }
+    requires key { All IsShort change.key }
+    requires row { HasShortRow change }
     ensures next { OnOk result ((es : List Entry) → HoldTables tables.old.left.map tables.old.right.map es →
-        let e : Entry = record { side = side; change = change.now } in
+        let e : Entry = record { side = side; change = change } in
         (out.new.items ≡ out.old.items ++ join_tables join.now.kind join.now.left join.now.right es e)
         × HoldTables tables.new.left.map tables.new.right.map (es ++ e ∷ [])) }
     ensures left_base { (base : Values) → IsBase base tables.old.left → IsBase base tables.new.left }
     ensures right_base { (base : Values) → IsBase base tables.old.right → IsBase base tables.new.right }
     ensures out { OnErr result (out.new.items ≡ out.old.items) }
 {
-    let latest = tables.turn(alloc, side, change)?;
+    let latest = tables.turn(alloc, side, &change)?;
     let standing = Standing {
         own: row_of(&latest.own),
         other: row_of(&latest.other),
         time: time_of(&latest.other),
     };
-    let mut given = tables_joined(alloc, join, side, change, &standing)?;
-    out.append(&mut given)?;
-    Ok(())
+    let given = tables_joined(alloc, join, side, change, &standing)?;
+    push_given(out, given)
 }

@@ -1,15 +1,16 @@
 //! Each row under another key: that of its group, or the one by which it is joined.
-ghost use Rattle.std.specs.Prelude.{◌≡◌, IfOk, option_and_then, option_map};
+ghost use Rattle.std.specs.Prelude.{◌≡◌, ◌++◌, IfOk, OnErr, OnOk, option_and_then, option_map};
+ghost use Rattle.std.specs.Option.{option_to_list};
 ghost use Rattle.ksql_place.specs.declared.change.Body.TheVariants as body;
 ghost use Rattle.ksql_nodes.specs.Groups.{grouped, in_group, member, moved};
 ghost use Rattle.ksql_nodes.specs.Joins.{join_key, rekeyed};
 ghost use Rattle.node_steps.specs.Steps.{member_of};
 
-use crate::keys::{is_same_key, key_of, one_key};
-use crate::rows::{copied, value_of, values_of, with_body};
+use crate::keys::{is_same_key, one_key};
+use crate::rows::{copied, key_from, push_given, value_of, values_of};
 use ksql_expr::Typed;
 use ksql_place::{Body, Change, Place};
-use ksql_types::{CopyOf, Key, Row};
+use ksql_types::{Key, Row};
 use std::alloc::{AllocError, Global};
 
 /// A row, lent, beside the group that it is in.
@@ -19,27 +20,35 @@ struct RowInGroup<'a> {
     row: &'a Row,
 }
 
-/// A stream's change under the key by which it is joined; nothing of a table's change, or where there is no key.
-pub fn rekeyed(alloc: Global, on: &Typed, change: &Change) -> Result<Vec<Change>, AllocError>
-    ensures { IfOk result (λ made. made.items ≡ rekeyed (join_key on.now change.now) change.now) }
+/// A stream's change under the key by which it is joined; None of a table's change, or where there is no key.
+pub fn rekeyed(alloc: Global, on: &Typed, change: Change) -> Result<Option<Change>, AllocError>
+    ensures { IfOk result (λ made. option_to_list made ≡ rekeyed (join_key on.now change) change) }
 {
-    let key = join_key(alloc, on, change)?;
-    with_key(alloc, key, change)
+    let key = join_key(alloc, on, &change)?;
+    Ok(with_key(key, change))
 }
 
-/// A change under the keys of the groups of its rows.
-pub fn grouped(alloc: Global, keys: &[Typed], change: &Change) -> Result<Vec<Change>, AllocError>
-    ensures { IfOk result (λ made. made.items ≡ grouped keys.now change.now) }
+/// Adds a change under the keys of the groups of its rows.
+pub fn push_grouped(
+    alloc: Global,
+    keys: &[Typed],
+    change: Change,
+    out: &mut Vec<Change>,
+) -> Result<(), AllocError>
+    ensures given { OnOk result (out.new.items ≡ out.old.items ++ grouped keys.now change) }
+    ensures unchanged { OnErr result (out.new.items ≡ out.old.items) }
 {
     match &change.body {
         Body::Said(row) => {
-            let key = key_of(alloc, values_of(alloc, keys, change.time, row)?);
-            with_key(alloc, key, change)
+            let key = key_from(alloc, keys, change.time, row)?;
+            push_given(out, with_key(key, change))
         }
         Body::Turned { old, new } => {
             let left = member(alloc, keys, change.time, old.as_ref())?;
             let entered = member(alloc, keys, change.time, new.as_ref())?;
-            moved(alloc, change, left, entered)
+            let mut given = moved(alloc, &change, left, entered)?;
+            out.append(&mut given)?;
+            Ok(())
         }
     }
 }
@@ -57,15 +66,15 @@ fn join_key(alloc: Global, on: &Typed, change: &Change) -> Result<Key, AllocErro
     }
 }
 
-/// A change under a key; nothing without one.
-fn with_key(alloc: Global, key: Key, change: &Change) -> Result<Vec<Change>, AllocError>
-    ensures { IfOk result (λ made. made.items ≡ rekeyed key change.now) }
+/// A change under a key; None without one.
+fn with_key(key: Key, change: Change) -> Option<Change>
+    ensures { option_to_list result ≡ rekeyed key change }
 {
     if key.items().is_empty() {
-        return Ok(Vec::new(alloc));
+        None
+    } else {
+        Some(Change { key, ..change })
     }
-    let body = change.body.copy(alloc)?;
-    with_body(alloc, change, key, Some(body))
 }
 
 /// A row beside its group, where there is a row that is in one: none of its group's values is NULL.

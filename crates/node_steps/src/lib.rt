@@ -12,10 +12,12 @@ mod steps;
 pub use aggregates::{aggregate, greater, lesser};
 pub use entries::{EntryRef, latest_time, row_in, row_out};
 pub use group_changes::{argument, type_of_agg};
-pub use groups::{grouped, rekeyed};
+pub use groups::{push_grouped, rekeyed};
 pub use keys::{is_same_key, key_of};
-pub use rows::{copied, filtered, push_copies, push_nulls, selected, turned, values_of, with_body};
-pub use steps::results;
+pub use rows::{
+    copied, filtered, push_copies, push_given, push_nulls, selected, turned, values_of, with_body,
+};
+pub use steps::{one_or_none, results};
 
 #[cfg(test)]
 mod tests;

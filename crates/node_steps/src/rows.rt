@@ -1,22 +1,38 @@
 //! Steps that look at each row by itself.
-ghost use Rattle.std.specs.Prelude.{◌≡◌, ◌∷◌, ◌++◌, [], IfOk, OnOk, map, replicate, option_and_then, option_map};
+ghost use Rattle.std.specs.Prelude.{◌≡◌, ◌∷◌, ◌++◌, [], IfOk, OnErr, OnOk, map, replicate, option_and_then, option_map};
+ghost use Rattle.std.specs.Option.{option_to_list};
 ghost use Rattle.ksql_types.specs.declared.value.Value.TheVariants as value;
 ghost use Rattle.ksql_expr.specs.Value.{value_of};
-ghost use Rattle.ksql_nodes.specs.Rows.{by_rows, filtered, passing, selected, selected_key, turned, values, with_body};
+ghost use Rattle.ksql_nodes.specs.Rows.{by_rows, filtered, key_of, passing, selected, selected_key, turned, values, with_body};
 
-use crate::keys::key_of;
+use crate::keys::{key_of, one_key};
 use ksql_eval::{RowView, eval, holds};
 use ksql_expr::Typed;
 use ksql_place::{Body, Change};
 use ksql_types::{CopyOf, Items, Key, Row, Value};
 use std::alloc::{AllocError, Global};
 
-/// A change that passes WHERE or HAVING.
-pub fn filtered(alloc: Global, on: &Typed, change: &Change) -> Result<Vec<Change>, AllocError>
-    ensures { IfOk result (λ made. made.items ≡ filtered on.now change.now) }
+/// What passes WHERE or HAVING of a change, where anything does.
+pub fn filtered(alloc: Global, on: &Typed, change: Change) -> Result<Option<Change>, AllocError>
+    ensures { IfOk result (λ made. option_to_list made ≡ filtered on.now change) }
 {
-    let body = filtered_body(alloc, on, change)?;
-    with_body(alloc, change, change.key.copy(alloc)?, body)
+    let Change {
+        place,
+        time,
+        key,
+        span,
+        body,
+    } = change;
+    match filtered_body(alloc, on, time, body)? {
+        Some(body) => Ok(Some(Change {
+            place,
+            time,
+            key,
+            span,
+            body,
+        })),
+        None => Ok(None),
+    }
 }
 
 /// What the key items and the value items of a select list make of a change.
@@ -24,13 +40,13 @@ pub fn selected(
     alloc: Global,
     keys: &[Typed],
     items: &[Typed],
-    change: &Change,
-) -> Result<Vec<Change>, AllocError>
-    ensures { IfOk result (λ made. made.items ≡ selected keys.now items.now change.now) }
+    change: Change,
+) -> Result<Option<Change>, AllocError>
+    ensures { IfOk result (λ made. option_to_list made ≡ selected keys.now items.now change) }
 {
-    let key = selected_key(alloc, keys, change)?;
-    let body = selected_body(alloc, items, change)?;
-    with_body(alloc, change, key, body)
+    let key = selected_key(alloc, keys, &change)?;
+    let body = selected_body(alloc, items, &change)?;
+    Ok(with_body(Change { key, ..change }, body))
 }
 
 /// A change from one row of a table to another; from absent to absent there is none.
@@ -44,26 +60,14 @@ pub fn turned(old: Option<Row>, new: Option<Row>) -> Option<Body>
     }
 }
 
-/// A change with this key that says this, where it says anything.
-pub fn with_body(
-    alloc: Global,
-    change: &Change,
-    key: Key,
-    body: Option<Body>,
-) -> Result<Vec<Change>, AllocError>
-    ensures { IfOk result (λ made. made.items ≡ with_body (record change.now { key = key }) body) }
+/// A change with another body, where there is one.
+pub fn with_body(change: Change, body: Option<Body>) -> Option<Change>
+    ensures { option_to_list result ≡ with_body change body }
 {
-    let Some(body) = body else {
-        return Ok(Vec::new(alloc));
-    };
-    let changed = Change {
-        place: change.place.copy(alloc)?,
-        time: change.time,
-        key,
-        span: change.span,
-        body,
-    };
-    Ok(vec![in alloc; changed]?)
+    match body {
+        Some(body) => Some(Change { body, ..change }),
+        None => None,
+    }
 }
 
 /// The value of an expression on a row at a time.
@@ -94,6 +98,21 @@ pub fn values_of(
     Ok(values)
 }
 
+/// The key of the values of expressions on a row at a time: none where they make no key. That of one takes no list.
+pub(crate) fn key_from(
+    alloc: Global,
+    expressions: &[Typed],
+    time: u64,
+    row: &Row,
+) -> Result<Key, AllocError>
+    ensures { IfOk result (λ key. key ≡ key_of (values expressions.now time row.now)) }
+{
+    match expressions {
+        [only] => Ok(one_key(alloc, value_of(alloc, only, time, row)?)),
+        _ => Ok(key_of(alloc, values_of(alloc, expressions, time, row)?)),
+    }
+}
+
 /// A row, copied, where there is one.
 pub fn copied(alloc: Global, row: Option<&Row>) -> Result<Option<Row>, AllocError>
     ensures { IfOk result (λ made. made ≡ option_map (λ r. r.now) row.entry) }
@@ -102,6 +121,17 @@ pub fn copied(alloc: Global, row: Option<&Row>) -> Result<Option<Row>, AllocErro
         Some(row) => Ok(Some(row.copy(alloc)?)),
         None => Ok(None),
     }
+}
+
+/// Adds a change, where there is one.
+pub fn push_given(out: &mut Vec<Change>, change: Option<Change>) -> Result<(), AllocError>
+    ensures given { OnOk result (out.new.items ≡ out.old.items ++ option_to_list change) }
+    ensures unchanged { OnErr result (out.new.items ≡ out.old.items) }
+{
+    if let Some(change) = change {
+        out.push(change)?;
+    }
+    Ok(())
 }
 
 /// Adds copies of values.
@@ -128,28 +158,33 @@ pub fn push_nulls(cells: &mut Vec<Value>, count: u32) -> Result<(), AllocError>
     Ok(())
 }
 
-/// What a condition leaves of a change.
-fn filtered_body(alloc: Global, on: &Typed, change: &Change) -> Result<Option<Body>, AllocError>
-    ensures { IfOk result (λ body. body ≡ by_rows (passing on.now change.now.time) change.now.body) }
+/// What a condition leaves of what a change at a time says.
+fn filtered_body(
+    alloc: Global,
+    on: &Typed,
+    time: u64,
+    body: Body,
+) -> Result<Option<Body>, AllocError>
+    ensures { IfOk result (λ left. left ≡ by_rows (passing on.now time) body) }
 {
-    match &change.body {
-        Body::Said(row) => Ok(passing(alloc, on, change.time, Some(row))?.map(Body::Said)),
+    match body {
+        Body::Said(row) => Ok(passing(alloc, on, time, Some(row))?.map(Body::Said)),
         Body::Turned { old, new } => {
-            let old = passing(alloc, on, change.time, old.as_ref())?;
-            let new = passing(alloc, on, change.time, new.as_ref())?;
+            let old = passing(alloc, on, time, old)?;
+            let new = passing(alloc, on, time, new)?;
             Ok(turned(old, new))
         }
     }
 }
 
-/// The row, copied, where there is one that passes a condition at a time.
+/// The row, where there is one that passes a condition at a time.
 fn passing(
     alloc: Global,
     on: &Typed,
     time: u64,
-    row: Option<&Row>,
+    row: Option<Row>,
 ) -> Result<Option<Row>, AllocError>
-    ensures { IfOk result (λ left. left ≡ option_and_then (passing on.now time) (option_map (λ r. r.now) row.entry)) }
+    ensures { IfOk result (λ left. left ≡ option_and_then (passing on.now time) row) }
 {
     let Some(row) = row else {
         return Ok(None);
@@ -160,7 +195,7 @@ fn passing(
         time,
     };
     if holds(alloc, on, &view)? {
-        Ok(Some(row.copy(alloc)?))
+        Ok(Some(row))
     } else {
         Ok(None)
     }
@@ -171,7 +206,7 @@ fn selected_key(alloc: Global, keys: &[Typed], change: &Change) -> Result<Key, A
     ensures { IfOk result (λ key. key ≡ selected_key keys.now change.now) }
 {
     match &change.body {
-        Body::Said(row) => Ok(key_of(alloc, values_of(alloc, keys, change.time, row)?)),
+        Body::Said(row) => key_from(alloc, keys, change.time, row),
         Body::Turned { .. } => change.key.copy(alloc),
     }
 }

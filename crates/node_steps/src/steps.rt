@@ -1,4 +1,5 @@
 ghost use Rattle.std.specs.Prelude.{◌≡◌, [], IfOk, IsTrue, map};
+ghost use Rattle.std.specs.Option.{option_to_list};
 ghost use Rattle.ksql_place.specs.Said.{row_in};
 ghost use Rattle.ksql_nodes.specs.Entries.{of_key, results, row_after};
 ghost use Rattle.ksql_nodes.specs.Nodes.{gives};
@@ -7,7 +8,7 @@ ghost use Rattle.node_steps.specs.Steps.{entry_of, is_run};
 
 use crate::entries::{EntryRef, of_key, row_after, row_in};
 use crate::group_changes::group_change;
-use crate::groups::{grouped, rekeyed};
+use crate::groups::{push_grouped, rekeyed};
 use crate::rows::{copied, filtered, selected, turned, with_body};
 use ksql_nodes::Node;
 use ksql_place::Change;
@@ -45,32 +46,50 @@ fn gives<'a>(
     requires { IsTrue (is_run node.now) }
     ensures { IfOk result (λ changes. changes.items ≡ gives lanes node.now (map entry_of before.now) (entry_of entry.now)) }
 {
+    let change = entry.change.copy(alloc)?;
     match node {
-        Node::Rekey { key } => rekeyed(alloc, key, entry.change),
-        Node::Table { .. } => table_changes(alloc, before, entry.change),
+        Node::Rekey { key } => one_or_none(alloc, rekeyed(alloc, key, change)?),
+        Node::Table { .. } => one_or_none(alloc, table_change(alloc, before, change)?),
         Node::JoinStreamTable { .. } | Node::JoinTables { .. } => unreachable!(),
-        Node::Filter { on } | Node::Having { on } => filtered(alloc, on, entry.change),
-        Node::Group { keys } => grouped(alloc, keys.items(), entry.change),
+        Node::Filter { on } | Node::Having { on } => {
+            one_or_none(alloc, filtered(alloc, on, change)?)
+        }
+        Node::Group { keys } => {
+            let mut given = Vec::new(alloc);
+            push_grouped(alloc, keys.items(), change, &mut given)?;
+            Ok(given)
+        }
         Node::Aggregate { over, aggs, .. } => {
             let change = group_change(alloc, *over, aggs.items(), before, entry)?;
             Ok(vec![in alloc; change]?)
         }
-        Node::Select { keys, values } => {
-            selected(alloc, keys.items(), values.items(), entry.change)
-        }
+        Node::Select { keys, values } => one_or_none(
+            alloc,
+            selected(alloc, keys.items(), values.items(), change)?,
+        ),
     }
 }
 
-/// The change of a table from the row that the key had before.
-fn table_changes(
+/// The changes of a node that gives at most one.
+pub fn one_or_none(alloc: Global, change: Option<Change>) -> Result<Vec<Change>, AllocError>
+    ensures { IfOk result (λ made. made.items ≡ option_to_list change) }
+{
+    match change {
+        Some(change) => Ok(vec![in alloc; change]?),
+        None => Ok(Vec::new(alloc)),
+    }
+}
+
+/// The change of a table from the row that the key had before; None from absent to absent.
+fn table_change(
     alloc: Global,
     before: &[EntryRef],
-    change: &Change,
-) -> Result<Vec<Change>, AllocError>
-    ensures { IfOk result (λ made. made.items ≡ with_body change.now (turned (row_after (of_key change.now.key (map entry_of before.now))) (row_in change.now.body))) }
+    change: Change,
+) -> Result<Option<Change>, AllocError>
+    ensures { IfOk result (λ made. option_to_list made ≡ with_body change (turned (row_after (of_key change.key (map entry_of before.now))) (row_in change.body))) }
 {
     let mine = of_key(alloc, &change.key, before)?;
     let old = copied(alloc, row_after(mine.as_slice()))?;
     let new = copied(alloc, row_in(&change.body))?;
-    with_body(alloc, change, change.key.copy(alloc)?, turned(old, new))
+    Ok(with_body(change, turned(old, new)))
 }

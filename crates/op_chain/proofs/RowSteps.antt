@@ -1,18 +1,16 @@
 -- The steps of one operator after another, whatever the operators are.
-use Rattle.std.proofs.Common.{◌≡◌, ◌∙◌, ap, refl, sym, subst, ℕ, ◌+◌, ◌<◌, List, [], ◌∷◌, ◌++◌, append_assoc, get_or, length, map, take}
-use Rattle.std.proofs.lemmas.List.{append-nil, get_or-map, length-map, map-append, take_more}
+use Rattle.std.proofs.Common.{◌≡◌, ◌∙◌, ap, refl, sym, subst, ℕ, List, [], ◌∷◌, ◌++◌, append_assoc, map}
+use Rattle.std.proofs.lemmas.List.{append-nil}
 use Rattle.ksql_place.specs.declared.change.Change.{Change}
 use Rattle.ksql_nodes.specs.declared.node.Node.{Node}
-use Rattle.ksql_nodes.specs.Entries.{Entry, from_side}
+use Rattle.ksql_nodes.specs.Entries.{Entry, from_side, results}
 use Rattle.ksql_nodes.specs.Nodes.{gives}
 use Rattle.ksql_nodes.proofs.Results.{results-more}
 use Rattle.std.specs.List.{AllZip}
 use Rattle.operator.specs.Holding.{Held, IsBaseOf, Maps, committed, maps_of}
 use Rattle.operator.specs.StandsFor.{StandsFor}
-use Rattle.operator.specs.Storable.{IsStorable}
 use Rattle.op_chain.specs.Along.{CanStore, CanTake, StepAlong, Steps}
-use Rattle.op_chain.specs.Chain.{AreStorable, StandAlong, entries_of, given, passed}
-use Rattle.op_chain.specs.declared.chain.Entry.{Entry as Taken}
+use Rattle.op_chain.specs.Chain.{AreStorable, StandAlong, given, passed}
 use Rattle.op_chain.proofs.Laws.{passed-append}
 
 -- an operator stands for entries by its maps alone
@@ -24,33 +22,20 @@ stands-held n h es s = record { spelled = s.spelled; exact = s.exact }
 
 -- ---- one operator
 
-pub steps-none : (n : Node) (h : Held) → Steps n h h [] []
-steps-none n h = λ earlier s. (refl, subst (StandsFor n h) (sym (append-nil earlier)) s)
+pub steps-none : (n : Node) (h : Held) (old : List Change) → Steps n h h [] old old
+steps-none n h old = λ earlier s. (sym (append-nil old), subst (StandsFor n h) (sym (append-nil earlier)) s)
 
 -- one entry more
-pub steps-more : (n : Node) (first held next : Held) (es : List Entry) (e : Entry) (changes more : List Change) → Steps n first held es changes →
-    ((before : List Entry) → StandsFor n held before → (more ≡ changes ++ gives 1 n before e) × StandsFor n next (before ++ e ∷ [])) → Steps n first next (es ++ e ∷ []) more
-steps-more n first held next es e changes more steps step = λ earlier s.
+pub steps-more : (n : Node) (first held next : Held) (es : List Entry) (e : Entry) (old changes more : List Change) → Steps n first held es old changes →
+    ((before : List Entry) → StandsFor n held before → (more ≡ changes ++ gives 1 n before e) × StandsFor n next (before ++ e ∷ [])) → Steps n first next (es ++ e ∷ []) old more
+steps-more n first held next es e old changes more steps step = λ earlier s.
     let so_far = steps earlier s in
     let here = step (earlier ++ es) so_far.1 in (
-      here.0 ∙ ap (λ (given : List Change). given ++ gives 1 n (earlier ++ es) e) so_far.0 ∙ sym (results-more (gives 1 n) earlier es e),
+      here.0 ∙ ap (λ (given : List Change). given ++ gives 1 n (earlier ++ es) e) so_far.0
+          ∙ append_assoc old (results (gives 1 n) earlier es) (gives 1 n (earlier ++ es) e)
+          ∙ ap (λ (given : List Change). old ++ given) (sym (results-more (gives 1 n) earlier es e)),
       subst (StandsFor n next) (append_assoc earlier es (e ∷ [])) here.1,
     )
-
--- one entry more of those that are taken
-pub taken-more : (xs : List Taken) (i : ℕ) (x : Taken) → i < length xs → x ≡ get_or xs i x →
-    entries_of (take (i + 1) xs) ≡ entries_of (take i xs) ++ record { side = x.side; change = x.change } ∷ []
-taken-more xs i x within here =
-    ap entries_of (take_more xs i x within)
-    ∙ map-append (λ (e : Taken). record { side = e.side; change = e.change }) (take i xs) (get_or xs i x ∷ [])
-    ∙ ap (λ (e : Taken). entries_of (take i xs) ++ record { side = e.side; change = e.change } ∷ []) (sym here)
-
--- an entry among those that a node can store
-pub storable-at : (n : Node) (xs : List Taken) (i : ℕ) (x : Taken) → i < length xs → x ≡ get_or xs i x → CanStore n (entries_of xs) → IsStorable n x.side x.change
-storable-at n xs i x within here all =
-    let entry : Taken → Entry = λ e. record { side = e.side; change = e.change } in
-    subst (λ (e : Entry). IsStorable n e.side e.change) (get_or-map entry xs i x (entry x) within ∙ ap entry (sym here))
-    (all i (entry x) (subst (λ (k : ℕ). i < k) (sym (length-map xs entry)) within))
 
 -- ---- operators in a row
 
@@ -59,7 +44,7 @@ can_store-first n ns h hs entries can = can.2.0
 
 -- what comes to the later operators can be taken there
 pub can_take-later : (n : Node) (ns : List Node) (h next : Held) (hs : List Held) (entries later : List Entry) (changes : List Change) → CanTake (n ∷ ns) (h ∷ hs) entries →
-    Steps n h next entries changes → later ≡ from_side 0 changes → CanTake ns hs later
+    Steps n h next entries [] changes → later ≡ from_side 0 changes → CanTake ns hs later
 can_take-later n ns h next hs entries later changes can steps is =
     let earlier : List Entry = can.0 in
     let came : later ≡ passed n earlier entries = is ∙ ap (from_side 0) (steps earlier (stands-held n h earlier can.1.0)).0 in
@@ -69,9 +54,24 @@ pub along-none : (entries : List Entry) (old new : List Change) → new ≡ old 
 unfolding given
 along-none entries old new is = λ earlier s. (is, tt)
 
+-- what comes in on a side is what was given
+from_side-changes : (side : ℕ) (cs : List Change) → map (λ (e : Entry). e.change) (from_side side cs) ≡ cs
+from_side-changes side [] = refl
+from_side-changes side (c ∷ cs) = ap (λ (cs : List Change). c ∷ cs) (from_side-changes side cs)
+
+-- the steps of the last operator
+pub along-last : (n : Node) (h next : Held) (entries : List Entry) (old new : List Change) → Steps n h next entries old new →
+    StepAlong (n ∷ []) (h ∷ []) (next ∷ []) entries old new
+unfolding given
+along-last n h next entries old new steps = λ earlier s.
+    let last = steps earlier (stands-held n h earlier s.0) in (
+      last.0 ∙ ap (λ (given : List Change). old ++ given) (sym (from_side-changes 0 (results (gives 1 n) earlier entries))),
+      (stands-committed n next (earlier ++ entries) last.1, tt),
+    )
+
 -- the first operator's steps and then the later ones'
 pub along-more : (n : Node) (ns : List Node) (h next : Held) (hs nexts : List Held) (entries later : List Entry) (changes old new : List Change) →
-    Steps n h next entries changes → later ≡ from_side 0 changes → StepAlong ns hs nexts later old new → StepAlong (n ∷ ns) (h ∷ hs) (next ∷ nexts) entries old new
+    Steps n h next entries [] changes → later ≡ from_side 0 changes → StepAlong ns hs nexts later old new → StepAlong (n ∷ ns) (h ∷ hs) (next ∷ nexts) entries old new
 unfolding given
 along-more n ns h next hs nexts entries later changes old new steps is rest = λ earlier s.
     let first = steps earlier (stands-held n h earlier s.0) in

@@ -19,10 +19,11 @@ CanStore node entries = All (λ e. IsStorable node e.side e.change) entries
 abbrev pub CanTake : List Node → List Held → List Entry → Type 0
 CanTake nodes held entries = (earlier : List Entry) × StandAlong nodes (map maps_of held) earlier × AreStorable nodes earlier entries
 
--- whatever an operator stood for, it gave what these entries give after it, and stands for the longer list
-abbrev pub Steps : Node → Held → Held → List Entry → List Change → Type 0
-Steps node held next entries changes =
-    (earlier : List Entry) → StandsFor node held earlier → (changes ≡ results (gives 1 node) earlier entries) × StandsFor node next (earlier ++ entries)
+-- whatever an operator stood for, it added to the old outputs what these entries give after it, and stands for the longer list
+abbrev pub Steps : Node → Held → Held → List Entry → List Change → List Change → Type 0
+Steps node held next entries old new =
+    (earlier : List Entry) → StandsFor node held earlier →
+    (new ≡ old ++ results (gives 1 node) earlier entries) × StandsFor node next (earlier ++ entries)
 
 -- the same of operators in a row, which added what they gave to the old outputs
 abbrev pub StepAlong : List Node → List Held → List Held → List Entry → List Change → List Change → Type 0

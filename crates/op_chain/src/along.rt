@@ -29,23 +29,31 @@ pub(crate) fn run_along(
     let Some((op, later)) = ops.split_first_mut() else {
         return give(entries, out);
     };
-    let given = stepped(op, alloc, entries.as_slice())?;
+    if later.is_empty() {
+        return step_each(op, alloc, entries, out);
+    }
+    let mut given = Vec::with_capacity(alloc, entries.len())?;
+    step_each(op, alloc, entries, &mut given)?;
     let entries = from_left(alloc, given)?;
     run_along(later, alloc, entries, out)
 }
 
-/// Takes entries through one operator.
-fn stepped(op: &mut Op, alloc: Global, entries: &[Entry]) -> Result<Vec<Change>, AllocError>
-    requires { CanStore (⟦<Op as Operator>⟧.node op.old) (entries_of entries.now) }
+/// Takes entries through one operator, and adds what it gives.
+fn step_each(
+    op: &mut Op,
+    alloc: Global,
+    entries: Vec<Entry>,
+    out: &mut Vec<Change>,
+) -> Result<(), AllocError>
+    requires { CanStore (⟦<Op as Operator>⟧.node op.old) (entries_of entries.items) }
     ensures node { ⟦<Op as Operator>⟧.node op.new ≡ ⟦<Op as Operator>⟧.node op.old }
-    ensures next { IfOk result (λ given. Steps (⟦<Op as Operator>⟧.node op.old) (⟦<Op as Operator>⟧.held op.old) (⟦<Op as Operator>⟧.held op.new) (entries_of entries.now) given.items) }
+    ensures next { OnOk result (Steps (⟦<Op as Operator>⟧.node op.old) (⟦<Op as Operator>⟧.held op.old) (⟦<Op as Operator>⟧.held op.new) (entries_of entries.items) out.old.items out.new.items) }
     ensures base { (base : Maps) → IsBaseOf base (⟦<Op as Operator>⟧.held op.old) → IsBaseOf base (⟦<Op as Operator>⟧.held op.new) }
 {
-    let mut given = Vec::with_capacity(alloc, entries.len())?;
     for entry in entries {
-        op.step(alloc, entry.side, &entry.change, &mut given)?;
+        op.step(alloc, entry.side, entry.change, out)?;
     }
-    Ok(given)
+    Ok(())
 }
 
 /// Changes as they come in at the next operator.

@@ -84,7 +84,7 @@ impl Operator for Op {
         &mut self,
         alloc: Global,
         side: u32,
-        change: &Change,
+        change: Change,
         out: &mut Vec<Change>,
     ) -> Result<(), AllocError> {
         match self {

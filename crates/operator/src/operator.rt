@@ -28,13 +28,13 @@ pub trait Operator {
         &mut self,
         alloc: Global,
         side: u32,
-        change: &Change,
+        change: Change,
         out: &mut Vec<Change>,
     ) -> Result<(), AllocError>
-        requires { IsStorable (node self.old) side change.now }
+        requires { IsStorable (node self.old) side change }
         ensures same_node { node self.new ≡ node self.old }
         ensures next { OnOk result ((es : List Entry) → StandsFor (node self.old) (held self.old) es →
-            let e : Entry = record { side = side; change = change.now } in
+            let e : Entry = record { side = side; change = change } in
             (out.new.items ≡ out.old.items ++ gives 1 (node self.old) es e) × StandsFor (node self.old) (held self.new) (es ++ e ∷ [])) }
         ensures base { (base : Maps) → IsBaseOf base (held self.old) → IsBaseOf base (held self.new) }
         ensures failing { failed self.old ≡ true → IsErr result }

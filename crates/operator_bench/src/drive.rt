@@ -121,7 +121,7 @@ fn driven<O: Operator>(
     for number in 0..entries {
         let (side, of_table) = sides.of_entry(number);
         let change = entry(alloc, number, of_table)?;
-        op.step(alloc, side, &change, &mut out)?;
+        op.step(alloc, side, change, &mut out)?;
         given = given.wrapping_add(out.len() as u64);
         out.clear();
     }

@@ -1,5 +1,7 @@
-ghost use Rattle.std.specs.Prelude.{◌≡◌, ◌<◌, ◌≤◌, ◌^◌, ◌++◌, length, OnOk, IfOk, IfSome};
+ghost use Rattle.std.specs.Prelude.{◌≡◌, ◌<◌, ◌≤◌, ◌^◌, ◌++◌, None, length, OnOk, IfOk, IfSome};
 ghost use Rattle.std.specs.List.{All, flat_map};
+ghost use Rattle.ksql_types.specs.Key.{IsKey};
+ghost use Rattle.ksql_place.specs.declared.change.Body.TheVariants.{Turned};
 ghost use Rattle.record_codec.specs.Spelling as spelled;
 ghost use Rattle.record_codec.specs.Spelling.{spelling, IsWithinLimits, IsSpellable, IsShort, IsShortRow, IsSpellableRow, IsTypedValue, AreSpellable};
 
@@ -146,6 +148,26 @@ fn put_head(out: &mut Vec<u8>, body: &Body) -> Result<(), AllocError>
     Ok(())
 }
 
+/// What stands between the head and the body of a change.
+fn put_before_body(out: &mut Vec<u8>, change: &Change) -> Result<(), AllocError>
+    requires path { length change.now.place.path < 2 ^ 32 }
+    requires key { All IsShort change.now.key }
+    ensures bytes { let c = change.now in OnOk result (out.new.items ≡ out.old.items ++ spelled.stamp c.place.stamp ++ spelled.path c.place.path
+        ++ spelled.eight c.time ++ spelled.optional spelled.span c.span ++ spelled.values c.key) }
+    ensures stamp { OnOk result (spelled.IsTypedStamp change.now.place.stamp) }
+    ensures path { OnOk result (All (λ n. n < 2 ^ 32) change.now.place.path) }
+    ensures window { OnOk result (IfSome change.now.span spelled.IsTypedSpan) }
+    ensures time { OnOk result (change.now.time < 2 ^ 64) }
+    ensures key { OnOk result (IsKey change.now.key) }
+    ensures values { OnOk result (All IsTypedValue change.now.key) }
+{
+    put_stamp(out, &change.place.stamp)?;
+    put_path(out, change.place.path.items())?;
+    put_eight(out, change.time)?;
+    put_window(out, change.span)?;
+    put_values(out, change.key.items())
+}
+
 /// The one spelling of a change.
 #[tactic(auto, unfolding(crate::specs::Spelling::spelling))]
 pub fn encode(alloc: Global, change: &Change) -> Result<Bytes, AllocError>
@@ -155,12 +177,23 @@ pub fn encode(alloc: Global, change: &Change) -> Result<Bytes, AllocError>
 {
     let mut out = Vec::with_capacity(alloc, 128)?;
     put_head(&mut out, &change.body)?;
-    put_stamp(&mut out, &change.place.stamp)?;
-    put_path(&mut out, change.place.path.items())?;
-    put_eight(&mut out, change.time)?;
-    put_window(&mut out, change.span)?;
-    put_values(&mut out, change.key.items())?;
+    put_before_body(&mut out, change)?;
     put_body(&mut out, &change.body)?;
+    Ok(Items::of(out))
+}
+
+/// The one spelling of a change of a table to a row, in the place of another change and with its time, key and window.
+#[tactic(auto, unfolding(crate::specs::Spelling::spelling))]
+pub fn encode_new(alloc: Global, change: &Change, row: &Row) -> Result<Bytes, AllocError>
+    requires { IsWithinLimits (record change.now { body = Turned None (Some row.now) }) }
+    ensures bytes { IfOk result (λ bytes. bytes ≡ spelling (record change.now { body = Turned None (Some row.now) })) }
+    ensures spellable { OnOk result (IsSpellable (record change.now { body = Turned None (Some row.now) })) }
+{
+    let mut out = Vec::with_capacity(alloc, 128)?;
+    out.extend_from_slice(&[1, 1])?;
+    put_before_body(&mut out, change)?;
+    out.extend_from_slice(&[0, 1])?;
+    put_values(&mut out, row.items())?;
     Ok(Items::of(out))
 }
 

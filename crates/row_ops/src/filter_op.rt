@@ -9,7 +9,7 @@ use ksql_expr::Typed;
 use ksql_nodes::Node;
 use ksql_place::Change;
 use ksql_types::CopyOf;
-use node_steps::filtered;
+use node_steps::{filtered, push_given};
 use operator::Operator;
 use std::alloc::{AllocError, Global};
 
@@ -48,7 +48,7 @@ impl Operator for FilterOp {
         &mut self,
         alloc: Global,
         _side: u32,
-        change: &Change,
+        change: Change,
         out: &mut Vec<Change>,
     ) -> Result<(), AllocError> {
         if self.failed {
@@ -72,11 +72,10 @@ fn filter(alloc: Global, on: &Typed, having: bool) -> Result<FilterOp, AllocErro
 }
 
 /// Adds what the node gives.
-fn give(alloc: Global, on: &Typed, change: &Change, out: &mut Vec<Change>) -> Result<(), AllocError>
-    ensures given { OnOk result (out.new.items ≡ out.old.items ++ filtered on.now change.now) }
+fn give(alloc: Global, on: &Typed, change: Change, out: &mut Vec<Change>) -> Result<(), AllocError>
+    ensures given { OnOk result (out.new.items ≡ out.old.items ++ filtered on.now change) }
     ensures unchanged { OnErr result (out.new.items ≡ out.old.items) }
 {
-    let mut given = filtered(alloc, on, change)?;
-    out.append(&mut given)?;
-    Ok(())
+    let given = filtered(alloc, on, change)?;
+    push_given(out, given)
 }

@@ -9,11 +9,11 @@ ghost use Rattle.operator.specs.Kept.{kept, kept_after};
 ghost use Rattle.operator.specs.Storable.{HasShortRow};
 ghost use Rattle.row_ops.specs.InputTable.{HoldsRows};
 
-use ksql_place::{Body, Change};
-use ksql_types::{CopyOf, Key};
+use ksql_place::Change;
+use ksql_types::Key;
 use node_steps::row_in;
 use operator::{is_short, spelled_key};
-use record_codec::{decode, encode};
+use record_codec::{decode, encode_new};
 use state_store::Store;
 use std::alloc::{AllocError, Global};
 
@@ -62,30 +62,11 @@ fn keep(store: &mut Store, alloc: Global, key: &[u8], change: &Change) -> Result
     ensures spellable { OnOk result (IfSome (kept change.now) IsSpellable) }
     ensures base { (base : Values) → IsBase base store.old → IsBase base store.new }
 {
-    match kept(alloc, change)? {
-        Some(kept) => {
-            let bytes = encode(alloc, &kept)?;
+    match row_in(&change.body) {
+        Some(row) => {
+            let bytes = encode_new(alloc, change, row)?;
             store.set(alloc, key, bytes.items())
         }
         None => store.delete(alloc, key),
     }
-}
-
-/// The change that sets the row, with the row before left out, where a change brings a row.
-fn kept(alloc: Global, change: &Change) -> Result<Option<Change>, AllocError>
-    ensures { IfOk result (λ made. made ≡ kept change.now) }
-{
-    let Some(row) = row_in(&change.body) else {
-        return Ok(None);
-    };
-    Ok(Some(Change {
-        place: change.place.copy(alloc)?,
-        time: change.time,
-        key: change.key.copy(alloc)?,
-        span: change.span,
-        body: Body::Turned {
-            old: None,
-            new: Some(row.copy(alloc)?),
-        },
-    }))
 }

@@ -8,7 +8,7 @@ use ksql_expr::{Exprs, Typed};
 use ksql_nodes::Node;
 use ksql_place::Change;
 use ksql_types::CopyOf;
-use node_steps::{grouped, rekeyed};
+use node_steps::{push_given, push_grouped, rekeyed};
 use operator::Operator;
 use std::alloc::{AllocError, Global};
 
@@ -52,7 +52,7 @@ impl Operator for RekeyOp {
         &mut self,
         alloc: Global,
         _side: u32,
-        change: &Change,
+        change: Change,
         out: &mut Vec<Change>,
     ) -> Result<(), AllocError> {
         if self.failed {
@@ -76,27 +76,21 @@ fn keying_of(alloc: Global, node: &Node) -> Result<Keying, AllocError>
     }
 }
 
-/// Adds what the node gives.
+/// Adds a change under its key, or under its keys.
 fn give(
     alloc: Global,
     keying: &Keying,
-    change: &Change,
+    change: Change,
     out: &mut Vec<Change>,
 ) -> Result<(), AllocError>
-    ensures given { OnOk result (out.new.items ≡ out.old.items ++ given_by keying.now change.now) }
+    ensures given { OnOk result (out.new.items ≡ out.old.items ++ given_by keying.now change) }
     ensures unchanged { OnErr result (out.new.items ≡ out.old.items) }
 {
-    let mut given = keyed(alloc, keying, change)?;
-    out.append(&mut given)?;
-    Ok(())
-}
-
-/// A change under its key, or under its keys.
-fn keyed(alloc: Global, keying: &Keying, change: &Change) -> Result<Vec<Change>, AllocError>
-    ensures { IfOk result (λ given. given.items ≡ given_by keying.now change.now) }
-{
     match keying {
-        Keying::Join(key) => rekeyed(alloc, key, change),
-        Keying::Group(keys) => grouped(alloc, keys.items(), change),
+        Keying::Join(key) => {
+            let given = rekeyed(alloc, key, change)?;
+            push_given(out, given)
+        }
+        Keying::Group(keys) => push_grouped(alloc, keys.items(), change, out),
     }
 }

@@ -9,7 +9,7 @@ use ksql_expr::{Exprs, Typed};
 use ksql_nodes::Node;
 use ksql_place::Change;
 use ksql_types::CopyOf;
-use node_steps::selected;
+use node_steps::{push_given, selected};
 use operator::Operator;
 use std::alloc::{AllocError, Global};
 
@@ -51,7 +51,7 @@ impl Operator for SelectOp {
         &mut self,
         alloc: Global,
         _side: u32,
-        change: &Change,
+        change: Change,
         out: &mut Vec<Change>,
     ) -> Result<(), AllocError> {
         if self.failed {
@@ -68,13 +68,12 @@ fn give(
     alloc: Global,
     keys: &[Typed],
     items: &[Typed],
-    change: &Change,
+    change: Change,
     out: &mut Vec<Change>,
 ) -> Result<(), AllocError>
-    ensures given { OnOk result (out.new.items ≡ out.old.items ++ selected keys.now items.now change.now) }
+    ensures given { OnOk result (out.new.items ≡ out.old.items ++ selected keys.now items.now change) }
     ensures unchanged { OnErr result (out.new.items ≡ out.old.items) }
 {
-    let mut given = selected(alloc, keys, items, change)?;
-    out.append(&mut given)?;
-    Ok(())
+    let given = selected(alloc, keys, items, change)?;
+    push_given(out, given)
 }

@@ -1,4 +1,5 @@
 ghost use Rattle.std.specs.Prelude.{◌≡◌, ℕ, false, List, [], ◌∷◌, ◌++◌, All, IfOk, OnOk, OnErr, IsTrue, option_and_then};
+ghost use Rattle.std.specs.Option.{option_to_list};
 ghost use Rattle.ksql_place.specs.Said.{row_in};
 ghost use Rattle.ksql_nodes.specs.declared.node.Node.TheVariants as nodes;
 ghost use Rattle.ksql_nodes.specs.Entries.{Entry, of_key, row_after};
@@ -14,8 +15,8 @@ ghost use Rattle.row_ops.specs.Kinds.{is_table};
 use crate::input_table::turn;
 use ksql_nodes::Node;
 use ksql_place::{Body, Change};
-use ksql_types::{Changelog, CopyOf, Row, StoreEntry};
-use node_steps::{copied, row_in, turned, with_body};
+use ksql_types::{Changelog, Row, StoreEntry};
+use node_steps::{push_given, turned};
 use operator::{Operator, StoredOperator};
 use state_store::Store;
 use std::alloc::{AllocError, Global};
@@ -58,7 +59,7 @@ impl Operator for TableOp {
         &mut self,
         alloc: Global,
         _side: u32,
-        change: &Change,
+        change: Change,
         out: &mut Vec<Change>,
     ) -> Result<(), AllocError> {
         if self.failed {
@@ -84,34 +85,40 @@ impl StoredOperator for TableOp {
 fn give(
     rows: &mut Store,
     alloc: Global,
-    change: &Change,
+    change: Change,
     out: &mut Vec<Change>,
 ) -> Result<(), AllocError>
-    requires key { All IsShort change.now.key }
-    requires row { HasShortRow change.now }
+    requires key { All IsShort change.key }
+    requires row { HasShortRow change }
     ensures next { OnOk result ((side : ℕ) (es : List Entry) → HoldsRows rows.old.map es →
-        (out.new.items ≡ out.old.items ++ with_body change.now (turned (row_after (of_key change.now.key es)) (row_in change.now.body)))
-        × HoldsRows rows.new.map (es ++ record { side = side; change = change.now } ∷ [])) }
+        (out.new.items ≡ out.old.items ++ with_body change (turned (row_after (of_key change.key es)) (row_in change.body)))
+        × HoldsRows rows.new.map (es ++ record { side = side; change = change } ∷ [])) }
     ensures base { (base : Values) → IsBase base rows.old → IsBase base rows.new }
     ensures out { OnErr result (out.new.items ≡ out.old.items) }
 {
-    let before = turn(rows, alloc, change)?;
-    let mut given = changed(alloc, change, before)?;
-    out.append(&mut given)?;
-    Ok(())
+    let before = turn(rows, alloc, &change)?;
+    push_given(out, changed(change, before))
 }
 
 /// The change from the row that another change brought, where that isn't from absent to absent.
-fn changed(
-    alloc: Global,
-    change: &Change,
-    before: Option<Change>,
-) -> Result<Vec<Change>, AllocError>
-    ensures { IfOk result (λ made. made.items ≡ with_body change.now (turned (option_and_then (λ c. row_in c.body) before) (row_in change.now.body))) }
+fn changed(change: Change, before: Option<Change>) -> Option<Change>
+    ensures { option_to_list result ≡ with_body change (turned (option_and_then (λ c. row_in c.body) before) (row_in change.body)) }
 {
-    let old = row_of(before);
-    let new = copied(alloc, row_in(&change.body))?;
-    with_body(alloc, change, change.key.copy(alloc)?, turned(old, new))
+    let Change {
+        place,
+        time,
+        key,
+        span,
+        body,
+    } = change;
+    let body = turned(row_of(before), brought(body))?;
+    Some(Change {
+        place,
+        time,
+        key,
+        span,
+        body,
+    })
 }
 
 /// The row that a change brings, where there is a change.
@@ -119,16 +126,15 @@ fn row_of(change: Option<Change>) -> Option<Row>
     ensures { result ≡ option_and_then (λ c. row_in c.body) change }
 {
     match change {
-        Some(change) => into_row(change),
+        Some(change) => brought(change.body),
         None => None,
     }
 }
 
 /// The row that a change brings.
-fn into_row(change: Change) -> Option<Row>
-    ensures { result ≡ row_in change.body }
+fn brought(body: Body) -> Option<Row>
+    ensures { result ≡ row_in body }
 {
-    let Change { body, .. } = change;
     match body {
         Body::Said(row) => Some(row),
         Body::Turned { new, .. } => new,

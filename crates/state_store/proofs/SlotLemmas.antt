@@ -1,5 +1,5 @@
 -- The map and the keys of a table of slots.
-use Rattle.std.proofs.Common.{◌≡◌, ℕ, ◌<◌, Bool, true, false, cond, if◌then◌else◌, ◌||◌, List, [], ◌∷◌, ◌++◌, map, length, get_or, slice_get, position, Option, None, Some, is_some, refl, sym, ap, ap₂, ◌∙◌, inl, inr, nat_eq, eq-eqb, arith}
+use Rattle.std.proofs.Common.{◌≡◌, ℕ, zero, suc, ◌<◌, Bool, true, false, cond, if◌then◌else◌, ◌||◌, List, [], ◌∷◌, ◌++◌, map, length, get_or, slice_get, position, Option, None, Some, is_some, refl, sym, ap, ap₂, ◌∙◌, inl, inr, nat_eq, eq-eqb, arith}
 use Rattle.std.specs.Cmp.{IsEquivalence}
 use Rattle.std.specs.Cmp.Lexicographic.{nat_list_eq_equiv, on_texts_equal, bytes_decides}
 use Rattle.std.specs.FinMap.{get, get-empty}
@@ -10,13 +10,14 @@ use Rattle.std.specs.Option.{option_map}
 use Rattle.std.specs.Map.{keys_of, lookup, KeepsOthers}
 use Rattle.std.proofs.lemmas.List.{length-map, get_or-map, map-append, get_or_append_left}
 use Rattle.std.proofs.lemmas.List.Elements.{All-head, All-tail}
+use Rattle.std.proofs.lemmas.List.Folds.{list_any_at}
 use Rattle.std.proofs.lemmas.List.Quantifiers.{position-Some}
 use Rattle.std.proofs.lemmas.Map.Entries.{lookup_from_place}
 use Rattle.std.proofs.lemmas.Map.Keys.{IsDistinct-head, IsDistinct-tail, IsDistinct-cons, IsDistinct-from_apart, apart_from_distinct}
 use Rattle.std.proofs.lemmas.Bool.{cases_lt}
 use borrow.Author.Tests.{ne_eqb}
 use mathlib.Core.List.{map-map}
-use Rattle.std.proofs.lemmas.Option.{none-some, slice_get-get_or, slice_get-map, get_or_from_slice_get}
+use Rattle.std.proofs.lemmas.Option.{none-some, slice_get-get_or, slice_get-map, slice_get_within, get_or_from_slice_get}
 use Rattle.indexmap.proofs.CallerLemmas.{keys-with_value_at, insert_entry-new}
 use Rattle.indexmap.proofs.MapLemmas.{absent_from_lookup, or_len-absent}
 use Rattle.indexmap.specs.IndexMap.{insert_entry, set_value_at}
@@ -122,6 +123,19 @@ HasKey-position (slot ∷ slots) index key p =
       here = slice_get-get_or (slot ∷ slots) index slot within;
       same = sym ((bytes_decides key found.0.items).0 (ap (is_key key) (sym (get_or-map (λ s. s.0) (slot ∷ slots) index slot slot.0 within)) ∙ at.1));
     }
+
+-- so it has where the keys have the key at the index
+pub HasKey-keys_in : (slots : List Slot) (index : ℕ) (key : List ℕ) → slice_get (keys_in slots) index ≡ Some key → HasKey slots index key
+HasKey-keys_in [] index key here = absurd (none-some key here)
+HasKey-keys_in (slot ∷ slots) zero key here = record { slot = slot; here = refl; same = cc }
+HasKey-keys_in (slot ∷ slots) (suc index) key here =
+    let at = HasKey-keys_in slots index key here in
+    record { slot = at.slot; here = at.here; same = at.same }
+
+-- a key at an index is among the keys
+pub list_any-at : (keys : List (List ℕ)) (index : ℕ) (key : List ℕ) → slice_get keys index ≡ Some key → list_any (bytes_eq key) keys ≡ true
+list_any-at keys index key here =
+    list_any_at (bytes_eq key) keys index [] (slice_get_within keys index key here) (ap (bytes_eq key) (get_or_from_slice_get keys index key [] here) ∙ nat_list_eq_equiv.refl key)
 
 -- a write to a slot leaves the keys
 pub keys_in-set_value_at : {S : Type 0} (slots : HashMap (Vec ℕ) (Option (List ℕ)) S) (index : ℕ) (value : Option (List ℕ)) → keys_in (set_value_at slots.entries index value) ≡ keys_in slots.entries

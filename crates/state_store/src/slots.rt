@@ -1,6 +1,8 @@
 //! The table of a store: a slot for each key that has a value, and for each that was deleted since the last commit.
-ghost use Rattle.std.specs.Prelude.{◌≡◌, ◌<◌, ℕ, None, Some, nat_eq, All, IfOk, OnOk, OnErr, length, slice_get};
+ghost use Rattle.std.specs.Prelude.{◌≡◌, ◌<◌, ℕ, None, Some, nat_eq, All, IfOk, IfSome, OnOk, OnErr, is_some, length, slice_get};
 ghost use Rattle.std.specs.FinMap as finite;
+ghost use Rattle.std.specs.List.{list_any, IsDistinct};
+ghost use Rattle.std.specs.Map.{keys_of};
 ghost use Rattle.std.specs.Str.{bytes_eq};
 ghost use Rattle.indexmap.specs.IndexSet.{insert_key};
 ghost use Rattle.state_store.specs.Store.{with_value, replay, numbered, last_of_each, changes_of};
@@ -13,10 +15,11 @@ use std::alloc::{AllocError, Global};
 /// The value of each key, None where it was deleted. A key keeps its index until a slot is removed.
 pub(crate) type Slots = IndexMap<Vec<u8>, Option<Bytes>>;
 
-/// Gives a key a value, or None to delete it, and answers the index of its slot.
+/// Gives a key a value, or None to delete it, and answers the index of its slot. `place` is where its slot may be.
 pub(crate) fn put(
     slots: &mut Slots,
     alloc: Global,
+    place: Option<usize>,
     key: &[u8],
     value: Option<Bytes>,
 ) -> Result<usize, AllocError>
@@ -25,7 +28,7 @@ pub(crate) fn put(
     ensures index { IfOk result (λ index. slice_get (keys_in slots.new.entries) index ≡ Some key.now) }
     ensures kept { OnErr result (slots.new.entries ≡ slots.old.entries) }
 {
-    match slots.get_index_of(key) {
+    match index_of(slots, place, key) {
         Some(index) => {
             slots[index] = value;
             Ok(index)
@@ -35,6 +38,22 @@ pub(crate) fn put(
             Ok(index)
         }
     }
+}
+
+/// The index of a key's slot. A place that is the slot's saves the look-up.
+fn index_of(slots: &Slots, place: Option<usize>, key: &[u8]) -> Option<usize>
+    ensures key { IfSome result (λ index. slice_get (keys_in slots.now.entries) index ≡ Some key.now) }
+    ensures found { is_some result ≡ list_any (bytes_eq key.now) (keys_in slots.now.entries) }
+    ensures unique { IsDistinct (λ x y. bytes_eq x.items y.items) (keys_of slots.now.entries) }
+{
+    let entries = slots.as_slice();
+    if let Some(index) = place
+        && let Some((there, _)) = entries.get_index(index)
+        && there.as_slice() == key
+    {
+        return place;
+    }
+    slots.get_index_of(key)
 }
 
 /// Deletes a key with its slot.
@@ -51,7 +70,13 @@ fn apply(slots: &mut Slots, alloc: Global, entry: &StoreEntry) -> Result<(), All
     match &entry.value {
         Some(value) => {
             let value = copied(alloc, value.items())?;
-            put(slots, alloc, entry.key.items(), Some(Bytes::of(value)))?;
+            put(
+                slots,
+                alloc,
+                None,
+                entry.key.items(),
+                Some(Bytes::of(value)),
+            )?;
         }
         None => remove(slots, entry.key.items()),
     }

@@ -1,5 +1,5 @@
 //! The store and its calls.
-ghost use Rattle.std.specs.Prelude.{◌≡◌, ◌≢◌, ◌++◌, ◌∷◌, [], None, Some, AllPairs, IfOk, OnOk, OnErr, length, option_copied, option_map};
+ghost use Rattle.std.specs.Prelude.{◌≡◌, ◌≢◌, ◌++◌, ◌∷◌, [], None, Some, AllPairs, IfOk, IfSome, IsSome, OnOk, OnErr, length, option_copied, option_map};
 ghost use Rattle.std.specs.FinMap as finite;
 ghost use Rattle.state_store.specs.Store.{Values, with_value, replay, numbered, changes_of, IsBase};
 
@@ -7,6 +7,13 @@ use crate::slots::{Slots, changes_at, copied, put, remove_deleted, replayed};
 use ksql_types::{Bytes, Changelog, StoreEntry};
 use std::alloc::{AllocError, Global};
 use std::marker::Model;
+
+/// What is found under a key: its value, where it has one, and then a place, by which `write_at` finds the key again.
+#[derive(Clone, Copy)]
+pub struct Found<'a> {
+    pub place: Option<usize>,
+    pub value: Option<&'a [u8]>,
+}
 
 /// A finite map from bytes to bytes, and the keys that were set or deleted since the last commit.
 #[derive(Drop)]
@@ -51,8 +58,33 @@ impl Store {
     pub fn get(&self, key: &[u8]) -> Option<&[u8]>
         ensures { option_copied result ≡ finite.get self.now.map key.now }
     {
-        let value = self.slots.get(key)?.as_ref()?;
-        Some(value.items())
+        self.find(key).value
+    }
+
+    /// The value of a key, as `get` answers it, and where it stands.
+    pub fn find(&self, key: &[u8]) -> Found<'_>
+        ensures value { option_copied result.value ≡ finite.get self.now.map key.now }
+        ensures held { IfSome result.place (λ _. IsSome (finite.get self.now.map key.now)) }
+    {
+        match self.held(key) {
+            Some((place, value)) => Found {
+                place: Some(place),
+                value: Some(value),
+            },
+            None => Found {
+                place: None,
+                value: None,
+            },
+        }
+    }
+
+    /// The index of a key's slot and the value there, or None where the key has no value.
+    fn held(&self, key: &[u8]) -> Option<(usize, &[u8])>
+        ensures { option_map (λ held. held.1.now) result ≡ finite.get self.now.map key.now }
+    {
+        let slot = self.slots.get_full(key)?;
+        let value = slot.2.as_ref()?;
+        Some((slot.0, value.items()))
     }
 
     /// Gives a key a value, in place of one that it has. After an error the store is as before.
@@ -63,7 +95,7 @@ impl Store {
         ensures kept { OnErr result (self.new ≡ self.old) }
     {
         let value = copied(alloc, value)?;
-        self.write(alloc, key, Some(Bytes::of(value)))
+        self.write_at(alloc, None, key, Some(Bytes::of(value)))
     }
 
     /// Takes a key out. It counts as changed where it wasn't there, too. After an error the store is as before.
@@ -73,7 +105,7 @@ impl Store {
         ensures base { (base : Values) → IsBase base self.old → IsBase base self.new }
         ensures kept { OnErr result (self.new ≡ self.old) }
     {
-        self.write(alloc, key, None)
+        self.write_at(alloc, None, key, None)
     }
 
     /// Commits, and answers the changes since the last commit: one of each key that was set or deleted, in the order of
@@ -123,15 +155,22 @@ impl Store {
         Ok(())
     }
 
-    /// Gives a key a value, or takes it out where that is None.
-    fn write(&mut self, alloc: Global, key: &[u8], value: Option<Bytes>) -> Result<(), AllocError>
+    /// Gives a key a value, or takes it out where that is None. A place at which `find` found the key saves the look-up; any
+    /// other is as good as None. After an error the store is as before.
+    pub fn write_at(
+        &mut self,
+        alloc: Global,
+        place: Option<usize>,
+        key: &[u8],
+        value: Option<Bytes>,
+    ) -> Result<(), AllocError>
         ensures map { OnOk result (self.new.map ≡ with_value self.old.map key.now value) }
         ensures written { OnOk result (self.new.written ≡ self.old.written ++ key.now ∷ []) }
         ensures base { (base : Values) → IsBase base self.old → IsBase base self.new }
         ensures kept { OnErr result (self.new ≡ self.old) }
     {
         self.writes.reserve(1)?;
-        let index = put(&mut self.slots, alloc, key, value)?;
+        let index = put(&mut self.slots, alloc, place, key, value)?;
         self.writes.push(index)?;
         Ok(())
     }

@@ -12,8 +12,8 @@ use ksql_place::{Body, Change};
 use ksql_program::Agg;
 use ksql_types::{CopyOf, Items, Key, Row, Value};
 use node_steps::{
-    EntryRef, aggregate, argument, grouped, is_same_key, latest_time, push_copies, row_in, row_out,
-    type_of_agg, values_of,
+    EntryRef, aggregate, argument, is_same_key, latest_time, push_copies, push_grouped, row_in,
+    row_out, type_of_agg, values_of,
 };
 use std::alloc::{AllocError, Global};
 
@@ -93,7 +93,8 @@ fn group_changes(
 ) -> Result<Vec<Change>, AllocError>
     ensures { IfOk result (λ made. made.items ≡ map (view_change aggs.now (lent_view before.now) (lent_view after.now)) (grouped keys.now change.now)) }
 {
-    let grouped = grouped(alloc, keys, change)?;
+    let mut grouped = Vec::new(alloc);
+    push_grouped(alloc, keys, change.copy(alloc)?, &mut grouped)?;
     let mut changes = Vec::new(alloc);
     for change in &grouped {
         changes.push(group_change(alloc, aggs, change, before, after)?)?;

@@ -1,5 +1,6 @@
 //! The joined changes, from the rows that stand on the sides of a join.
 ghost use Rattle.std.specs.Prelude.{◌≡◌, ◌∷◌, ◌++◌, max, IfOk, OnOk, option_map};
+ghost use Rattle.std.specs.Option.{option_to_list};
 ghost use Rattle.ksql_nodes.specs.Joins.{joined, joined_from, or_nulls, other_side, side_step};
 ghost use Rattle.ksql_nodes.specs.Rows.{at_path};
 ghost use Rattle.table_steps.specs.Joining.{beside, standing_of, turned_beside};
@@ -7,7 +8,7 @@ ghost use Rattle.table_steps.specs.Joining.{beside, standing_of, turned_beside};
 use ksql_nodes::Side;
 use ksql_place::{Body, Change, Place};
 use ksql_program::JoinKind;
-use ksql_types::{CopyOf, Items, Row, Value};
+use ksql_types::{Items, Row, Value};
 use node_steps::{push_copies, push_nulls, row_in, turned, with_body};
 use std::alloc::{AllocError, Global};
 
@@ -32,16 +33,13 @@ pub struct Standing<'a> {
 pub fn stream_joined(
     alloc: Global,
     join: &Join,
-    change: &Change,
+    change: Change,
     row: Option<&Row>,
-) -> Result<Vec<Change>, AllocError>
-    ensures { IfOk result (λ made. made.items ≡ beside join.now change.now (option_map (λ r. r.now) row.entry)) }
+) -> Result<Option<Change>, AllocError>
+    ensures { IfOk result (λ made. option_to_list made ≡ beside join.now change (option_map (λ r. r.now) row.entry)) }
 {
-    let Some(row) = joined(alloc, join, &[], row_in(&change.body), row)? else {
-        return Ok(Vec::new(alloc));
-    };
-    let key = change.key.copy(alloc)?;
-    with_body(alloc, change, key, Some(Body::Said(row)))
+    let row = joined(alloc, join, &[], row_in(&change.body), row)?;
+    Ok(with_body(change, row.map(Body::Said)))
 }
 
 /// The joined change of a change of one of two tables: from the joined row before it to that after it.
@@ -49,23 +47,25 @@ pub fn tables_joined(
     alloc: Global,
     join: &Join,
     side: u32,
-    change: &Change,
+    change: Change,
     standing: &Standing,
-) -> Result<Vec<Change>, AllocError>
-    ensures { IfOk result (λ made. made.items ≡ turned_beside join.now side change.now (standing_of standing.now)) }
+) -> Result<Option<Change>, AllocError>
+    ensures { IfOk result (λ made. option_to_list made ≡ turned_beside join.now side change (standing_of standing.now)) }
 {
     let new = row_in(&change.body);
     if standing.own.is_none() && new.is_none() {
-        return Ok(Vec::new(alloc));
+        return Ok(None);
     }
     let key = change.key.items();
     let old = joined_from(alloc, join, side, key, standing.own, standing.other)?;
     let new = joined_from(alloc, join, side, key, new, standing.other)?;
-    let Some(body) = turned(old, new) else {
-        return Ok(Vec::new(alloc));
-    };
-    let given = join_change(alloc, side_step(join, side), change, standing.time, body)?;
-    Ok(vec![in alloc; given]?)
+    match turned(old, new) {
+        Some(body) => {
+            let step = side_step(join, side);
+            Ok(Some(join_change(alloc, step, change, standing.time, body)?))
+        }
+        None => Ok(None),
+    }
 }
 
 /// The other one of two sides.
@@ -90,21 +90,21 @@ fn side_step(join: &Join, side: u32) -> u32
 fn join_change(
     alloc: Global,
     step: u32,
-    change: &Change,
+    change: Change,
     time: u64,
     body: Body,
 ) -> Result<Change, AllocError>
-    ensures { IfOk result (λ made. made ≡ record (at_path (step ∷ change.now.place.path) change.now) { time = max change.now.time time; body = body }) }
+    ensures { IfOk result (λ made. made ≡ record (at_path (step ∷ change.place.path) change) { time = max change.time time; body = body }) }
 {
+    let place = Place {
+        stamp: change.place.stamp,
+        path: change.place.path.with_first(alloc, step)?,
+    };
     Ok(Change {
-        place: Place {
-            stamp: change.place.stamp,
-            path: change.place.path.with_first(alloc, step)?,
-        },
+        place,
         time: change.time.max(time),
-        key: change.key.copy(alloc)?,
-        span: change.span,
         body,
+        ..change
     })
 }
 

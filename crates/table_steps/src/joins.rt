@@ -1,9 +1,10 @@
 //! What joins give for their entries.
 ghost use Rattle.std.specs.Prelude.{◌≡◌, ℕ, [], IfOk, IsTrue, map, option_and_then, option_map, unwrap_or};
 ghost use Rattle.std.specs.List.{last_or};
+ghost use Rattle.std.specs.Option.{option_to_list};
 ghost use Rattle.ksql_place.specs.Said.{row_in};
 ghost use Rattle.ksql_nodes.specs.Entries.{of_key, of_side, results};
-ghost use Rattle.ksql_nodes.specs.Joins.{join_stream, join_tables};
+ghost use Rattle.ksql_nodes.specs.Joins.{join_row, join_stream, join_tables};
 ghost use Rattle.ksql_nodes.specs.Nodes.{gives};
 ghost use Rattle.node_steps.specs.Steps.{entry_of};
 ghost use Rattle.table_steps.specs.Joining.{is_join, standing_before, standing_of};
@@ -12,8 +13,8 @@ use crate::join::{Join, Standing, other_side, stream_joined, tables_joined};
 use ksql_expr::Typed;
 use ksql_nodes::Node;
 use ksql_place::Change;
-use ksql_types::{Key, Row};
-use node_steps::{EntryRef, is_same_key, rekeyed, row_in};
+use ksql_types::{CopyOf, Key, Row};
+use node_steps::{EntryRef, is_same_key, one_or_none, rekeyed, row_in};
 use std::alloc::{AllocError, Global};
 
 /// What a join gives for the entries of its sides, each with all those before it. Takes of the order of n² steps for n
@@ -72,6 +73,7 @@ fn gives(
 }
 
 /// A stream's change beside the row that the table has for its join key; a table's change triggers nothing.
+#[tactic(auto, using(crate::proofs::Keyed::keyed_some, crate::proofs::Keyed::keyed_none))]
 fn stream_changes(
     alloc: Global,
     join: &Join,
@@ -84,10 +86,21 @@ fn stream_changes(
     if entry.side != 0 {
         return Ok(Vec::new(alloc));
     }
-    let keyed = rekeyed(alloc, on, entry.change)?;
-    let Some(change) = keyed.first() else {
-        return Ok(Vec::new(alloc));
-    };
+    match rekeyed(alloc, on, entry.change.copy(alloc)?)? {
+        Some(change) => one_or_none(alloc, beside_row(alloc, join, before, change)?),
+        None => Ok(Vec::new(alloc)),
+    }
+}
+
+/// A stream's change, which has its join key, beside the row that the table has for that key.
+fn beside_row(
+    alloc: Global,
+    join: &Join,
+    before: &[EntryRef],
+    change: Change,
+) -> Result<Option<Change>, AllocError>
+    ensures { IfOk result (λ made. option_to_list made ≡ join_row join.now.kind join.now.left join.now.right (map entry_of before.now) change) }
+{
     let row = row_of(latest_on(1, &change.key, before));
     stream_joined(alloc, join, change, row)
 }
@@ -102,7 +115,11 @@ fn table_changes(
     ensures { IfOk result (λ changes. changes.items ≡ join_tables join.now.kind join.now.left join.now.right (map entry_of before.now) (entry_of entry.now)) }
 {
     let standing = standing(entry.side, &entry.change.key, before);
-    tables_joined(alloc, join, entry.side, entry.change, &standing)
+    let change = entry.change.copy(alloc)?;
+    one_or_none(
+        alloc,
+        tables_joined(alloc, join, entry.side, change, &standing)?,
+    )
 }
 
 /// The rows that stand for a key before a change of one of two tables.

@@ -1,5 +1,5 @@
 //! The bytes under which a window stands: those of its key, and its start in eight bytes.
-ghost use Rattle.std.specs.Prelude.{◌≡◌, ◌≤◌, IfOk, length};
+ghost use Rattle.std.specs.Prelude.{◌≡◌, ◌≤◌, IfOk, OnOk, length};
 ghost use Rattle.std.specs.Int.{w64, from_be_bytes};
 ghost use Rattle.window_store.specs.Windows.{under, start_of};
 
@@ -7,14 +7,22 @@ use ksql_types::Bytes;
 use std::alloc::{AllocError, Global};
 
 /// The bytes under which the window of a key with a start stands.
-#[tactic(auto, unfolding(record_codec::specs::Spelling::eight))]
 pub fn window_key(alloc: Global, key: &[u8], start: u64) -> Result<Bytes, AllocError>
     ensures { IfOk result (λ bytes. bytes ≡ under key.now start) }
 {
     let mut bytes = Vec::with_capacity(alloc, key.len() + 8)?;
-    bytes.extend_from_slice(key)?;
-    bytes.extend_from_slice(&start.to_be_bytes())?;
+    put_window_key(&mut bytes, key, start)?;
     Ok(Bytes::of(bytes))
+}
+
+/// Puts those bytes in place of what a buffer has. Takes no memory where the buffer has room for them.
+#[tactic(auto, unfolding(record_codec::specs::Spelling::eight))]
+pub fn put_window_key(buffer: &mut Vec<u8>, key: &[u8], start: u64) -> Result<(), AllocError>
+    ensures { OnOk result (buffer.new.items ≡ under key.now start) }
+{
+    buffer.clear();
+    buffer.extend_from_slice(key)?;
+    buffer.extend_from_slice(&start.to_be_bytes())
 }
 
 /// The start that such bytes say.

@@ -10,5 +10,5 @@ mod store;
 #[cfg(test)]
 mod tests;
 
-pub use keys::window_key;
+pub use keys::{put_window_key, window_key};
 pub use store::WStore;

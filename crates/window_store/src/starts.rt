@@ -1,5 +1,5 @@
 //! The index of a store of windows: for each start the bytes of the windows that may be held.
-ghost use Rattle.std.specs.Prelude.{◌≡◌, ◌==◌, ◌≤◌, ◌++◌, ◌∷◌, [], ℕ, List, if◌then◌else◌, All, Contains, IsSome, IfOk, OnOk, OnErr, length};
+ghost use Rattle.std.specs.Prelude.{◌≡◌, ◌==◌, ◌≤◌, ◌++◌, ◌∷◌, [], ℕ, List, if◌then◌else◌, All, Contains, IsSome, IfOk, IfSome, OnOk, OnErr, length};
 ghost use Rattle.std.specs.FinMap as finite;
 ghost use Rattle.state_store.specs.Store.{replay};
 ghost use Rattle.window_store.specs.Windows.{IsWindowKey, start_of};
@@ -14,19 +14,21 @@ use std::collections::BTreeMap;
 /// The bytes of each window that is held, and maybe of some that are no more, by their start.
 pub(crate) type Starts = BTreeMap<u64, Vec<Bytes>>;
 
-/// Notes the bytes of a window, unless it is held.
+/// Notes the bytes of a window, unless it is held. One that was found at a place is.
 pub(crate) fn note_new(
     starts: &mut Starts,
     kept: &Store,
     alloc: Global,
+    place: Option<usize>,
     at: &[u8],
 ) -> Result<(), AllocError>
     requires window { IsWindowKey at.now }
+    requires held { IfSome place (λ _. IsSome (finite.get kept.now.map at.now)) }
     requires index { IsIndex starts.old kept.now }
     ensures index { IsIndex starts.new kept.now }
     ensures noted { OnOk result (Contains (noted starts.new (start_of at.now)) at.now) }
 {
-    if kept.get(at).is_some() {
+    if place.is_some() || kept.get(at).is_some() {
         return Ok(());
     }
     note(starts, alloc, at)

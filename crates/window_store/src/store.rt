@@ -1,5 +1,5 @@
 //! The store of windows and its calls.
-ghost use Rattle.std.specs.Prelude.{◌≡◌, ◌≤◌, ◌<◌, ◌^◌, ◌↔◌, ℕ, List, [], max, None, if◌then◌else◌, All, AllPairs, Contains, IsTrue, IfOk, OnOk, OnErr, is_some, option_copied};
+ghost use Rattle.std.specs.Prelude.{◌≡◌, ◌≤◌, ◌<◌, ◌^◌, ◌↔◌, ℕ, List, [], max, None, if◌then◌else◌, All, AllPairs, Contains, IsTrue, IfOk, IfSome, IsSome, OnOk, OnErr, is_some, option_copied};
 ghost use Rattle.std.specs.FinMap as finite;
 ghost use Rattle.state_store.specs.Store.{Values, replay, numbered, IsBase};
 ghost use Rattle.operator.specs.Holding.{time_after, IsWindowEntry};
@@ -9,8 +9,8 @@ use crate::ending::end_until;
 use crate::keys::window_key;
 use crate::loading::{loaded_time, loaded_windows, time_entry};
 use crate::starts::{Starts, index_of, note_new};
-use ksql_types::{Changelog, StoreEntry};
-use state_store::Store;
+use ksql_types::{Bytes, Changelog, StoreEntry};
+use state_store::{Found, Store};
 use std::alloc::{AllocError, Global};
 use std::marker::Model;
 
@@ -64,6 +64,14 @@ impl WStore {
         self.kept.get(at)
     }
 
+    /// The value under the bytes of a key and a start, as `get` answers it, and where it stands.
+    pub fn find(&self, at: &[u8]) -> Found<'_>
+        ensures value { option_copied result.value ≡ finite.get self.now.content.map at.now }
+        ensures held { IfSome result.place (λ _. IsSome (finite.get self.now.content.map at.now)) }
+    {
+        self.kept.find(at)
+    }
+
     /// The starts of the windows that are held for a key, ascending. A start is at most 2^56.
     pub fn starts(&self, alloc: Global, key: &[u8]) -> Result<Vec<u64>, AllocError>
         ensures ascending { IfOk result (λ starts. AllPairs (λ start later. start < later) starts.items) }
@@ -91,8 +99,28 @@ impl WStore {
         ensures base { (base : Values) → IsBase base self.old.content → IsBase base self.new.content }
         ensures kept { OnErr result (self.new ≡ self.old) }
     {
-        note_new(&mut self.starts, &self.kept, alloc, at)?;
+        note_new(&mut self.starts, &self.kept, alloc, None, at)?;
         self.kept.set(alloc, at, value)
+    }
+
+    /// Gives the window under these bytes a value, as `set` does. A place at which `find` found the window saves the look-up.
+    pub fn set_at(
+        &mut self,
+        alloc: Global,
+        place: Option<usize>,
+        at: &[u8],
+        value: Bytes,
+    ) -> Result<(), AllocError>
+        requires window { IsWindowKey at.now }
+        requires held { IfSome place (λ _. IsSome (finite.get self.old.content.map at.now)) }
+        ensures map { OnOk result (self.new.content.map ≡ finite.insert self.old.content.map at.now value) }
+        ensures same_size { self.new.size ≡ self.old.size }
+        ensures same_time { self.new.time ≡ self.old.time }
+        ensures base { (base : Values) → IsBase base self.old.content → IsBase base self.new.content }
+        ensures kept { OnErr result (self.new ≡ self.old) }
+    {
+        note_new(&mut self.starts, &self.kept, alloc, place, at)?;
+        self.kept.write_at(alloc, place, at, Some(value))
     }
 
     /// Takes the windows away whose end, start and size, is at most a moment. After an error some of them may be left.

@@ -10,14 +10,14 @@ use Rattle.ksql_nodes.specs.Entries.{Entry, latest_time}
 use Rattle.ksql_nodes.specs.Windows.{windows_of}
 use Rattle.record_codec.specs.Spelling.{values}
 use Rattle.state_store.specs.Store.{IsBase}
-use Rattle.window_store.specs.Windows.{has_ended, Windows}
+use Rattle.window_store.specs.Windows.{has_ended, under, Windows}
 use Rattle.agg_ops.specs.WindowGroups.{HoldsPartly}
 use Rattle.agg_ops.proofs.TotalsLemmas.{time-more}
 use Rattle.agg_ops.proofs.WindowLemmas.{windows-begun, windows-done, windows-expired}
 use Rattle.agg_ops.proofs.WindowSpans.{size-short, grace-short}
 use Rattle.agg_ops.proofs.WindowSteps.{given_of, added-along, span-bounds, shut-step, open-step, IsTurnOf}
 use Rattle.agg_ops.proofs.window_agg_op.give.Goals as goal
-use Rattle.agg_ops.proofs.window_agg_op.give.Goals.{then-time-span+in_ok-given+in_ok-push, else-time-span}
+use Rattle.agg_ops.proofs.window_agg_op.give.Goals.{then-time-span+in_ok-put_window_key+in_ok-given+in_ok-push, else-time-span}
 
 abbrev none : Span
 none = record { start = 0; end = 0 }
@@ -46,7 +46,7 @@ loop-index-init c =
             windows-begun c.args.aggs.now w new.content.map new.time es (record { side = side; change = c.args.change.now })
             (windows-expired c.args.aggs.now w old.content.map new.content.map old.time new.time es c.requires.sound small later h
             (λ b. c.in_ok-expire.ensures.gone b ∙ (λ i. cond (has_ended ((size ∙ c.requires.size) i) (moment i) b) None (get (map i) b))))
-            c.in_ok-key.ensures.spellable;
+            c.in_ok-spelled.ensures.spellable;
       };
     }
 
@@ -59,23 +59,24 @@ overflow_add-span c =
     span-bounds w time c.deref-span-items.result.now c.loop-index.index none s (c.deref-span-items.ensures.value ∙ c.in_ok-spans.ensures.spans) c.loop-index-test.true refl c.requires.sound in
     record { fits = omega (arith, size-short w c.requires.sound, grace-short w c.requires.sound) }
 
-pub add_to-requires-clause-start : goal.add_to-requires-clause-start
-add_to-requires-clause-start c =
+pub add_to-requires-clause-window : goal.add_to-requires-clause-window
+add_to-requires-clause-window c =
     let w = c.args.window in
     let time = c.args.change.now.time in
     let s : Span = get_or c.deref-span-items.result.now c.loop-index.index none in
     let at : (s.start ≤ time) × (s.end ≡ s.start + w.size) =
     span-bounds w time c.deref-span-items.result.now c.loop-index.index none s (c.deref-span-items.ensures.value ∙ c.in_ok-spans.ensures.spans) c.loop-index-test.true refl c.requires.sound in
-    omega arith
+    let low : s.start ≤ 2 ^ 56 = omega arith in
+    (c.items-key.result.now, s.start, c.as_slice.ensures.value ∙ c.in_ok-put_window_key.ensures, low)
 
-pub add_to-requires-clause-end : goal.add_to-requires-clause-end
-add_to-requires-clause-end c =
+pub add_to-requires-clause-bounds : goal.add_to-requires-clause-bounds
+add_to-requires-clause-bounds c =
     let w = c.args.window in
     let time = c.args.change.now.time in
     let s : Span = get_or c.deref-span-items.result.now c.loop-index.index none in
     let at : (s.start ≤ time) × (s.end ≡ s.start + w.size) =
     span-bounds w time c.deref-span-items.result.now c.loop-index.index none s (c.deref-span-items.ensures.value ∙ c.in_ok-spans.ensures.spans) c.loop-index-test.true refl c.requires.sound in
-    omega (arith, size-short w c.requires.sound)
+    (omega arith, omega (arith, size-short w c.requires.sound))
 
 pub returns-in_err-push-clause-out : goal.returns-in_err-push-clause-out
 returns-in_err-push-clause-out c =
@@ -98,14 +99,15 @@ loop-index-preserved c =
     let now : (side : ℕ) (es : List Entry) → c.args.windows.now.time ≡ latest_time es → old.time ≡ latest_time (es ++ record { side = side; change = change } ∷ []) =
     λ side es at. so_far.time ∙ ap (λ (n : ℕ). max n change.time) at ∙ sym (time-more es (record { side = side; change = change })) in
     elim c.if-time-span.branch [
-      | then-time-span+in_ok-given+in_ok-push w ↦ (
+      | then-time-span+in_ok-put_window_key+in_ok-given+in_ok-push w ↦ (
           let new = w.add_to.new.windows in
           let made = w.in_ok-given.given in
           let is_open : nat_lt old.time (s.end + window.grace) ≡ true =
           ap (λ (n : ℕ). nat_lt n (s.end + window.grace)) (sym c.time-in-loop-index.ensures) ∙ lt-ltb c.time-in-loop-index.result (s.end + window.grace) w.if-time-span.true in
-          let key : w.items.result.now ≡ values change.key = w.items.ensures ∙ c.in_ok-key.ensures.bytes in
-          let turn : IsTurnOf c.args.aggs.now change (values change.key) i s old.content.map new.content.map made =
-          subst (λ (key : List ℕ). IsTurnOf c.args.aggs.now change key i s old.content.map new.content.map made) key w.in_ok-given.ensures.next in
+          let at : w.as_slice.result.now ≡ under (values change.key) s.start =
+          w.as_slice.ensures.value ∙ w.in_ok-put_window_key.ensures ∙ ap (λ (key : List ℕ). under key s.start) (c.items-key.ensures ∙ c.in_ok-spelled.ensures.bytes) in
+          let turn : IsTurnOf c.args.aggs.now change (under (values change.key) s.start) i s old.content.map new.content.map made =
+          subst (λ (at : List ℕ). IsTurnOf c.args.aggs.now change at i s old.content.map new.content.map made) at w.in_ok-given.ensures.next in
           let time : c.if-time-span.windows.time ≡ old.time = ap (λ (s : Windows). s.time) w.windows-is ∙ w.in_ok-given.ensures.time in
           let out : c.if-time-span.out.items ≡ c.loop-index.out.items ++ made ∷ [] = ap (λ (v : Vec Change Global). v.items) w.out-is ∙ w.in_ok-push.ensures.items in
           record {

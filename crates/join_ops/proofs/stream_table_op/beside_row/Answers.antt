@@ -1,4 +1,5 @@
 use Rattle.std.proofs.Common.{◌≡◌, ◌∙◌, ap}
+use Rattle.std.proofs.lemmas.Result.{IfOk-weaker}
 use Rattle.std.specs.Prelude.{option_and_then, option_map}
 use denote.Ref.{Bor}
 use Rattle.ksql_place.specs.Said.{row_in}
@@ -10,11 +11,14 @@ use Rattle.join_ops.proofs.Sides.{key-of_side}
 use Rattle.join_ops.proofs.stream_table_op.beside_row.Goals as goal
 
 pub returns : goal.returns
-returns c = λ es h.
-    let change = c.args.change.now in
+returns c =
+    let change = c.args.change in
+    IfOk-weaker c.stream_joined.result _ _
+    (λ made given es h.
     let row : option_map (λ (r : Bor Row). r.now) c.row_of.result ≡ row_after (of_side 1 (of_key change.key es)) =
     c.row_of.ensures
     ∙ ap (option_and_then (λ (c : Change). row_in c.body)) (c.in_ok-latest.ensures (of_side 1 es) h)
     ∙ row_after-kept (of_key change.key (of_side 1 es))
     ∙ ap row_after (key-of_side change.key 1 es) in
-    c.in_ok-given.ensures ∙ ap (beside c.args.join.now change) row
+    given ∙ ap (beside c.args.join.now change) row)
+    c.stream_joined.ensures

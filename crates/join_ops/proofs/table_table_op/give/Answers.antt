@@ -1,5 +1,7 @@
 use Rattle.std.proofs.Common.{◌≡◌, ◌∙◌, ap, List, ◌++◌}
 use Rattle.std.specs.Prelude.{Option, option_and_then, option_map, unwrap_or}
+use Rattle.std.specs.Option.{option_to_list}
+use Rattle.std.proofs.lemmas.Result.{on_ok_weaker}
 use denote.Ref.{Bor}
 use Rattle.ksql_place.specs.Said.{row_in}
 use Rattle.ksql_place.specs.declared.change.Change.{Change}
@@ -10,9 +12,11 @@ use Rattle.table_steps.specs.Joining.{turned_beside, standing_before}
 use Rattle.join_ops.proofs.table_table_op.give.Goals as goal
 
 pub returns-clause-next : goal.returns-clause-next
-returns-clause-next c = λ es h.
-    let change = c.args.change.now in
+returns-clause-next c =
+    let change = c.args.change in
     let side = c.args.side in
+    on_ok_weaker c.push_given.result
+    (λ added es h.
     let mine : List Entry = of_side side (of_key change.key es) in
     let others : List Entry = of_side (other_side side) (of_key change.key es) in
     let stood = c.in_ok-latest.ensures.next es h in
@@ -22,6 +26,7 @@ returns-clause-next c = λ es h.
     c.row_of-2.ensures ∙ ap (option_and_then (λ (c : Change). row_in c.body)) stood.1 ∙ row_after-kept others in
     let time : c.time_of.result ≡ time_after others =
     c.time_of.ensures ∙ ap (λ (o : Option Change). unwrap_or (option_map (λ (c : Change). c.time) o) 0) stood.1 ∙ time_after-kept others in
-    let given : c.in_ok-given.given.items ≡ turned_beside c.args.join.now side change (standing_before side change.key es) =
+    let given : option_to_list c.in_ok-given.given ≡ turned_beside c.args.join.now side change (standing_before side change.key es) =
     c.in_ok-given.ensures ∙ (λ i. turned_beside c.args.join.now side change (record { own = own i; other = other i; time = time i })) in
-    (c.in_ok-append.ensures.items ∙ ap (λ (made : List Change). c.args.out.now.items ++ made) given, stood.2)
+    (added ∙ ap (λ (made : List Change). c.args.out.now.items ++ made) given, stood.2))
+    c.push_given.ensures.given

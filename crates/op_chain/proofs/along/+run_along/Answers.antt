@@ -1,14 +1,14 @@
-use Rattle.std.proofs.Common.{◌≡◌, ◌∷◌, [], List, map, subst, sym}
+use Rattle.std.proofs.Common.{◌≡◌, ◌∷◌, [], List, map, rules, subst, sym}
 use Rattle.std.specs.List.{AllZip}
 use Rattle.std.proofs.lemmas.List.{nil_from_length}
 use Rattle.std.proofs.lemmas.Result.{on_ok_weaker}
+use Rattle.ksql_place.specs.declared.change.Change.{Change}
 use Rattle.operator.specs.Holding.{IsBaseOf}
-use Rattle.op_chain.specs.declared.chain.Entry.{Entry as Taken}
 use Rattle.op_chain.specs.declared.op.Op.{Op}
 use Rattle.op_chain.specs.Along.{StepAlong, Steps}
 use Rattle.op_chain.specs.Chain.{entries_of}
 use Rattle.op_chain.proofs.Ops.{held_of, node_of}
-use Rattle.op_chain.proofs.RowSteps.{along-more, along-none, bases-more}
+use Rattle.op_chain.proofs.RowSteps.{along-last, along-more, along-none, bases-more}
 use Rattle.op_chain.proofs.along.+run_along.Goals as goal
 
 pub returns-in_default-clause-next : goal.returns-in_default-clause-next
@@ -25,15 +25,45 @@ pub returns-in_err-given-clause-bases : goal.returns-in_err-given-clause-bases
 returns-in_err-given-clause-bases t c = λ bases all.
     let op = c.in-Some.op.now in
     let later = c.in-Some.later.now in
-    bases-more bases (held_of op) (held_of c.stepped.new.op) (map held_of later) (map held_of later) c.in_err-given.ensures.base (λ bases all. all)
+    bases-more bases (held_of op) (held_of op) (map held_of later) (map held_of later) (λ base h. h) (λ bases all. all)
     (subst (λ (ops : List Op). AllZip IsBaseOf bases (map held_of ops)) c.in-Some.ensures.cases.0 all)
 
 pub returns-in_err-entries-clause-bases : goal.returns-in_err-entries-clause-bases
 returns-in_err-entries-clause-bases t c = λ bases all.
     let op = c.in-Some.op.now in
     let later = c.in-Some.later.now in
-    bases-more bases (held_of op) (held_of c.stepped.new.op) (map held_of later) (map held_of later) c.in_ok-given.ensures.base (λ bases all. all)
+    bases-more bases (held_of op) (held_of c.step_each-2.new.op) (map held_of later) (map held_of later) c.in_ok-step_each.ensures.base (λ bases all. all)
     (subst (λ (ops : List Op). AllZip IsBaseOf bases (map held_of ops)) c.in-Some.ensures.cases.0 all)
+
+pub returns-in_err-step_each-clause-bases : goal.returns-in_err-step_each-clause-bases
+returns-in_err-step_each-clause-bases t c = λ bases all.
+    let op = c.in-Some.op.now in
+    let later = c.in-Some.later.now in
+    bases-more bases (held_of op) (held_of c.step_each-2.new.op) (map held_of later) (map held_of later) c.in_err-step_each.ensures.base (λ bases all. all)
+    (subst (λ (ops : List Op). AllZip IsBaseOf bases (map held_of ops)) c.in-Some.ensures.cases.0 all)
+
+pub returns-then-is_empty-clause-bases : goal.returns-then-is_empty-clause-bases
+returns-then-is_empty-clause-bases t c = λ bases all.
+    let op = c.in-Some.op.now in
+    let later = c.in-Some.later.now in
+    bases-more bases (held_of op) (held_of c.step_each.new.op) (map held_of later) (map held_of later) c.step_each.ensures.base (λ bases all. all)
+    (subst (λ (ops : List Op). AllZip IsBaseOf bases (map held_of ops)) c.in-Some.ensures.cases.0 all)
+
+pub returns-then-is_empty-clause-next : goal.returns-then-is_empty-clause-next
+returns-then-is_empty-clause-next t c =
+    let op = c.in-Some.op.now in
+    let later = c.in-Some.later.now in
+    let split : c.args.ops.now ≡ op ∷ later = c.in-Some.ensures.cases.0 in
+    let none : later ≡ [] = nil_from_length later (search rules) in
+    let entries = entries_of c.args.entries.items in
+    let next = held_of c.step_each.new.op in
+    let old = c.args.out.now.items in
+    let new = c.step_each.new.out.items in
+    on_ok_weaker c.step_each.result
+    (λ steps. subst (λ (ops : List Op). StepAlong (map node_of ops) (map held_of ops) (next ∷ map held_of later) entries old new) (sym split)
+    (subst (λ (later : List Op). StepAlong (node_of op ∷ map node_of later) (held_of op ∷ map held_of later) (next ∷ map held_of later) entries old new) (sym none)
+    (along-last (node_of op) (held_of op) next entries old new steps)))
+    c.step_each.ensures.next
 
 pub returns-clause-next : goal.returns-clause-next
 returns-clause-next t c =
@@ -42,12 +72,12 @@ returns-clause-next t c =
     let split : c.args.ops.now ≡ op ∷ later = c.in-Some.ensures.cases.0 in
     let entries = entries_of c.args.entries.items in
     let came = entries_of c.in_ok-entries.entries.items in
-    let given = c.in_ok-given.given.items in
-    let next = held_of c.stepped.new.op in
+    let given = c.step_each-2.new.out.items in
+    let next = held_of c.step_each-2.new.op in
     let nexts = map held_of c.run_along.new.ops in
     let old = c.args.out.now.items in
     let new = c.run_along.new.out.items in
-    let steps = subst (λ (es : List Taken). Steps (node_of op) (held_of op) next (entries_of es) given) c.as_slice.ensures.value c.in_ok-given.ensures.next in
+    let steps = subst (λ (first : List Change). Steps (node_of op) (held_of op) next entries first given) c.in_ok-given.ensures.items c.in_ok-step_each.ensures.next in
     on_ok_weaker c.run_along.result
     (λ on. subst (λ (ops : List Op). StepAlong (map node_of ops) (map held_of ops) (next ∷ nexts) entries old new) (sym split)
     (along-more (node_of op) (map node_of later) (held_of op) next (map held_of later) nexts entries came given old new steps c.in_ok-entries.ensures on))
@@ -57,5 +87,5 @@ pub returns-clause-bases : goal.returns-clause-bases
 returns-clause-bases t c = λ bases all.
     let op = c.in-Some.op.now in
     let later = c.in-Some.later.now in
-    bases-more bases (held_of op) (held_of c.stepped.new.op) (map held_of later) (map held_of c.run_along.new.ops) c.in_ok-given.ensures.base c.run_along.ensures.bases
+    bases-more bases (held_of op) (held_of c.step_each-2.new.op) (map held_of later) (map held_of c.run_along.new.ops) c.in_ok-step_each.ensures.base c.run_along.ensures.bases
     (subst (λ (ops : List Op). AllZip IsBaseOf bases (map held_of ops)) c.in-Some.ensures.cases.0 all)

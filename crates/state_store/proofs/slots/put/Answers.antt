@@ -3,12 +3,12 @@ use Rattle.std.specs.Map.{lookup}
 use Rattle.indexmap.proofs.CallerLemmas.{updates-with_value_at}
 use Rattle.state_store.specs.Store.{with_value}
 use Rattle.state_store.specs.Slots.{keys_in, values_in}
-use Rattle.state_store.proofs.SlotLemmas.{is_key, same_key, same_key_equiv, values_in-update, list_any-keys_in, HasKey, HasKey-position, keys_in-set_value_at, slice_get-keys_in, keys_in-insert_entry, insert_index-new, slice_get-last}
+use Rattle.state_store.proofs.SlotLemmas.{is_key, same_key, same_key_equiv, values_in-update, list_any-keys_in, HasKey, HasKey-keys_in, keys_in-set_value_at, keys_in-insert_entry, insert_index-new, slice_get-last}
 use Rattle.state_store.proofs.slots.put.Goals as goal
 
 at_index : (c : goal.Joined-index_mut-value) → HasKey c.args.slots.now.entries c.in-Some.index c.args.key.now
 at_index c =
-    HasKey-position c.args.slots.now.entries c.in-Some.index c.args.key.now (sym c.in-Some.ensures.index)
+    HasKey-keys_in c.args.slots.now.entries c.in-Some.index c.args.key.now c.in-Some.ensures.key
 
 pub returns-in-Some-clause-values : goal.returns-in-Some-clause-values
 returns-in-Some-clause-values c =
@@ -22,14 +22,13 @@ pub returns-in-Some-clause-keys : goal.returns-in-Some-clause-keys
 returns-in-Some-clause-keys c =
     let slots = c.args.slots.now in
     let keys = keys_in slots.entries in
-    let there = list_any-keys_in slots.entries c.args.key.now ∙ sym c.in-Some.ensures.found in
     keys_in-set_value_at slots c.in-Some.index c.args.value
-    ∙ ap (λ b. if b then keys else keys ++ c.args.key.now ∷ []) (sym there)
+    ∙ ap (λ b. if b then keys else keys ++ c.args.key.now ∷ []) c.in-Some.ensures.found
 
 pub returns-in-Some-clause-index : goal.returns-in-Some-clause-index
 returns-in-Some-clause-index c =
     ap (λ keys. slice_get keys c.in-Some.index) (keys_in-set_value_at c.args.slots.now c.in-Some.index c.args.value)
-    ∙ slice_get-keys_in c.args.slots.now.entries c.in-Some.index c.args.key.now (at_index c)
+    ∙ c.in-Some.ensures.key
 
 pub returns-in_ok-index-in-None-clause-values : goal.returns-in_ok-index-in-None-clause-values
 returns-in_ok-index-in-None-clause-values c =
@@ -46,7 +45,7 @@ none_from (Some x) e = absurd (true≢false (sym e))
 absent : (c : goal.Joined-branch-3) → lookup (same_key c.in_ok-copied-in-None.field-0) c.args.slots.now.entries ≡ None
 absent c =
     ap (λ key. lookup (is_key key) c.args.slots.now.entries) c.in_ok-copied-in-None.ensures
-    ∙ none_from _ c.in-None.ensures.found
+    ∙ none_from _ (c.in-None.ensures.found ∙ list_any-keys_in c.args.slots.now.entries c.args.key.now)
 
 keys_after : (c : goal.Joined-branch-3) → keys_in c.insert_full.new.self.entries ≡ keys_in c.args.slots.now.entries ++ c.args.key.now ∷ []
 keys_after c =
@@ -57,8 +56,7 @@ keys_after c =
 pub returns-in_ok-index-in-None-clause-keys : goal.returns-in_ok-index-in-None-clause-keys
 returns-in_ok-index-in-None-clause-keys c =
     let keys = keys_in c.args.slots.now.entries in
-    let new = list_any-keys_in c.args.slots.now.entries c.args.key.now ∙ sym c.in-None.ensures.found in
-    keys_after c ∙ ap (λ b. if b then keys else keys ++ c.args.key.now ∷ []) (sym new)
+    keys_after c ∙ ap (λ b. if b then keys else keys ++ c.args.key.now ∷ []) c.in-None.ensures.found
 
 pub returns-in_ok-index-in-None-clause-index : goal.returns-in_ok-index-in-None-clause-index
 returns-in_ok-index-in-None-clause-index c =

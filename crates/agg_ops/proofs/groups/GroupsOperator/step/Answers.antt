@@ -8,7 +8,7 @@ unfolding gives
 returns-clause-next c =
     on_ok_weaker c.give-stepped.result
     (λ next. λ es s.
-    let given = same-aggs c.args.self.now.over c.items.result.now c.args.self.now.aggs c.args.self.now.kept.map _ _ _ c.args.change.now c.args._side es c.items.ensures (next c.args._side es)
+    let given = same-aggs c.args.self.now.over c.items.result.now c.args.self.now.aggs c.args.self.now.kept.map _ _ _ c.args.change c.args._side es c.items.ensures (next c.args._side es)
     (record { keys = s.spelled.0; spelled = s.spelled.1; groups = s.exact.aggregate }) in (
       given.0,
       record {

@@ -6,7 +6,7 @@ use Rattle.agg_ops.proofs.window_agg_op.WindowAggOpOperator.step.Goals as goal
 pub returns-clause-next : goal.returns-clause-next
 returns-clause-next c =
     let old = c.self.inside in
-    let e : Entry = record { side = c.args._side; change = c.args.change.now } in
+    let e : Entry = record { side = c.args._side; change = c.args.change } in
     rw (← c.self.view_is)
     (on_ok_weaker c.give-stepped.result
     (λ next. windows-next c.items.result.now old.aggs old.window old.kept c.give-stepped.new.windows c.args.out.now.items c.give-stepped.new.out.items e c.items.ensures (next c.args._side))

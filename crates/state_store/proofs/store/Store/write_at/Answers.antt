@@ -3,7 +3,7 @@ use Rattle.state_store.specs.Store.{with_value}
 use Rattle.state_store.specs.Slots.{values_in, key_at}
 use Rattle.state_store.proofs.ReplayLemmas.{IsBase-write}
 use Rattle.state_store.proofs.SlotLemmas.{map-key_at-push}
-use Rattle.state_store.proofs.store.Store.write.Goals as goal
+use Rattle.state_store.proofs.store.Store.write_at.Goals as goal
 
 pub returns-clause-written : goal.returns-clause-written
 returns-clause-written c =

@@ -1,0 +1,20 @@
+use Rattle.std.proofs.Common.{◌≡◌, List, ◌++◌}
+use Rattle.std.specs.List.{AllByRecursion}
+use Rattle.std.specs.Vec.Iter.{into_iter_items}
+use Rattle.ksql_nodes.specs.Entries.{Entry}
+use Rattle.operator.specs.Holding.{IsBaseOf, Maps}
+use Rattle.operator.specs.Storable.{IsStorable}
+use Rattle.op_chain.specs.Along.{Steps}
+use Rattle.op_chain.specs.Chain.{entries_of}
+use Rattle.op_chain.proofs.Ops.{held_of, node_of}
+use Rattle.op_chain.proofs.along.step_each.Given as goal
+
+-- the steps of those that were taken, and those that are left
+abbrev pub invariant-loop-entry : goal.invariant-loop-entry
+invariant-loop-entry l = record {
+  node : node_of l.op ≡ node_of l.fn.op;
+  next : (taken : List Entry) × (taken ++ entries_of (into_iter_items l.entry-iterator) ≡ entries_of l.fn.entries.items)
+      × Steps (node_of l.fn.op) (held_of l.fn.op) (held_of l.op) taken l.fn.out.items l.out.items;
+  left : AllByRecursion (λ (e : Entry). IsStorable (node_of l.fn.op) e.side e.change) (entries_of (into_iter_items l.entry-iterator));
+  base : (base : Maps) → IsBaseOf base (held_of l.fn.op) → IsBaseOf base (held_of l.op);
+}
