@@ -1,6 +1,6 @@
 -- A feed keeps the state of a cluster good, and its numbers are those of the feed.
 use Rattle.std.proofs.Common.{◌≡◌, ◌∙◌, ap, refl, sym, subst, ℕ, ◌+◌, ◌≤◌, List, [], ◌∷◌, ◌++◌, length, map, get_or, arith}
-use Rattle.std.specs.Prelude.{All, Contains}
+use Rattle.std.specs.Prelude.{All, Contains, flat_map}
 use Rattle.std.specs.List.{AllByRecursion, AllZip}
 use Rattle.std.proofs.lemmas.List.Elements.{All-append, All-from_recursion, recursion_from_All}
 use Rattle.ksql_place.specs.declared.change.SourceRecord.{SourceRecord}
@@ -21,7 +21,7 @@ use Rattle.topic_log.specs.Shelves.{routes_in, shelf_of, topics_of}
 use Rattle.topic_log.specs.declared.shelves.Shelves.{Shelves}
 use Rattle.task_core.specs.Core.{core_of}
 use Rattle.task_core.specs.declared.task.Moved.{Moved}
-use Rattle.feed_laws.specs.Feeds.{Source, after_feed, records_of}
+use Rattle.feed_laws.specs.Feeds.{Source, after_feed, fed_of, records_of}
 use Rattle.feed_laws.specs.Fitting.{AreSourcesOf, Fits, IsSourceOf}
 use Rattle.cluster_core.specs.Cluster.{HasCome, HasComeWith, IsKept, IsProgress, idle}
 use Rattle.cluster_core.specs.Few.{NodesHaveFew}
@@ -55,9 +55,9 @@ module _ (items : List Item) (p : Progress) (count : Source → ℕ) (come : IsP
   ready : All (CanFeed (n + 1)) p.sources
   ready = subst (λ m. All (CanFeed (m + 1)) p.sources) (sym number) (all-can-feed items p.fed p.sources come.sources)
 
-  pub records-are : (records : List SourceRecord) → ((ss : List Source) → AllZip IsKept ks ss → All (CanFeed (n + 1)) ss → records ≡ records_of (n + 1) count ss) →
-      records ≡ records_of (p.fed + 1) count p.sources
-  records-are records each = each p.sources kept ready ∙ ap (λ m. records_of (m + 1) count p.sources) number
+  pub records-are : (records : List SourceRecord) → ((ss : List Source) → AllZip IsKept ks ss → All (CanFeed (n + 1)) ss → records ≡ flat_map (fed_of (n + 1) count) ss) →
+      records ≡ flat_map (fed_of (p.fed + 1) count) p.sources
+  records-are records each = each p.sources kept ready ∙ ap (λ m. flat_map (fed_of (m + 1) count) p.sources) number
 
   pub sources-are : (after : List Kept) → ((ss : List Source) → AllZip IsKept ks ss → All (CanFeed (n + 1)) ss → AllZip IsKept after (map (after_feed (n + 1) count) ss)) →
       AllZip IsKept after (map (after_feed (p.fed + 1) count) p.sources)

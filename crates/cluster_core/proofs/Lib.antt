@@ -1,6 +1,7 @@
 pub mod Advanced
 pub mod Advancing
 pub mod AllTasks
+pub mod Apart
 pub mod Coming
 pub mod Counting
 pub mod Draining

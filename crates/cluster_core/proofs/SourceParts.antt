@@ -7,7 +7,6 @@ use Rattle.std.proofs.lemmas.Option.{slice_get-map}
 use Rattle.ksql_types.specs.declared.relation.Relation.{Relation}
 use Rattle.ksql_types.specs.declared.relation.TaskName.{TaskName}
 use Rattle.ksql_types.specs.declared.topic.TopicSpec.{TopicSpec}
-use Rattle.ksql_place.specs.Order.{record_cmp}
 use Rattle.ksql_place.specs.declared.change.SourceRecord.{SourceRecord}
 use Rattle.ksql_nodes.proofs.Lists.{All-append}
 use Rattle.ksql_program.specs.Program.{relation_at, relation_of, relations}
@@ -15,7 +14,7 @@ use Rattle.ksql_program.specs.Sound.{IsSound, IsSoundItem, IsSoundQuery, query a
 use Rattle.ksql_program.specs.declared.program.Item.{Item}
 use Rattle.ksql_program.specs.declared.program.Item.TheVariants.{Declared, Started}
 use Rattle.ksql_program.specs.declared.query.Query.{Query}
-use Rattle.meaning_laws.proofs.Lists.{All-ascending, All-weaker}
+use Rattle.meaning_laws.proofs.Lists.{All-weaker}
 use Rattle.topic_files.specs.declared.topic.Fed.{Fed}
 use Rattle.topic_feeds.specs.Feeding.{fed_from}
 use Rattle.topic_feeds.proofs.Feeds.{fed-topic}
@@ -28,7 +27,7 @@ use Rattle.core_laws.proofs.SubReads.{declared-unwritten}
 use Rattle.core_laws.proofs.Wirings.{staged}
 use Rattle.topic_log.specs.Shelves.{IsSourcePart, topics_of}
 use Rattle.topic_log.specs.declared.shelves.Shelves.{Shelves}
-use Rattle.feed_laws.specs.Feeds.{Source, fed_of, records_of}
+use Rattle.feed_laws.specs.Feeds.{Source, fed_of}
 use Rattle.feed_laws.specs.Fitting.{IsSourceOf}
 use Rattle.cluster_core.specs.Rounds.{HasParts, count_at}
 
@@ -64,10 +63,9 @@ module _ (b : Shelves) where
       (source-there feed s.relation s.before (take (count s) s.left) some.0 there.0) (sources-there feed count ss some.1 there.1)
 
   pub fed-there : (feed : ℕ) (count : Source → ℕ) (ss : List Source) → AllByRecursion (λ s. 1 ≤ s.relation.partitions) ss → AllByRecursion (HasSourceParts b) ss →
-      All (λ r. IsSourcePart b r.stamp.topic r.stamp.part) (records_of feed count ss)
+      All StandsThere (flat_map (fed_of feed count) ss)
   fed-there feed count ss some there =
-      All-from_recursion StandsThere (records_of feed count ss)
-      (All-ascending StandsThere record_cmp (flat_map (fed_of feed count) ss) (sources-there feed count ss some there))
+      All-from_recursion StandsThere (flat_map (fed_of feed count) ss) (sources-there feed count ss some there)
 
 -- ---- the topics of sources
 

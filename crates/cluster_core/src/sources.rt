@@ -1,15 +1,15 @@
 //! The topics of declared relations, and what is left of their files.
-ghost use Rattle.std.specs.Prelude.{◌≡◌, ◌≤◌, ◌++◌, ◌∷◌, All, IfOk, List, OnOk, [], drop, length, map, min, take};
+ghost use Rattle.std.specs.Prelude.{◌≡◌, ◌≤◌, ◌++◌, ◌∷◌, All, IfOk, List, OnOk, [], drop, flat_map, length, map, min, take};
 ghost use Rattle.std.specs.List.{AllZip};
 ghost use Rattle.ksql_program.specs.declared.program.Item.{Item as OneItem};
 ghost use Rattle.topic_files.specs.declared.topic.TopicLines.{TopicLines as OneFile};
-ghost use Rattle.feed_laws.specs.Feeds.{Source as OneSource, after_feed, fed_of, records_of, sources_of};
+ghost use Rattle.feed_laws.specs.Feeds.{Source as OneSource, after_feed, fed_of, sources_of};
 ghost use Rattle.feed_laws.specs.Fitting.{AreFilesOf};
 ghost use Rattle.cluster_core.specs.Cluster.{IsKept};
 ghost use Rattle.cluster_core.specs.Progress.{counted, taken};
 ghost use Rattle.cluster_core.specs.Sourcing.{AreBuilt, CanFeed};
 
-use ksql_place::{SourceRecord, order_of};
+use ksql_place::SourceRecord;
 use ksql_program::Item;
 use ksql_types::{CopyOf, Items, Relation};
 use std::alloc::{AllocError, Global};
@@ -79,8 +79,8 @@ fn source_of(alloc: Global, relation: &Relation, file: TopicLines) -> Result<Sou
     })
 }
 
-/// The records of the feed of this number, in the order of consumption, where the step says how many it takes of each source;
-/// and the sources after it.
+/// The records of the feed of this number, source by source, where the step says how many it takes of each; and the sources
+/// after it.
 pub fn feed_sources(
     alloc: Global,
     sources: Vec<Source>,
@@ -91,7 +91,7 @@ pub fn feed_sources(
     ensures sources { IfOk result (λ fed. (ss : List OneSource) → AllZip IsKept sources.items ss → All (CanFeed feed) ss →
         AllZip IsKept fed.0.items (map (after_feed feed (taken step.now)) ss)) }
     ensures records { IfOk result (λ fed. (ss : List OneSource) → AllZip IsKept sources.items ss → All (CanFeed feed) ss →
-        fed.1.items ≡ records_of feed (taken step.now) ss) }
+        fed.1.items ≡ flat_map (fed_of feed (taken step.now)) ss) }
 {
     let mut after = Vec::with_capacity(alloc, sources.len())?;
     let mut records = Vec::new(alloc);
@@ -99,7 +99,7 @@ pub fn feed_sources(
         feed_source(alloc, &mut records, &mut source, feed, step)?;
         after.push(source)?;
     }
-    Ok((after, order_of(records)?))
+    Ok((after, records))
 }
 
 /// Adds the records that a feed takes of a source.

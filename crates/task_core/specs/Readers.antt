@@ -13,7 +13,6 @@ use Rattle.topology.specs.declared.topology.SubInput.{SubInput}
 use Rattle.core_state.specs.declared.log.LogEntry.{LogEntry}
 use Rattle.core_state.specs.declared.log.LogEntry.TheVariants.{Fed, Said}
 use Rattle.topic_log.specs.Order.{IsInPlaceOrder, place_of}
-use Rattle.op_chain.specs.declared.chain.Entry.{Entry as Taken}
 use Rattle.task_core.specs.declared.reader.Reader.{Reader}
 use Rattle.task_core.specs.declared.reader.Rest.{Rest}
 
@@ -53,7 +52,3 @@ abbrev pub goes_left : ℕ → ℕ → List LogEntry → List LogEntry → Bool
 goes_left left right [] ys = false
 goes_left left right (x ∷ xs) [] = true
 goes_left left right (x ∷ xs) (y ∷ ys) = not (is_gt (between_cmp (place_of x) left (place_of y) right))
-
--- an entry as it is taken
-abbrev pub entry_of : Taken → Entry
-entry_of e = record { side = e.side; change = e.change }

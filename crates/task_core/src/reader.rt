@@ -1,11 +1,10 @@
 //! What a task takes of what its inputs show, in the order of the places.
-ghost use Rattle.std.specs.Prelude.{◌≡◌, ◌∷◌, ◌++◌, [], ◌+◌, ◌<◌, ◌≤◌, ◌==◌, IfOk, OnOk, drop, flat_map, length, map, option_map, take};
-ghost use Rattle.std.specs.Option.{option_to_list};
+ghost use Rattle.std.specs.Prelude.{◌≡◌, ◌∷◌, ◌++◌, [], ◌+◌, ◌<◌, ◌≤◌, ◌==◌, IfOk, OnOk, drop, flat_map, length, take};
 ghost use Rattle.op_chain.specs.Chain.{entries_of};
-ghost use Rattle.task_core.specs.Readers.{IsOrdered, entry_of, goes_left, left_len, pending, taken_as};
+ghost use Rattle.task_core.specs.Readers.{IsOrdered, goes_left, left_len, pending, taken_as};
 
 use crate::places::cmp_entries;
-use crate::whole::{said_whole, whole_change};
+use crate::whole::{push_said, push_whole};
 use core_state::LogEntry;
 use ksql_types::Kind;
 use op_chain::Entry;
@@ -13,8 +12,8 @@ use std::alloc::{AllocError, Global};
 use std::cmp::Ordering;
 use topology::SubInput;
 
-/// The most entries that a reader gives at once.
-const MOST: usize = 256;
+/// The most entries that a reader gives at once: few, so that they stay in the processor's cache while they go through the nodes.
+const MOST: usize = 32;
 
 /// What is left of what an input of a task shows, and the kind of relation to which its records speak.
 #[derive(Drop)]
@@ -48,26 +47,24 @@ impl Reader<'_> {
     {
         let mut taken = Vec::with_capacity(alloc, MOST)?;
         while taken.len() < MOST && !self.is_done() {
-            if let Some(entry) = self.step(alloc)? {
-                taken.push(entry)?;
-            }
+            self.step(alloc, &mut taken)?;
         }
         Ok(taken)
     }
 
-    /// Takes the entry whose place is next off those that are left, and answers what the task takes of it. On equal
-    /// places of one relation the left one goes first.
-    fn step(&mut self, alloc: Global) -> Result<Option<Entry>, AllocError>
+    /// Takes the entry whose place is next off those that are left, and adds what the task takes of it. On equal places
+    /// of one relation the left one goes first.
+    fn step(&mut self, alloc: Global, taken: &mut Vec<Entry>) -> Result<(), AllocError>
         requires some { 0 < left_len self.old }
         requires order { IsOrdered self.old }
-        ensures taken { IfOk result (λ made. option_to_list (option_map entry_of made) ++ pending self.new ≡ pending self.old) }
+        ensures taken { OnOk result (entries_of taken.new.items ++ pending self.new ≡ entries_of taken.old.items ++ pending self.old) }
         ensures order { IsOrdered self.new }
         ensures less { left_len self.new + 1 ≡ left_len self.old }
     {
         if self.is_left_next() {
-            self.left.take_first(alloc, 0)
+            self.left.take_first(alloc, 0, taken)
         } else {
-            self.right.take_first(alloc, 1)
+            self.right.take_first(alloc, 1, taken)
         }
     }
 
@@ -93,34 +90,39 @@ impl Reader<'_> {
 }
 
 impl Rest<'_> {
-    /// Takes the first entry off, and answers what a task takes of it on a side.
-    fn take_first(&mut self, alloc: Global, side: u32) -> Result<Option<Entry>, AllocError>
+    /// Takes the first entry off, and adds what a task takes of it on a side.
+    fn take_first(
+        &mut self,
+        alloc: Global,
+        side: u32,
+        taken: &mut Vec<Entry>,
+    ) -> Result<(), AllocError>
         requires { 0 < length self.old.entries.now }
         ensures kind { self.new.kind ≡ self.old.kind }
         ensures input { self.new.input ≡ self.old.input }
         ensures rest { self.new.entries.now ≡ drop 1 self.old.entries.now }
-        ensures taken { IfOk result (λ made. option_to_list (option_map entry_of made)
-            ≡ flat_map (taken_as self.old.kind side self.old.input) (take 1 self.old.entries.now)) }
+        ensures taken { OnOk result (entries_of taken.new.items
+            ≡ entries_of taken.old.items ++ flat_map (taken_as self.old.kind side self.old.input) (take 1 self.old.entries.now)) }
     {
         let first = &self.entries[0];
         self.entries = &self.entries[1..];
-        self.taken(alloc, side, first)
+        self.push_taken(alloc, side, first, taken)
     }
 
-    /// What a task takes of an entry on a side.
-    fn taken(&self, alloc: Global, side: u32, entry: &LogEntry) -> Result<Option<Entry>, AllocError>
-        ensures { IfOk result (λ made. option_to_list (option_map entry_of made) ≡ taken_as self.now.kind side self.now.input entry.now) }
+    /// Adds what a task takes of an entry on a side.
+    fn push_taken(
+        &self,
+        alloc: Global,
+        side: u32,
+        entry: &LogEntry,
+        taken: &mut Vec<Entry>,
+    ) -> Result<(), AllocError>
+        ensures { OnOk result (entries_of taken.new.items ≡ entries_of taken.old.items ++ taken_as self.now.kind side self.now.input entry.now) }
     {
         let columns = self.input.keys;
         match entry {
-            LogEntry::Fed(record) => {
-                let said = said_whole(alloc, self.kind, columns, record)?;
-                Ok(said.map(|change| Entry { side, change }))
-            }
-            LogEntry::Said(change) => {
-                let change = whole_change(alloc, columns, change)?;
-                Ok(Some(Entry { side, change }))
-            }
+            LogEntry::Fed(record) => push_said(alloc, taken, side, self.kind, columns, record),
+            LogEntry::Said(change) => push_whole(alloc, taken, side, columns, change),
         }
     }
 }

@@ -1,42 +1,52 @@
-//! Changes as a task reads them: with the cells of their keys in front of their rows.
-ghost use Rattle.std.specs.Prelude.{◌≡◌, ◌++◌, IfOk, List, OnOk, map, option_map, replicate};
-ghost use Rattle.std.specs.Option.{option_to_list};
+//! Entries as a task reads them: with the cells of their keys in front of their rows.
+ghost use Rattle.std.specs.Prelude.{◌≡◌, ◌++◌, ◌∷◌, [], IfOk, List, OnOk, map, option_map, replicate};
 ghost use Rattle.ksql_types.specs.declared.value.Value.TheVariants.{Null};
 ghost use Rattle.ksql_place.specs.Said.{saying};
+ghost use Rattle.ksql_nodes.specs.Entries.{from_side};
 ghost use Rattle.query_meaning.specs.Plain.{raw_body};
 ghost use Rattle.topology.specs.Contents.{with_cells};
+ghost use Rattle.op_chain.specs.Chain.{entries_of};
 ghost use Rattle.task_core.specs.Readers.{whole_row};
 
 use ksql_place::{Body, Change, Path, Place, SourceRecord, said_by};
 use ksql_types::{CopyOf, Items, Key, Kind, Row, Value};
 use node_steps::{push_copies, push_nulls};
+use op_chain::Entry;
 use std::alloc::{AllocError, Global};
 
-/// What a record says to a relation of a kind, where it isn't skipped, with so many key columns in front of its row.
-pub fn said_whole(
+/// Adds an entry of a side: what a record says to a relation of a kind, with so many key columns in front of its row. Adds
+/// none where the record is skipped.
+pub fn push_said(
     alloc: Global,
+    taken: &mut Vec<Entry>,
+    side: u32,
     kind: Kind,
     columns: u32,
     fed: &SourceRecord,
-) -> Result<Option<Change>, AllocError>
-    ensures { IfOk result (λ made. option_to_list made ≡ map (with_cells columns) (saying kind fed.now)) }
+) -> Result<(), AllocError>
+    ensures { OnOk result (entries_of taken.new.items
+        ≡ entries_of taken.old.items ++ from_side side (map (with_cells columns) (saying kind fed.now))) }
 {
     let Some(row) = said_by(kind, &fed.key, &fed.value) else {
-        return Ok(None);
+        return Ok(());
     };
     let Some(body) = said_body(alloc, kind, columns, &fed.key, row)? else {
-        return Ok(None);
+        return Ok(());
     };
-    Ok(Some(Change {
-        place: Place {
-            stamp: fed.stamp,
-            path: Path::root(alloc),
+    taken.push(Entry {
+        side,
+        change: Change {
+            place: Place {
+                stamp: fed.stamp,
+                path: Path::root(alloc),
+            },
+            time: fed.time,
+            key: fed.key.copy(alloc)?,
+            span: None,
+            body,
         },
-        time: fed.time,
-        key: fed.key.copy(alloc)?,
-        span: None,
-        body,
-    }))
+    })?;
+    Ok(())
 }
 
 /// What a row, or that there is none, says to a relation of a kind, with so many key columns in front of the row.
@@ -63,25 +73,43 @@ fn said_body(
     }
 }
 
-/// A change with so many key columns in front of its rows, or as it is where that is none.
-pub fn whole_change(alloc: Global, columns: u32, change: &Change) -> Result<Change, AllocError>
-    ensures { IfOk result (λ made. made ≡ with_cells columns change.now) }
+/// Adds an entry of a side: a change with so many key columns in front of its rows, or as it is where that is none.
+pub fn push_whole(
+    alloc: Global,
+    taken: &mut Vec<Entry>,
+    side: u32,
+    columns: u32,
+    change: &Change,
+) -> Result<(), AllocError>
+    ensures { OnOk result (entries_of taken.new.items
+        ≡ entries_of taken.old.items ++ from_side side (with_cells columns change.now ∷ [])) }
+{
+    let body = whole_body(alloc, columns, change)?;
+    taken.push(Entry {
+        side,
+        change: Change {
+            place: change.place.copy(alloc)?,
+            time: change.time,
+            key: change.key.copy(alloc)?,
+            span: change.span,
+            body,
+        },
+    })?;
+    Ok(())
+}
+
+/// What a change says, with so many key columns in front of its rows, or as it is where that is none.
+fn whole_body(alloc: Global, columns: u32, change: &Change) -> Result<Body, AllocError>
+    ensures { IfOk result (λ made. made ≡ (with_cells columns change.now).body) }
 {
     let key = &change.key;
-    let body = match &change.body {
-        Body::Said(row) => Body::Said(whole_row(alloc, columns, key, row)?),
-        Body::Turned { old, new } => Body::Turned {
+    match &change.body {
+        Body::Said(row) => Ok(Body::Said(whole_row(alloc, columns, key, row)?)),
+        Body::Turned { old, new } => Ok(Body::Turned {
             old: perhaps_whole(alloc, columns, key, old)?,
             new: perhaps_whole(alloc, columns, key, new)?,
-        },
-    };
-    Ok(Change {
-        place: change.place.copy(alloc)?,
-        time: change.time,
-        key: key.copy(alloc)?,
-        span: change.span,
-        body,
-    })
+        }),
+    }
 }
 
 /// A row after so many key columns, where there is one.

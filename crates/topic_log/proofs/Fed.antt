@@ -16,10 +16,12 @@ use Rattle.std.proofs.lemmas.List.Kept.{AllPairs-filter}
 use Rattle.std.proofs.lemmas.Option.{get_or_from_slice_get, same_Some, slice_get-map, slice_get_past}
 use Rattle.ksql_types.specs.declared.relation.TaskName.{TaskName}
 use Rattle.ksql_types.specs.declared.topic.TopicSpec.{TopicSpec}
-use Rattle.ksql_place.specs.Ascending.{Rises}
+use Rattle.ksql_place.specs.Ascending.{Rises, ascending}
 use Rattle.ksql_place.specs.Order.{place_cmp, record_cmp, stamp_cmp}
 use Rattle.ksql_place.specs.declared.change.Change.{Change}
 use Rattle.ksql_place.specs.declared.change.SourceRecord.{SourceRecord}
+use Rattle.ksql_place.proofs.Ascending.{ascending-kept, filter-ascending}
+use Rattle.ksql_place.proofs.Orders.{record_total}
 use Rattle.core_state.specs.declared.log.LogEntry.{LogEntry}
 use Rattle.core_state.specs.declared.log.LogEntry.TheVariants.{Fed}
 use Rattle.core_state.specs.Routes.{Routes, routes_of, tasks_of_writer}
@@ -29,10 +31,11 @@ use Rattle.topic_log.specs.declared.shelves.PartShelf.{PartShelf}
 use Rattle.topic_log.specs.declared.shelves.Shelves.{Shelves}
 use Rattle.topic_log.specs.declared.shelves.TaskShelf.{TaskShelf}
 use Rattle.topic_log.specs.declared.shelves.TopicShelf.{TopicShelf}
-use Rattle.topic_log.specs.Feeding.{IsThere, TopicWillShow, WillShow, WillShowAll}
+use Rattle.topic_log.specs.Feeding.{IsThere, RiseApart, TopicWillShow, WillShow, WillShowAll}
 use Rattle.topic_log.specs.Order.{IsInPlaceOrder, feed_in, place_of}
 use Rattle.topic_log.specs.Shelves.{AreShelves, AreTopics, IsPartShelf, IsSourcePart, IsTopicShelf, Waits, routes_in, shelf_of, task_at, closed_in, dones_of, topics_of, waiting_in}
 use Rattle.topic_log.specs.Views.{EachAt, topic_views}
+use Rattle.topic_log.proofs.InOrder.{Ascends-from_rises}
 use Rattle.topic_log.proofs.OneTopic.{All-slice_get, IfSome-at, part_in, slice_get-some, writers-of}
 use Rattle.topic_log.proofs.ViewLemmas.{IsPartShelf-same, part-some, part_view-same, topics-same}
 
@@ -67,7 +70,7 @@ pair-at {A} {B} R was now len each k =
     ] in
     by (cases_lt k (length now))
 
-filter-none : {A : Type 0} (p : A → Bool) (xs : List A) → All (λ x. p x ≡ false) xs → filter p xs ≡ []
+pub filter-none : {A : Type 0} (p : A → Bool) (xs : List A) → All (λ x. p x ≡ false) xs → filter p xs ≡ []
 filter-none p [] h = refl
 filter-none p (x ∷ xs) h =
     cond-false (p x) (x ∷ filter p xs) (filter p xs) (All-head (λ x. p x ≡ false) x xs h) ∙ filter-none p xs (All-tail (λ x. p x ≡ false) x xs h)
@@ -132,7 +135,7 @@ not-in-topic : (topic q : ℕ) (r : SourceRecord) → ¬ (r.stamp.topic ≡ topi
 not-in-topic topic q r apart = and_left (r.stamp.topic == topic) (r.stamp.part == q) (ne_eqb r.stamp.topic topic apart)
 
 -- whether a record stands in a partition, from what would follow if it did
-not-in : (topic q : ℕ) (r : SourceRecord) → ((r.stamp.topic ≡ topic) → (r.stamp.part ≡ q) → ⊥) → is_in topic q r ≡ false
+pub not-in : (topic q : ℕ) (r : SourceRecord) → ((r.stamp.topic ≡ topic) → (r.stamp.part ≡ q) → ⊥) → is_in topic q r ≡ false
 not-in topic q r elsewhere =
     let by : (b : Bool) → is_in topic q r ≡ b → is_in topic q r ≡ false =
     λ b. elim b as (λ b. is_in topic q r ≡ b → is_in topic q r ≡ false) [
@@ -275,7 +278,7 @@ shown-is : (records : List SourceRecord) (topic q : ℕ) (op p : PartShelf) → 
 shown-is records topic q op p w = sym (append-nil p.shown.items) ∙ w.shown
 
 -- a source is closed up to the new feed, and what other topics show stays
-part-kept : (records : List SourceRecord) (fed topic q : ℕ) (op p : PartShelf) → Rises record_cmp records → All (λ r. r.stamp.feed ≡ fed + 1) records → WillShow records [] topic q op p →
+part-kept : (records : List SourceRecord) (fed topic q : ℕ) (op p : PartShelf) → Rises record_cmp (filter (is_in topic q) records) → All (λ r. r.stamp.feed ≡ fed + 1) records → WillShow records [] topic q op p →
     (ks : List TaskShelf) → (¬ (ks ≡ []) → filter (is_in topic q) records ≡ []) → IsPartShelf (lowest fed (λ k. k.done) ks) (map (λ k. k.done) ks) op →
     IsPartShelf (lowest (fed + 1) (λ k. k.done) ks) (map (λ k. k.done) ks) p
 part-kept records fed topic q op p rises of_feed w [] nowhere h =
@@ -284,7 +287,7 @@ part-kept records fed topic q op p rises of_feed w [] nowhere h =
     let shown : p.shown.items ≡ op.shown.items ++ map Fed new = shown-is records topic q op p w in
     record {
       in_order = subst IsInPlaceOrder (sym shown)
-          (order-next fed op.shown.items new h.in_order h.is_closed (AllPairs-filter (λ a b. record_cmp a b ≡ Less) (is_in topic q) records rises) of_new);
+          (order-next fed op.shown.items new h.in_order h.is_closed rises of_new);
       is_closed = subst (All (λ x. feed_in x ≤ fed + 1)) (sym shown) (All-append (λ x. feed_in x ≤ fed + 1) op.shown.items (map Fed new)
           (All-weaker (λ x. feed_in x ≤ fed) (λ x. feed_in x ≤ fed + 1) (λ x le. omega arith) op.shown.items h.is_closed)
           (All-map (λ x. feed_in x ≤ fed + 1) Fed new (All-weaker (λ r. r.stamp.feed ≡ fed + 1) (λ r. feed_in (Fed r) ≤ fed + 1) (λ r e. omega arith) new of_new)));
@@ -297,7 +300,7 @@ part-kept records fed topic q op p rises of_feed w (k ∷ ks) nowhere h =
     IsPartShelf-same (least (λ k. k.done) k ks) (map (λ k. k.done) (k ∷ ks)) op p
     (part_view-same op p (sym shown) (sym (ap (λ (ws : Vec (VecDeque Change Global)). map (λ w. w.items) ws.items) w.waiting))) h
 
-topic-kept : (records : List SourceRecord) (fed topic : ℕ) (o t : TopicShelf) → Rises record_cmp records → All (λ r. r.stamp.feed ≡ fed + 1) records →
+topic-kept : (records : List SourceRecord) (fed topic : ℕ) (o t : TopicShelf) → RiseApart records → All (λ r. r.stamp.feed ≡ fed + 1) records →
     ((q : ℕ) → ¬ (o.tasks.items ≡ []) → filter (is_in topic q) records ≡ []) → TopicWillShow records [] topic o t → IsTopicShelf fed o → IsTopicShelf (fed + 1) t
 topic-kept records fed topic o t rises of_feed nowhere w h = record {
   parts = w.len ∙ h.parts ∙ ap (λ (s : TopicSpec). s.partitions) (sym w.spec);
@@ -307,10 +310,10 @@ topic-kept records fed topic o t rises of_feed nowhere w h = record {
       let p : PartShelf = get_or t.parts.items q d in
       let op : (p : PartShelf) × (slice_get o.parts.items q ≡ Some p) = slice_get-some o.parts.items q (omega (arith, w.len)) in
       let shows : WillShow records [] topic q op.0 p = IfSome-at (λ old. WillShow records [] topic q old p) (slice_get o.parts.items q) op.0 op.1 (w.parts q d below) in
-      part-kept records fed topic q op.0 p rises of_feed shows o.tasks.items (nowhere q) (All-slice_get (IsPartShelf (closed_in fed o) (dones_of o)) o.parts.items q op.0 h.each op.1));
+      part-kept records fed topic q op.0 p (rises topic q) of_feed shows o.tasks.items (nowhere q) (All-slice_get (IsPartShelf (closed_in fed o) (dones_of o)) o.parts.items q op.0 h.each op.1));
 }
 
-pub shelves-next : (s next : Shelves) (records : List SourceRecord) → WillShowAll records [] s.topics.items next.topics.items → next.fed ≡ s.fed + 1 → Rises record_cmp records →
+pub shelves-next : (s next : Shelves) (records : List SourceRecord) → WillShowAll records [] s.topics.items next.topics.items → next.fed ≡ s.fed + 1 → RiseApart records →
     All (λ r. r.stamp.feed ≡ s.fed + 1) records → All (λ r. IsSourcePart s r.stamp.topic r.stamp.part) records → AreShelves s → AreShelves next
 shelves-next s next records shows fed rises of_feed sources h = record {
   topics = subst AreTopics (sym (topics-next s next records shows)) h.topics;
@@ -324,6 +327,29 @@ shelves-next s next records shows fed rises of_feed sources h = record {
       λ e. nil_from_length o.0.tasks.items (shelf.tasks ∙ ap length (sym (writers-of s k o.0 o.1) ∙ e)) in
       topic-kept records s.fed k o.0 t rises of_feed (λ q written. none-written (routes_in s) records k q (λ e. written (source e)) (sources-unwritten s records sources)) w shelf);
 }
+
+-- ---- the order in which records come
+
+-- records that rise also do so in each partition
+pub rise_apart : (records : List SourceRecord) → Rises record_cmp records → RiseApart records
+rise_apart records rises = λ topic q. AllPairs-filter (λ a b. record_cmp a b ≡ Less) (is_in topic q) records rises
+
+-- a partition shows the same whatever stands between its records
+pub feeds-ordered : (r : Routes) (records : List SourceRecord) (b next : Shelf) → RiseApart records → ShelfFeeds r records b next → ShelfFeeds r (ascending record_cmp records) b next
+feeds-ordered r records b next rises f = record {
+  fed = f.fed;
+  sources = λ topic q e. f.sources topic q e ∙ ap (λ (rs : List SourceRecord). b.shown topic q ++ map Fed rs) (sym (in-part topic q));
+  written = f.written;
+  waiting = f.waiting;
+  done = f.done;
+  newest = f.newest;
+  logs = f.logs;
+}
+  where
+    in-part : (topic q : ℕ) → filter (is_in topic q) (ascending record_cmp records) ≡ filter (is_in topic q) records
+    in-part topic q =
+        let own : List SourceRecord = filter (is_in topic q) records in
+        filter-ascending record_total (is_in topic q) records ∙ ascending-kept record_total own (Ascends-from_rises record_cmp own (rises topic q))
 
 -- ---- what was before the room was taken
 

@@ -6,7 +6,7 @@ use Rattle.std.specs.declared.cmp.Ordering.{Ordering}
 use Rattle.std.specs.declared.cmp.Ordering.TheVariants.{Less}
 use Rattle.std.specs.Ordering.{is_gt, nat_cmp, ordering_then}
 use Rattle.std.proofs.lemmas.Bool.Decides.{nat_tests}
-use Rattle.std.proofs.lemmas.List.Elements.{All-append, All-cons, All-head, All-map, All-nil, All-tail, All-weaker, All-from_recursion}
+use Rattle.std.proofs.lemmas.List.Elements.{All-append, All-cons, All-head, All-map, All-nil, All-tail, All-weaker, All-from_recursion, recursion_from_All}
 use Rattle.std.proofs.lemmas.List.Kept.{AllPairs-cons, AllPairs-filter}
 use Rattle.ksql_place.specs.Ascending.{ascending, placed, Rises}
 use Rattle.ksql_place.specs.Order.{place_cmp}
@@ -55,6 +55,14 @@ place_less a b low = first_less (nat_cmp a.stamp.feed b.stamp.feed) _ _ (nat_les
 
 pub change_less : (x y : Change) → feed_of x < feed_of y → change_cmp x y ≡ Less
 change_less x y low = place_less x.place y.place low
+
+-- a list that rises ascends
+pub Ascends-from_rises : {A : Type 0} (cmp : A → A → Ordering) (xs : List A) → Rises cmp xs → Ascends cmp xs
+Ascends-from_rises cmp [] up = tt
+Ascends-from_rises cmp (x ∷ xs) up = (
+  recursion_from_All (λ y. is_gt (cmp x y) ≡ false) xs (λ i d below. ap is_gt (up 0 (suc i) d (omega arith) (omega (arith, below)))),
+  Ascends-from_rises cmp xs (λ i j d low below. up (suc i) (suc j) d (omega (arith, low)) (omega (arith, below))),
+)
 
 -- ---- what waits
 

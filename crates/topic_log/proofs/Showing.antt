@@ -20,6 +20,7 @@ use Rattle.topic_log.specs.Ready.{waiting_len}
 use Rattle.topic_log.specs.declared.shelves.PartShelf.{PartShelf}
 use Rattle.topic_log.proofs.Choice.{change_total, due_downward}
 use Rattle.topic_log.proofs.Due.{AllAfter-due, Cut, EachAscends, EachAscends-at, EachAscends-set, NoneBefore-due, ascending-cut, filters-set, first_due, lengths-set, nothing_passes, passing, passing-cut}
+use Rattle.topic_log.proofs.InOrder.{Ascends-from_rises}
 
 late_not_due : (c n : ℕ) → nat_le n c ≡ true → nat_lt c n ≡ false
 late_not_due c n h = grind (arith, nat_tests)
@@ -55,16 +56,9 @@ merged_step c ls i x y rest up goes at =
     (subst (λ (w : Change). IfSome (get_or (dues c ls) j None) (λ z. is_gt (change_cmp w z) ≡ false)) (sym due.0) (goes.behind j low below)))) in
     (ascending-cut change_total x (passing (is_due c) ls) (passing (is_due c) (set ls i rest)) cut, due.1)
 
-pub Ascends-from_rises : (xs : List Change) → Rises change_cmp xs → Ascends change_cmp xs
-Ascends-from_rises [] up = tt
-Ascends-from_rises (x ∷ xs) up = (
-  recursion_from_All (λ y. is_gt (change_cmp x y) ≡ false) xs (λ i d below. ap is_gt (up 0 (suc i) d (omega arith) (omega (arith, below)))),
-  Ascends-from_rises xs (λ i j d low below. up (suc i) (suc j) d (omega (arith, low)) (omega (arith, below))),
-)
-
 EachAscends-from_all : {Q : Type 0} (items : Q → List Change) (ws : List Q) → AllByRecursion (λ w. Rises change_cmp (items w)) ws → EachAscends change_cmp (map items ws)
 EachAscends-from_all items [] up = tt
-EachAscends-from_all items (w ∷ ws) up = (Ascends-from_rises (items w) up.0, EachAscends-from_all items ws up.1)
+EachAscends-from_all items (w ∷ ws) up = (Ascends-from_rises change_cmp (items w) up.0, EachAscends-from_all items ws up.1)
 
 map-map : {A B C : Type 0} (f : B → C) (g : A → B) (xs : List A) → map (λ x. f (g x)) xs ≡ map f (map g xs)
 map-map f g [] = refl

@@ -1,11 +1,17 @@
 -- What a feed of records puts into partitions.
 use Rattle.std.specs.Prelude.{◌≡◌, ℕ, ◌+◌, ◌≤◌, List, ◌++◌, length, map, filter, IfSome, IsSome, option_and_then, slice_get, vec_capacity}
+use Rattle.ksql_place.specs.Ascending.{Rises}
+use Rattle.ksql_place.specs.Order.{record_cmp}
 use Rattle.ksql_place.specs.declared.change.SourceRecord.{SourceRecord}
 use Rattle.core_state.specs.declared.log.LogEntry.TheVariants.{Fed}
 use Rattle.core_state.specs.State.{is_in}
 use Rattle.topic_log.specs.declared.shelves.PartShelf.{PartShelf}
 use Rattle.topic_log.specs.declared.shelves.TopicShelf.{TopicShelf}
 use Rattle.topic_log.specs.Views.{EachAt}
+
+-- of some records those that stand in one partition rise, for each partition of each topic
+abbrev pub RiseApart : List SourceRecord → Type 0
+RiseApart records = (topic q : ℕ) → Rises record_cmp (filter (is_in topic q) records)
 
 -- how many of some records stand in a partition of a topic
 abbrev pub count_in : ℕ → ℕ → List SourceRecord → ℕ

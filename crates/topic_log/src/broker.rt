@@ -1,12 +1,13 @@
 //! The broker and its calls.
 ghost use Rattle.std.specs.Prelude.{◌≡◌, ℕ, ◌+◌, ◌<◌, ◌^◌, All, IfErr, IfOk, IsSome, OnErr, OnOk, Some, length};
-ghost use Rattle.ksql_place.specs.Ascending.{Rises};
+ghost use Rattle.ksql_place.specs.Ascending.{ascending};
 ghost use Rattle.ksql_place.specs.Order.{record_cmp};
 ghost use Rattle.ksql_place.specs.Routing.{partitions_of};
 ghost use Rattle.core_state.specs.declared.log.Proposal.{Proposal as OneProposal};
 ghost use Rattle.core_state.specs.Routes.{IsWriter};
 ghost use Rattle.core_state.specs.Shelf.{ShelfApplies, ShelfFeeds, ShelfOpens, ShelfRaises, ShelfStays, shelf_closed};
 ghost use Rattle.topic_log.specs.declared.prepared.Prepared.{Prepared as OnePrepared};
+ghost use Rattle.topic_log.specs.Feeding.{RiseApart};
 ghost use Rattle.topic_log.specs.Order.{IsInPlaceOrder};
 ghost use Rattle.topic_log.specs.Ready.{IsProposal, IsReady};
 ghost use Rattle.topic_log.specs.Shelves.{AreTopics, IsSourcePart, part_at, routes_in, shelf_of, task_at, topics_of};
@@ -64,15 +65,16 @@ impl Broker {
         Ok(Broker { inner, written })
     }
 
-    /// Makes a feed of records visible, and answers its number. The stamps of the records ascend, are of the feed after the
-    /// last one, and stand in partitions of topics that no task writes. After an error the broker has what it had.
+    /// Makes a feed of records visible, and answers its number. The records stand in partitions of topics that no task writes,
+    /// and come in any order in which the stamps of each partition rise. They are of the feed after the last one. After an
+    /// error the broker has what it had.
     pub fn feed(&mut self, alloc: Global, records: Vec<SourceRecord>) -> Result<u64, AllocError>
         requires room { self.old.fed + 1 < 2 ^ 64 }
-        requires ascends { Rises record_cmp records.items }
+        requires rises_apart { RiseApart records.items }
         requires next_feed { All (λ r. r.stamp.feed ≡ self.old.fed + 1) records.items }
         requires sources { All (λ r. IsSourcePart self.old r.stamp.topic r.stamp.part) records.items }
         ensures topics { topics_of self.new ≡ topics_of self.old }
-        ensures feeds { OnOk result (ShelfFeeds (routes_in self.old) records.items (shelf_of self.old) (shelf_of self.new)) }
+        ensures feeds { OnOk result (ShelfFeeds (routes_in self.old) (ascending record_cmp records.items) (shelf_of self.old) (shelf_of self.new)) }
         ensures number { IfOk result (λ feed. feed ≡ self.new.fed) }
         ensures kept { OnErr result (ShelfStays (routes_in self.old) (shelf_of self.old) (shelf_of self.new)) }
     {

@@ -1,9 +1,9 @@
 //! Feeds of records.
 ghost use Rattle.std.specs.Prelude.{◌≡◌, ◌+◌, ◌<◌, ◌^◌, [], All, IfOk, IfSome, OnErr, OnOk, length, map, slice_get, slice_index};
-ghost use Rattle.ksql_place.specs.Ascending.{Rises};
+ghost use Rattle.ksql_place.specs.Ascending.{ascending};
 ghost use Rattle.ksql_place.specs.Order.{record_cmp};
 ghost use Rattle.core_state.specs.Shelf.{ShelfFeeds, ShelfStays};
-ghost use Rattle.topic_log.specs.Feeding.{count_in, HasShownRoom, IsCounted, IsThere, WillShowAll};
+ghost use Rattle.topic_log.specs.Feeding.{count_in, HasShownRoom, IsCounted, IsThere, RiseApart, WillShowAll};
 ghost use Rattle.topic_log.specs.Shelves.{AreShelves, IsSourcePart, routes_in, shelf_of, topics_of};
 ghost use Rattle.topic_log.specs.Views.{part_view, topic_view, EachAt};
 
@@ -12,7 +12,8 @@ use core_state::LogEntry;
 use ksql_place::SourceRecord;
 use std::alloc::{AllocError, Global};
 
-/// Makes a feed of records visible, and answers its number. After an error the topics have what they had.
+/// Makes a feed of records visible, in each partition in the order in which its records come, and answers its number. After an
+/// error the topics have what they had.
 pub(crate) fn feed(
     shelves: &mut Shelves,
     alloc: Global,
@@ -20,12 +21,12 @@ pub(crate) fn feed(
 ) -> Result<u64, AllocError>
     requires shelves { AreShelves shelves.old }
     requires room { shelves.old.fed + 1 < 2 ^ 64 }
-    requires ascends { Rises record_cmp records.items }
+    requires rises_apart { RiseApart records.items }
     requires next_feed { All (λ r. r.stamp.feed ≡ shelves.old.fed + 1) records.items }
     requires sources { All (λ r. IsSourcePart shelves.old r.stamp.topic r.stamp.part) records.items }
     ensures shelves { AreShelves shelves.new }
     ensures topics { topics_of shelves.new ≡ topics_of shelves.old }
-    ensures feeds { OnOk result (ShelfFeeds (routes_in shelves.old) records.items (shelf_of shelves.old) (shelf_of shelves.new)) }
+    ensures feeds { OnOk result (ShelfFeeds (routes_in shelves.old) (ascending record_cmp records.items) (shelf_of shelves.old) (shelf_of shelves.new)) }
     ensures number { IfOk result (λ feed. feed ≡ shelves.new.fed) }
     ensures kept { OnErr result (ShelfStays (routes_in shelves.old) (shelf_of shelves.old) (shelf_of shelves.new)) }
 {

@@ -2,6 +2,7 @@ ghost use Rattle.std.specs.Prelude.{◌≡◌, ℕ, ◌<◌, [], All, IfOk, IsSo
 ghost use Rattle.ksql_place.specs.Ascending.{Rises};
 ghost use Rattle.ksql_place.specs.Order.{record_cmp};
 ghost use Rattle.core_state.specs.Routes.{IsWriter, routes_of};
+ghost use Rattle.topic_log.specs.Feeding.{RiseApart};
 ghost use Rattle.topic_log.specs.Ready.{IsProposal};
 ghost use Rattle.topic_log.specs.Shelves.{AreTopics, part_at, routes_in, shelf_of, topics_of};
 
@@ -131,17 +132,29 @@ fn source_record(alloc: Global, stamp: Stamp) -> SourceRecord
     }
 }
 
-/// Two records in partition 0 of topic 0, and one in partition 1.
+/// Two records in partition 0 of topic 0.
+fn two_records(alloc: Global) -> Result<Vec<SourceRecord>, AllocError>
+    ensures rises { IfOk result (λ records. Rises record_cmp records.items) }
+    ensures feed { IfOk result (λ records. All (λ r. r.stamp.feed ≡ 1) records.items) }
+    ensures topic { IfOk result (λ records. All (λ r. r.stamp.topic ≡ 0) records.items) }
+    ensures part { IfOk result (λ records. All (λ r. r.stamp.part ≡ 0) records.items) }
+{
+    let first = source_record(alloc, stamp(0, 0));
+    let second = source_record(alloc, stamp(0, 1));
+    Ok(vec![in alloc; first, second]?)
+}
+
+/// A record in partition 1 of topic 0, and then two in partition 0, which go before it in the order of consumption.
 fn three_records(alloc: Global) -> Result<Vec<SourceRecord>, AllocError>
-    ensures ascends { IfOk result (λ records. Rises record_cmp records.items) }
+    ensures apart { IfOk result (λ records. RiseApart records.items) }
     ensures feed { IfOk result (λ records. All (λ r. r.stamp.feed ≡ 1) records.items) }
     ensures topic { IfOk result (λ records. All (λ r. r.stamp.topic ≡ 0) records.items) }
     ensures part { IfOk result (λ records. All (λ r. r.stamp.part < 2) records.items) }
 {
-    let first = source_record(alloc, stamp(0, 0));
-    let second = source_record(alloc, stamp(0, 1));
-    let third = source_record(alloc, stamp(1, 0));
-    Ok(vec![in alloc; first, second, third]?)
+    let mut others = two_records(alloc)?;
+    let mut records = vec![in alloc; source_record(alloc, stamp(1, 0))]?;
+    records.append(&mut others)?;
+    Ok(records)
 }
 
 /// Feeds the three records to a broker whose topic 0 is a source of two partitions.

@@ -1,9 +1,7 @@
 -- One source is fed after another.
-use Rattle.std.proofs.Common.{◌≡◌, ◌∙◌, ap, sym, subst, ℕ, List, [], length}
+use Rattle.std.proofs.Common.{◌≡◌, ◌∙◌, sym, subst, ℕ, List, [], length}
 use Rattle.std.specs.Vec.Iter.{into_iter_items}
 use Rattle.std.proofs.lemmas.List.{nil_from_length}
-use Rattle.ksql_place.specs.Ascending.{ascending}
-use Rattle.ksql_place.specs.Order.{record_cmp}
 use Rattle.ksql_place.specs.declared.change.SourceRecord.{SourceRecord}
 use Rattle.feed_laws.specs.Feeds.{Source}
 use Rattle.cluster_core.specs.Progress.{taken}
@@ -50,6 +48,4 @@ pub returns-clause-records : goal.returns-clause-records
 returns-clause-records c ss kept ready =
     let left : List Kept = into_iter_items c.loop-source.source-iterator in
     let ended : length left ≡ 0 = sym c.loop-source.source-iterator.rest.ok.0 ∙ c.in-None.ensures.steps.0 in
-    c.in_ok-order_of.ensures
-    ∙ ap (ascending record_cmp)
     (fed-all c.args.feed (taken c.args.step.now) ss left c.loop-source.after.items c.loop-source.records.items (nil_from_length left ended) (c.loop-source.invariant ss kept ready)).1

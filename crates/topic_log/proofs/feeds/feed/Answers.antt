@@ -13,7 +13,7 @@ use Rattle.topic_log.specs.Shelves.{routes_in, shelf_of}
 use Rattle.topic_log.specs.Views.{EachAt}
 use Rattle.topic_log.proofs.Counted.{rooms-counted}
 use Rattle.topic_log.proofs.EachPlace.{EachAt-weaker}
-use Rattle.topic_log.proofs.Fed.{feeds-after, feeds-next, shelves-next, sources-same, sources-there, topics-next}
+use Rattle.topic_log.proofs.Fed.{feeds-after, feeds-next, feeds-ordered, shelves-next, sources-same, sources-there, topics-next}
 use Rattle.topic_log.proofs.ViewLemmas.{AreShelves-same, stays, topics-same}
 use Rattle.topic_log.proofs.feeds.feed.Goals as goal
 
@@ -74,7 +74,7 @@ returns-clause-shelves c =
     let s : Shelves = c.args.shelves.now in
     let reserved : Shelves = record { fed = s.fed; topics = c.reserve_topics.new.topics } in
     let next : Shelves = record { fed = s.fed + 1; topics = c.show_all.new.topics } in
-    shelves-next reserved next c.args.records.items c.show_all.ensures refl c.requires.ascends c.requires.next_feed
+    shelves-next reserved next c.args.records.items c.show_all.ensures refl c.requires.rises_apart c.requires.next_feed
     (sources-same s reserved c.args.records.items c.reserve_topics.ensures.views c.requires.sources) (AreShelves-same s reserved c.reserve_topics.ensures.views refl c.requires.shelves)
 
 pub returns-clause-topics : goal.returns-clause-topics
@@ -90,6 +90,7 @@ returns-clause-feeds c =
     let reserved : Shelves = record { fed = s.fed; topics = c.reserve_topics.new.topics } in
     let next : Shelves = record { fed = s.fed + 1; topics = c.show_all.new.topics } in
     let records : List SourceRecord = c.args.records.items in
-    feeds-after (routes_in s) records (shelf_of s) (shelf_of reserved) (shelf_of next) (stays s reserved c.reserve_topics.ensures.views refl)
+    feeds-ordered (routes_in s) records (shelf_of s) (shelf_of next) c.requires.rises_apart
+    (feeds-after (routes_in s) records (shelf_of s) (shelf_of reserved) (shelf_of next) (stays s reserved c.reserve_topics.ensures.views refl)
     (subst (λ (topics : List TopicSpec). ShelfFeeds (routes_of topics) records (shelf_of reserved) (shelf_of next)) (topics-same s reserved c.reserve_topics.ensures.views)
-    (feeds-next reserved next records c.show_all.ensures refl (sources-same s reserved records c.reserve_topics.ensures.views c.requires.sources)))
+    (feeds-next reserved next records c.show_all.ensures refl (sources-same s reserved records c.reserve_topics.ensures.views c.requires.sources))))

@@ -1,9 +1,9 @@
 -- A feed: its records stand in the broker's source partitions, and the state stays good.
 use Rattle.std.proofs.Common.{◌≡◌, ◌∙◌, ap, ap₂, refl, sym, subst, ℕ, ◌+◌, ◌≤◌, List, [], ◌∷◌, ◌++◌, length, rules}
-use Rattle.std.specs.Prelude.{All}
+use Rattle.std.specs.Prelude.{All, flat_map}
 use Rattle.std.specs.List.{AllByRecursion}
 use Rattle.std.proofs.lemmas.List.Elements.{recursion_from_All}
-use Rattle.ksql_place.specs.Ascending.{Rises}
+use Rattle.ksql_place.specs.Ascending.{ascending}
 use Rattle.ksql_place.specs.Order.{record_cmp}
 use Rattle.ksql_place.specs.declared.change.SourceRecord.{SourceRecord}
 use Rattle.ksql_program.specs.declared.program.Item.{Item}
@@ -12,15 +12,17 @@ use Rattle.topology.specs.Topologies.{topology_of}
 use Rattle.topology.specs.declared.topology.Topology.{Topology}
 use Rattle.core_state.specs.Shelf.{ShelfFeeds}
 use Rattle.core_state.specs.declared.journal.JournalEntry.TheVariants as entry
+use Rattle.topic_log.specs.Feeding.{RiseApart}
 use Rattle.topic_log.specs.Shelves.{AreTopics, IsSourcePart, routes_in, shelf_of, topics_of}
 use Rattle.topic_log.specs.declared.shelves.Shelves.{Shelves}
-use Rattle.feed_laws.specs.Feeds.{Source, records_of}
+use Rattle.feed_laws.specs.Feeds.{Source, fed_of}
 use Rattle.feed_laws.specs.Fitting.{IsSourceOf}
 use Rattle.cluster_core.specs.Cluster.{HasCome}
 use Rattle.cluster_core.specs.Progress.{Progress, taken}
 use Rattle.cluster_core.specs.declared.cluster.Cluster.{Cluster}
 use Rattle.cluster_core.specs.declared.sources.Source.{Source as Kept}
-use Rattle.cluster_core.proofs.Feeding.{feed-come, records-are, sources-are}
+use Rattle.cluster_core.proofs.Apart.{fed-apart, fed-feeds, fed-many}
+use Rattle.cluster_core.proofs.Feeding.{all-can-feed, feed-come, records-are, sources-are}
 use Rattle.cluster_core.proofs.SourceParts.{all-there, fed-there}
 use Rattle.cluster_core.proofs.Topics.{are-topics}
 use Rattle.cluster_core.proofs.cluster.Cluster.fed.Goals as goal
@@ -40,15 +42,16 @@ ask_parts-requires-clause-numbered c =
     let come = c.requires.come in
     subst AreTopics (ap (λ (t : Topology). t.topics) (sym come.3.topology) ∙ sym c.items.ensures) (are-topics come.0 come.2)
 
-pub feed-requires-clause-ascends : goal.feed-requires-clause-ascends
-feed-requires-clause-ascends c =
+pub feed-requires-clause-rises_apart : goal.feed-requires-clause-rises_apart
+feed-requires-clause-rises_apart c =
     let items : List Item = c.requires.come.0 in
     let p : Progress = c.requires.come.1 in
     let come : HasCome items p c.args.self = c.requires.come.3 in
     let count : Source → ℕ = taken c.args.step.now in
-    let records : c.in_ok-sources.records.items ≡ records_of (p.fed + 1) count p.sources =
+    let records : c.in_ok-sources.records.items ≡ flat_map (fed_of (p.fed + 1) count) p.sources =
     records-are items p count come.progress c.args.self.sources.items come.sources c.fed-feed.result (c.fed-feed.ensures ∙ come.fed) c.in_ok-sources.records.items c.in_ok-sources.ensures.records in
-    subst (λ (rs : List SourceRecord). Rises record_cmp rs) (sym records) (c.feeds_fit.ensures.rises items p.fed count p.sources come.progress.sources).0
+    subst RiseApart (sym records)
+    (fed-apart (p.fed + 1) count p.sources come.progress.sources.apart (all-can-feed items p.fed p.sources come.progress.sources) (c.feeds_fit.ensures.rises items p.fed count p.sources come.progress.sources).0)
 
 pub feed-requires-clause-next_feed : goal.feed-requires-clause-next_feed
 feed-requires-clause-next_feed c =
@@ -56,11 +59,11 @@ feed-requires-clause-next_feed c =
     let p : Progress = c.requires.come.1 in
     let come : HasCome items p c.args.self = c.requires.come.3 in
     let count : Source → ℕ = taken c.args.step.now in
-    let records : c.in_ok-sources.records.items ≡ records_of (p.fed + 1) count p.sources =
+    let records : c.in_ok-sources.records.items ≡ flat_map (fed_of (p.fed + 1) count) p.sources =
     records-are items p count come.progress c.args.self.sources.items come.sources c.fed-feed.result (c.fed-feed.ensures ∙ come.fed) c.in_ok-sources.records.items c.in_ok-sources.ensures.records in
     subst (λ (rs : List SourceRecord). All (λ r. r.stamp.feed ≡ c.args.self.broker.fed + 1) rs) (sym records)
-    (subst (λ (n : ℕ). All (λ (r : SourceRecord). r.stamp.feed ≡ n + 1) (records_of (p.fed + 1) count p.sources)) (sym come.fed)
-    (c.feeds_fit.ensures.rises items p.fed count p.sources come.progress.sources).1)
+    (subst (λ (n : ℕ). All (λ (r : SourceRecord). r.stamp.feed ≡ n + 1) (flat_map (fed_of (p.fed + 1) count) p.sources)) (sym come.fed)
+    (fed-feeds (p.fed + 1) count p.sources))
 
 pub feed-requires-clause-sources : goal.feed-requires-clause-sources
 feed-requires-clause-sources c =
@@ -70,7 +73,7 @@ feed-requires-clause-sources c =
     let count : Source → ℕ = taken c.args.step.now in
     let b : Shelves = c.args.self.broker in
     let kept : List Kept = c.args.self.sources.items in
-    let records : c.in_ok-sources.records.items ≡ records_of (p.fed + 1) count p.sources =
+    let records : c.in_ok-sources.records.items ≡ flat_map (fed_of (p.fed + 1) count) p.sources =
     records-are items p count come.progress kept come.sources c.fed-feed.result (c.fed-feed.ensures ∙ come.fed) c.in_ok-sources.records.items c.in_ok-sources.ensures.records in
     let each : AllByRecursion (IsSourceOf items p.fed) p.sources = each-source items p c.args.self come in
     subst (λ (rs : List SourceRecord). All (λ r. IsSourcePart b r.stamp.topic r.stamp.part) rs) (sym records)
@@ -93,7 +96,7 @@ returns c items p sound come =
       journal = c.push.new.self;
     } in
     let number : c.fed-feed.result ≡ p.fed = c.fed-feed.ensures ∙ come.fed in
-    let records : c.in_ok-sources.records.items ≡ records_of (p.fed + 1) count p.sources =
+    let records : c.in_ok-sources.records.items ≡ flat_map (fed_of (p.fed + 1) count) p.sources =
     records-are items p count come.progress old.sources.items come.sources c.fed-feed.result number c.in_ok-sources.records.items c.in_ok-sources.ensures.records in
     let long : c.len.result ≡ length c.in_ok-sources.records.items = search rules in
     feed-come items p count come.progress (c.feeds_fit.ensures.rises items p.fed count p.sources come.progress.sources).1
@@ -106,9 +109,9 @@ returns c items p sound come =
       seats = refl;
       rounds = refl;
       topics = c.in_ok-feed.ensures.topics;
-      feeds = subst (λ (rs : List SourceRecord). ShelfFeeds (routes_in old.broker) rs (shelf_of old.broker) (shelf_of c.feed.new.self)) records c.in_ok-feed.ensures.feeds;
+      feeds = subst (λ (rs : List SourceRecord). ShelfFeeds (routes_in old.broker) rs (shelf_of old.broker) (shelf_of c.feed.new.self)) (ap (ascending record_cmp) records) c.in_ok-feed.ensures.feeds;
       journal =
           c.in_ok-push.ensures.items
-          ∙ ap₂ (λ (n m : ℕ). old.journal.items ++ entry.Fed (n + 1) m ∷ []) number (long ∙ ap length records);
+          ∙ ap₂ (λ (n m : ℕ). old.journal.items ++ entry.Fed (n + 1) m ∷ []) number (long ∙ ap length records ∙ fed-many (p.fed + 1) count p.sources);
       sources = sources-are items p count come.progress old.sources.items come.sources c.fed-feed.result number c.in_ok-sources.sources.items c.in_ok-sources.ensures.sources;
     })
