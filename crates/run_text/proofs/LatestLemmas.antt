@@ -1,5 +1,5 @@
 -- The latest line of each row: from the last line on they go into a set, which keeps the first that comes of each row.
-use Rattle.std.proofs.Common.{◌≡◌, ◌∙◌, Bor, List, [], ◌∷◌, ◌++◌, Bool, true, false, ◌||◌, cond, map, reverse, if◌then◌else◌, refl, sym, ap, ap₂}
+use Rattle.std.proofs.Common.{◌≡◌, ◌∙◌, List, [], ◌∷◌, ◌++◌, Bool, true, false, ◌||◌, cond, map, reverse, if◌then◌else◌, refl, sym, ap, ap₂}
 use Rattle.std.proofs.Math.Bool.{or_comm}
 use Rattle.std.proofs.lemmas.List.{reverse-append}
 use Rattle.std.proofs.lemmas.List.Folds.{list_any-append}
@@ -10,13 +10,11 @@ use Rattle.std.specs.Cmp.{eq_by_cmp_equiv}
 use Rattle.std.specs.List.{list_any}
 use Rattle.std.specs.Ordering.{is_eq}
 use Rattle.indexmap.specs.IndexSet.{insert_all, insert_key}
-use Rattle.ksql_types.specs.declared.value.Value.{Value}
 use Rattle.run_text.specs.Lines.{shown_of}
 use Rattle.run_text.specs.Printed.{Shown}
 use Rattle.run_text.specs.Report.{is_same_row, latest_of, row_cmp}
 use Rattle.run_text.specs.RowOrder.{lines_total, row-ties}
-use Rattle.run_text.specs.declared.printed.Line.{Line}
-use Rattle.run_text.proofs.TableLemmas.{is_some-lent}
+use Rattle.run_text.specs.declared.line.Line.{Line}
 
 -- whether two lines are of the same row
 abbrev pub is_same_line : Line → Line → Bool
@@ -78,13 +76,12 @@ unfolding newest
 latest-gathered lines = latest-newest lines
 
 -- lines with a row show one
-pub shown-with_row : (lines : List Line) → map shown_of (filter (λ line. is_some line.row) lines) ≡ filter (λ s. is_some s.row) (map shown_of lines)
+pub shown-with_row : (lines : List Line) → map shown_of (filter (λ line. is_some (shown_of line).row) lines) ≡ filter (λ s. is_some s.row) (map shown_of lines)
 shown-with_row [] = refl
-shown-with_row (a ∷ lines) =
-    ap (λ b. map shown_of (cond b (a ∷ kept) kept)) (sym (is_some-lent (λ (row : Bor (List Value)). row.now) a.row)) ∙ by (is_some (shown_of a).row) (shown-with_row lines)
+shown-with_row (a ∷ lines) = by (is_some (shown_of a).row) (shown-with_row lines)
   where
     kept : List Line
-    kept = filter (λ line. is_some line.row) lines
+    kept = filter (λ line. is_some (shown_of line).row) lines
 
     some : List Shown
     some = filter (λ s. is_some s.row) (map shown_of lines)

@@ -1,12 +1,12 @@
 -- What one more record gives a declared stream or table, and the keys that have a row after it.
 use Rattle.std.proofs.Common.{◌≡◌, ◌∙◌, ap, ap₂, refl, sym, ℕ, List, [], ◌∷◌, ◌++◌, Bool, true, false, cond, append_assoc}
 use Rattle.std.specs.Prelude.{filter, flat_map, if◌then◌else◌, is_some, ◌==◌, ◌||◌, option_and_then, option_map, Option, Some, None}
-use Rattle.std.specs.BTreeSet.{BTreeSet, Updates}
 use Rattle.std.specs.Cmp.Lexicographic.{slice_cmp}
 use Rattle.std.specs.List.{last_or}
 use Rattle.std.specs.Ordering.{is_eq}
 use Rattle.std.proofs.lemmas.List.{append-nil, map-append}
 use Rattle.std.proofs.lemmas.List.Elements.{filter-append}
+use Rattle.indexmap.specs.IndexSet.{IndexSet, Updates}
 use Rattle.ksql_types.specs.declared.relation.Kind.{Kind}
 use Rattle.ksql_types.specs.declared.relation.Kind.TheVariants.{Stream, Table, Windowed}
 use Rattle.ksql_types.specs.declared.value.Value.{Value}
@@ -27,7 +27,8 @@ use Rattle.query_meaning.specs.Plain.{changes_by, said_to}
 use Rattle.query_meaning.proofs.ChangeByChange.{changed-from-side}
 use Rattle.run_text.specs.Printed.{Shown}
 use Rattle.run_text.specs.Report.{cell_cmp}
-use Rattle.run_text.specs.RowKeys.{as_fed, key_cmp, AreRowKeys}
+use Rattle.run_text.specs.Lines.{row_brought}
+use Rattle.run_text.specs.RowKeys.{as_fed, is_equal_key, AreRowKeys}
 use Rattle.run_text.specs.RowOrder.{key-ties}
 use Rattle.run_text.specs.declared.row_keys.LentKey.{LentKey}
 
@@ -84,6 +85,20 @@ saying-stream : (stamp : Stamp) (time : ℕ) (key : List Value) (value : Decoded
 saying-stream stamp time key (Good row) = refl
 saying-stream stamp time key Tombstone = refl
 saying-stream stamp time key Skipped = refl
+
+-- a record that says a row, or that there is none, brings it
+pub row_brought-said : (kind : Kind) (key : List Value) (value : Decoded) (row : Option Row) →
+    Some row ≡ option_map row_in (said_by kind key value) → row_brought value ≡ row
+row_brought-said Stream key (Good r) row is = cc
+row_brought-said Stream key Tombstone row is = cc
+row_brought-said Stream key Skipped row is = cc
+row_brought-said Table [] (Good r) row is = cc
+row_brought-said Table [] Tombstone row is = cc
+row_brought-said Table [] Skipped row is = cc
+row_brought-said Table (k ∷ ks) (Good r) row is = cc
+row_brought-said Table (k ∷ ks) Tombstone row is = cc
+row_brought-said Table (k ∷ ks) Skipped row is = cc
+row_brought-said Windowed key value row is = cc
 
 -- a record of the topic, by what it says
 pub said_to-table : (number : ℕ) (x : SourceRecord) (said : Option (Option Row)) → (x.stamp.topic == number) ≡ true →
@@ -195,9 +210,9 @@ has_row-more number before x row key one =
     by false = refl
 
 -- the set of keys, one record later
-pub row_keys-more : (number : ℕ) (before : List SourceRecord) (x : SourceRecord) (row : Option Row) (old new : BTreeSet LentKey) (key : LentKey) (stays : Bool) →
+pub row_keys-more : (number : ℕ) (before : List SourceRecord) (x : SourceRecord) (row : Option Row) {S : Type 0} (old new : IndexSet LentKey S) (key : LentKey) (stays : Bool) →
     said_to Table number (x ∷ []) ≡ change_by x (Turned None row) ∷ [] → key.cells.now ≡ x.key → stays ≡ is_some row →
-    AreRowKeys old (from_side 0 (said_to Table number before)) → Updates key_cmp old new key stays →
+    AreRowKeys old (from_side 0 (said_to Table number before)) → Updates is_equal_key old new key stays →
     AreRowKeys new (from_side 0 (said_to Table number (before ++ x ∷ [])))
 row_keys-more number before x row old new key stays one is_key is_stays so_far turned =
     λ q.

@@ -1,8 +1,8 @@
 -- The keys of a table that have a row, and the lines of its changes.
-use Rattle.std.specs.Prelude.{◌≡◌, ℕ, List, map, is_some}
-use Rattle.std.specs.BTreeSet.{BTreeSet, contains}
+use Rattle.std.specs.Prelude.{◌≡◌, ℕ, List, Bool, map, is_some}
 use Rattle.std.specs.Cmp.Lexicographic.{slice_cmp}
-use Rattle.std.specs.declared.cmp.Ordering.{Ordering}
+use Rattle.std.specs.Ordering.{is_eq}
+use Rattle.indexmap.specs.IndexSet.{IndexSet, contains}
 use Rattle.ksql_types.specs.declared.relation.Kind.TheVariants.{Table}
 use Rattle.ksql_place.specs.declared.change.Change.{Change}
 use Rattle.ksql_place.specs.declared.change.SourceRecord.{SourceRecord}
@@ -14,13 +14,13 @@ use Rattle.run_text.specs.Report.{cell_cmp}
 use Rattle.run_text.specs.declared.declared.TableLines.{TableLines}
 use Rattle.run_text.specs.declared.row_keys.LentKey.{LentKey}
 
--- keys are in the order of rows
-abbrev pub key_cmp : LentKey → LentKey → Ordering
-key_cmp a b = slice_cmp cell_cmp a.cells.now b.cells.now
+-- keys are equal where no value of them differs
+abbrev pub is_equal_key : LentKey → LentKey → Bool
+is_equal_key a b = is_eq (slice_cmp cell_cmp a.cells.now b.cells.now)
 
 -- the keys are those that have a row after some entries
-abbrev pub AreRowKeys : BTreeSet LentKey → List Entry → Type 0
-AreRowKeys keys es = (key : LentKey) → contains key_cmp keys key ≡ is_some (row_after (of_key key.cells.now es))
+abbrev pub AreRowKeys : {S : Type 0} → IndexSet LentKey S → List Entry → Type 0
+AreRowKeys keys es = (key : LentKey) → contains is_equal_key keys key ≡ is_some (row_after (of_key key.cells.now es))
 
 -- changes, each in the partition in which its record stands
 abbrev pub as_fed : List Change → List Shown

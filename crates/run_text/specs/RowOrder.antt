@@ -17,7 +17,7 @@ use Rattle.run_text.specs.KeyOrder.{keys_total}
 use Rattle.run_text.specs.Lines.{shown_of}
 use Rattle.run_text.specs.Printed.{Shown}
 use Rattle.run_text.specs.Report.{cell_cmp, is_same_row, is_same_window, row_cmp, span_cmp}
-use Rattle.run_text.specs.declared.printed.Line.{Line}
+use Rattle.run_text.specs.declared.line.Line.{Line}
 
 -- values that tie are the same
 cell-ties : (a b : Value) → is_same_value a b ≡ eq_by_cmp cell_cmp a b
@@ -48,6 +48,10 @@ window-ties _ _ = refl
 pub key-ties : (a b : List Value) → is_same_key a b ≡ is_eq (slice_cmp cell_cmp a b)
 unfolding is_same_key
 key-ties a b = lists_ties cell_cmp cell-ties a b
+
+-- keys that tie are equal
+pub key-same : (a b : List Value) → is_eq (slice_cmp cell_cmp a b) ≡ true → a ≡ b
+key-same a b tie = (key-decides a b).0 (key-ties a b ∙ tie)
 
 -- changes tie where they are of the same row
 pub row-ties : (a b : Shown) → is_same_row a b ≡ is_eq (row_cmp a b)

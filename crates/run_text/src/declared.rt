@@ -8,13 +8,12 @@ ghost use Rattle.query_meaning.specs.Plain.{changes_by, rows_said};
 ghost use Rattle.run_text.specs.Lines.{shown_of};
 ghost use Rattle.run_text.specs.RowKeys.{as_fed, AreTableLines};
 
-use crate::printed::Line;
+use crate::line::Line;
 use crate::row_keys::{LentKey, RowKeys, turn};
-use crate::section::line_of_record;
+use indexmap::IndexSet;
 use ksql_place::{SourceRecord, said_by};
 use ksql_types::{Kind, Relation};
 use std::alloc::{AllocError, Global};
-use std::collections::BTreeSet;
 
 /// The lines of a table's changes so far, and the keys that have a row after them.
 #[derive(Drop)]
@@ -67,8 +66,8 @@ fn push_row<'a>(
         return Ok(());
     }
     match said_by(Kind::Stream, &fed.key, &fed.value) {
-        Some(row) => {
-            lines.push(line_of_record(fed.stamp.part, fed, row))?;
+        Some(_) => {
+            lines.push(Line::of_record(fed.stamp.part, fed))?;
             Ok(())
         }
         None => Ok(()),
@@ -86,7 +85,7 @@ fn table_lines<'a>(
 {
     let mut table = TableLines {
         lines: Vec::with_capacity(alloc, records.len())?,
-        rows: BTreeSet::new(alloc),
+        rows: IndexSet::new(alloc),
     };
     for fed in records {
         table.push(number, fed)?;
@@ -112,7 +111,7 @@ impl<'a> TableLines<'a> {
         };
         let had = turn(&mut self.rows, key, row.is_some())?;
         if had || row.is_some() {
-            self.lines.push(line_of_record(fed.stamp.part, fed, row))?;
+            self.lines.push(Line::of_record(fed.stamp.part, fed))?;
         }
         Ok(())
     }

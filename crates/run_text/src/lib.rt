@@ -3,6 +3,7 @@
 
 mod broker_text;
 mod declared;
+mod line;
 mod printed;
 mod program_report;
 mod row_keys;

@@ -5,22 +5,12 @@ ghost use Rattle.topic_files.specs.Printed.{printed_by};
 ghost use Rattle.run_text.specs.Lines.{shown_of};
 ghost use Rattle.run_text.specs.Printed.{cells_text, change_line, fields_text, key_text, order_line, row_line, row_text, span_text};
 
+use crate::line::Line;
 use itoa::Buffer;
 use ksql_place::SourceRecord;
 use ksql_types::{Span, Value};
 use std::alloc::{AllocError, Global};
 use topic_files::{Printer, push_printed};
-
-/// A line of a relation's section: the partition in which a change stands, its time, its key and window, and the row that
-/// it leaves, where there is one.
-#[derive(Clone, Copy, Drop)]
-pub struct Line<'a> {
-    pub part: u32,
-    pub time: u64,
-    pub key: &'a [Value],
-    pub span: Option<Span>,
-    pub row: Option<&'a [Value]>,
-}
 
 /// Appends a number.
 fn push_number(out: &mut String, number: u64) -> Result<(), AllocError>
@@ -114,11 +104,12 @@ fn push_fields(
 ) -> Result<(), AllocError>
     ensures { OnOk result (string_bytes out.new ≡ string_bytes out.old ++ fields_text (printed_by printer.now) (shown_of line.entry)) }
 {
-    push_time(out, line.time)?;
-    push_key(out, alloc, line.key)?;
-    push_span(out, line.span)?;
+    let told = line.told;
+    push_time(out, told.time())?;
+    push_key(out, alloc, told.key())?;
+    push_span(out, told.span())?;
     out.push_str(",\"v\":")?;
-    push_row(out, alloc, printer, line.row)?;
+    push_row(out, alloc, printer, told.row())?;
     out.push_str("}\n")
 }
 
@@ -152,15 +143,34 @@ pub fn push_row_line(
     push_fields(out, alloc, printer, line)
 }
 
+/// Appends a blank and a number.
+#[tactic(auto, using(crate::proofs::ReportLemmas::appends))]
+fn push_next(out: &mut String, number: u64) -> Result<(), AllocError>
+    ensures { OnOk result (string_bytes out.new ≡ string_bytes out.old ++ (codes " " ++ decimal number)) }
+{
+    out.push_str(" ")?;
+    push_number(out, number)
+}
+
+/// Appends the offset and the time of a record, each after a blank, up to the end of the line.
+#[tactic(auto, using(crate::proofs::ReportLemmas::appends))]
+fn push_offset_and_time(out: &mut String, fed: &SourceRecord) -> Result<(), AllocError>
+    ensures { OnOk result (string_bytes out.new ≡ string_bytes out.old
+        ++ (codes " " ++ (decimal fed.now.stamp.offset ++ (codes " " ++ (decimal fed.now.time ++ codes "\n"))))) }
+{
+    push_next(out, fed.stamp.offset)?;
+    push_next(out, fed.time)?;
+    out.push_str("\n")
+}
+
 /// Appends the line of a record that was fed from this topic.
-#[tactic(auto, unfolding(crate::specs::Printed::order_line))]
+#[tactic(auto, using(crate::proofs::ReportLemmas::appends), unfolding(crate::specs::Printed::order_line))]
 pub fn push_order_line(out: &mut String, topic: &str, fed: &SourceRecord) -> Result<(), AllocError>
     ensures { OnOk result (string_bytes out.new ≡ string_bytes out.old ++ order_line topic.now fed.now) }
 {
-    let stamp = fed.stamp;
-    writeln!(
-        out,
-        "{} {topic} {} {} {}",
-        stamp.feed, stamp.part, stamp.offset, fed.time
-    )
+    push_number(out, fed.stamp.feed)?;
+    out.push_str(" ")?;
+    out.push_str(topic)?;
+    push_next(out, fed.stamp.part as u64)?;
+    push_offset_and_time(out, fed)
 }

@@ -8,7 +8,7 @@ ghost use Rattle.run_text.specs.Report.{row_cmp};
 ghost use Rattle.run_text.specs.RowOrder.{lines_total};
 ghost use Rattle.run_text.specs.RowHash.{cell_fed, cells_fed, row_fed, span_fed, same_fed};
 
-use crate::printed::Line;
+use crate::line::Line;
 use crate::rows::cmp_row;
 use ksql_types::{Span, Value};
 use std::hash::{Hash, Hasher};
@@ -33,13 +33,13 @@ impl Hash for Line<'_> {
     ghost respects_eq = { λ a b same. same_fed (shown_of a) (shown_of b) same };
 
     fn hash<H: Hasher>(&self, state: &mut H) {
-        hash_cells(self.key, state);
-        hash_span(self.span, state);
+        hash_cells(self.told.key(), state);
+        hash_span(self.told.span(), state);
     }
 }
 
 /// Feeds a key to a hasher.
-fn hash_cells<H: Hasher>(cells: &[Value], state: &mut H)
+pub fn hash_cells<H: Hasher>(cells: &[Value], state: &mut H)
     ensures { state.new ≡ fold H.write state.old (cells_fed cells.now) }
 {
     for cell in cells {

@@ -7,7 +7,7 @@ ghost use Rattle.ksql_place.specs.Ascending.{ascending};
 ghost use Rattle.run_text.specs.Lines.{shown_of};
 ghost use Rattle.run_text.specs.Report.{cell_cmp, latest_of, rank, row_cmp, rows_of, span_cmp, table_rows};
 
-use crate::printed::Line;
+use crate::line::Line;
 use indexmap::IndexSet;
 use ksql_types::{Kind, Span, Value};
 use std::alloc::{AllocError, Global};
@@ -49,12 +49,12 @@ fn latest_lines<'a>(alloc: Global, lines: &[Line<'a>]) -> Result<IndexSet<Line<'
 
 /// The lines whose row isn't gone.
 fn lines_with_row<'a>(alloc: Global, lines: &[Line<'a>]) -> Result<Vec<Line<'a>>, AllocError>
-    ensures { IfOk result (λ rows. rows.items ≡ filter (λ line. is_some line.row) lines.now) }
+    ensures { IfOk result (λ rows. rows.items ≡ filter (λ line. is_some (shown_of line).row) lines.now) }
 {
     lines
         .iter()
         .copied()
-        .filter(|line| line.row.is_some())
+        .filter(|line| line.told.has_row())
         .collect(alloc)
 }
 
@@ -69,11 +69,22 @@ fn sort_by_row(lines: &mut Vec<Line>) -> Result<(), AllocError>
 pub fn cmp_row(a: &Line, b: &Line) -> Ordering
     ensures { result ≡ row_cmp (shown_of a.now) (shown_of b.now) }
 {
-    cmp_cells(a.key, b.key).then(cmp_window(a.span, b.span))
+    let (a, b) = (a.told, b.told);
+    cmp_cells(a.key(), b.key()).then(cmp_window(a.span(), b.span()))
 }
 
 /// How two keys compare: the first values that differ decide, and else the shorter one comes first.
 pub fn cmp_cells(a: &[Value], b: &[Value]) -> Ordering
+    ensures { result ≡ slice_cmp cell_cmp a.now b.now }
+{
+    match (a, b) {
+        ([first], [second]) => cmp_cell(first, second),
+        _ => cmp_several(a, b),
+    }
+}
+
+/// How two keys compare, of however many values.
+fn cmp_several(a: &[Value], b: &[Value]) -> Ordering
     ensures { result ≡ slice_cmp cell_cmp a.now b.now }
 {
     for (first, second) in a.iter().zip(b) {

@@ -1,17 +1,17 @@
 //! The lines of a relation's section, and its text.
 
-ghost use Rattle.std.specs.Prelude.{◌≡◌, ◌∷◌, ◌++◌, [], IfOk, List, OnOk, flat_map, length, map, option_map, string_bytes};
-ghost use Rattle.ksql_place.specs.Said.{row_in};
+ghost use Rattle.std.specs.Prelude.{◌≡◌, ◌∷◌, ◌++◌, [], IfOk, List, OnOk, flat_map, length, map, string_bytes};
 ghost use Rattle.query_meaning.specs.Plain.{changes_of, rows_said};
 ghost use Rattle.run_text.specs.Lines.{extent_text, shown_of};
-ghost use Rattle.run_text.specs.Printed.{change_line, row_line, shown_in, Shown};
+ghost use Rattle.run_text.specs.Printed.{change_line, row_line, Shown};
 ghost use Rattle.run_text.specs.Report.{count_text, head_line, kind_text, meant, origin_text, table_rows, IsPrintable};
 ghost use Rattle.topic_files.specs.Printed.{printed_by};
 
-use crate::printed::{Line, push_change, push_row_line};
+use crate::line::Line;
+use crate::printed::{push_change, push_row_line};
 use crate::rows::table_rows;
-use ksql_place::{Body, Change, SourceRecord, said_by};
-use ksql_types::{Kind, Relation, Row, Value, lane};
+use ksql_place::{Change, SourceRecord, said_by};
+use ksql_types::{Kind, Relation, lane};
 use query_meaning::{Listed, partition_of};
 use std::alloc::{AllocError, Global};
 use topic_files::Printer;
@@ -71,9 +71,9 @@ fn push_record<'a>(
         return Ok(());
     }
     match said_by(Kind::Stream, &fed.key, &fed.value) {
-        Some(Some(row)) => {
+        Some(Some(_)) => {
             let part = lane(&fed.key, relation.partitions, fed.stamp.part);
-            lines.push(line_of_record(part, fed, Some(row)))?;
+            lines.push(Line::of_record(part, fed))?;
             Ok(())
         }
         _ => Ok(()),
@@ -91,52 +91,9 @@ fn lines_of_changes<'a>(
 {
     let mut lines = Vec::with_capacity(alloc, changes.len())?;
     for change in changes {
-        lines.push(line_of_change(partition_of(relation, change), change))?;
+        lines.push(Line::of_change(partition_of(relation, change), change))?;
     }
     Ok(lines)
-}
-
-/// The line of what a record says, in this partition.
-pub fn line_of_record<'a>(part: u32, fed: &'a SourceRecord, row: Option<&'a Row>) -> Line<'a>
-    ensures { shown_of result ≡ record {
-      part = part;
-      time = fed.now.time;
-      key = fed.now.key;
-      span = None;
-      row = option_map (λ r. r.now) row.entry;
-    } }
-{
-    Line {
-        part,
-        time: fed.time,
-        key: fed.key.items(),
-        span: None,
-        row: row.map(|row| row.items()),
-    }
-}
-
-/// The line of a change, in this partition.
-pub fn line_of_change<'a>(part: u32, change: &'a Change) -> Line<'a>
-    ensures { shown_of result ≡ shown_in part change.now }
-{
-    Line {
-        part,
-        time: change.time,
-        key: change.key.items(),
-        span: change.span,
-        row: row_in(&change.body),
-    }
-}
-
-/// The row that a change brings, where there is one.
-fn row_in(body: &Body) -> Option<&[Value]>
-    ensures { option_map (λ row. row.now) result ≡ row_in body.now }
-{
-    match body {
-        Body::Said(row) => Some(row.items()),
-        Body::Turned { new: Some(row), .. } => Some(row.items()),
-        Body::Turned { new: None, .. } => None,
-    }
 }
 
 /// Appends what is shown of a relation, to this extent: its head line, these lines of its changes and, of a table, those of

@@ -8,8 +8,7 @@ ghost use Rattle.run_text.specs.Printed.{shown_in};
 ghost use Rattle.run_text.specs.Shown.{changes_in, records_in, standing_cmp};
 ghost use Rattle.run_text.specs.Standings.{standing_in, standing_of};
 
-use crate::printed::Line;
-use crate::section::line_of_change;
+use crate::line::Line;
 use core_state::LogEntry;
 use ksql_place::{Change, SourceRecord, cmp_place};
 use std::alloc::{AllocError, Global};
@@ -87,7 +86,7 @@ pub fn standing_lines<'a>(
 {
     let mut lines = Vec::with_capacity(alloc, changes.len())?;
     for standing in changes {
-        lines.push(line_of_change(standing.part, standing.change))?;
+        lines.push(Line::of_change(standing.part, standing.change))?;
     }
     Ok(lines)
 }

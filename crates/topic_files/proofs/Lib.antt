@@ -1,5 +1,6 @@
 pub mod FieldLemmas
 pub mod FileLemmas
+pub mod LineFieldLemmas
 pub mod LineLemmas
 pub mod Members
 pub mod Numbers

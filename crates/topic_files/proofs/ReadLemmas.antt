@@ -1,14 +1,14 @@
 -- The items of an array and the members of an object, read one after another.
-use Rattle.std.proofs.Common.{◌≡◌, ℕ, zero, suc, ◌-◌, ◌<◌, ◌≤◌, List, [], ◌∷◌, ◌++◌, length, Bor, Option, Some, None, option_map, refl, sym, ap, ◌∙◌, arith}
+use Rattle.std.proofs.Common.{◌≡◌, ℕ, zero, suc, ◌-◌, ◌<◌, ◌≤◌, List, [], ◌∷◌, ◌++◌, length, Option, Some, None, option_map, refl, sym, ap, ◌∙◌, arith}
 use Rattle.json.specs.Token.{Token}
 use Rattle.json.specs.Json as json
 use Rattle.json.specs.Json.{Parse, after_end_array, items, members, parse_map, read_key}
 use Rattle.json.proofs.Grammar.{items_end, items_fail, items_more, members_end, members_fail, members_more, members_no_key, read_key-shorter}
 use Rattle.serde_json.specs.Data.{Data, Items, Members, array, item, no_members, object, put}
 use Rattle.serde_json.specs.Read.{converted, of_items, of_json, of_members}
-use Rattle.topic_files.specs.Tree.{items_view, members_view, view}
+use Rattle.topic_files.specs.Tree.{items_view, view}
 use Rattle.topic_files.specs.declared.tree.Json.{Json}
-use Rattle.topic_files.proofs.TreeLemmas.{items_before, items_before-no_items, items_before-push, members_view-push}
+use Rattle.topic_files.proofs.TreeLemmas.{items_before, items_before-no_items, items_before-push}
 
 -- ---- what was read, as data
 
@@ -112,33 +112,32 @@ without_member name j before none None = refl
 without_member name j before none (Some p) = rw none
 
 -- of all tokens of an object these members have been read, and these tokens are left
-pub record MembersRead (p : Parse json.Json) (all : List Token) (found : List (Bor (List ℕ) × Json)) (left : List Token) : Type 0 where
+pub record MembersRead (p : Parse json.Json) (all : List Token) (before : Members) (left : List Token) : Type 0 where
   pub turns : ℕ
   pub enough : length left ≤ turns
-  pub same : converted (λ ms. of_members ms no_members) (members p (length all) all) ≡ converted (λ ms. of_members ms (members_view found)) (members p turns left)
+  pub same : converted (λ ms. of_members ms no_members) (members p (length all) all) ≡ converted (λ ms. of_members ms before) (members p turns left)
   pub shorter : length left ≤ length all
 
-pub no_members_read : (p : Parse json.Json) (all : List Token) → MembersRead p all [] all
+pub no_members_read : (p : Parse json.Json) (all : List Token) → MembersRead p all no_members all
 no_members_read p all = record { turns = length all; enough = omega arith; same = refl; shorter = omega arith }
 
-module _ (p : Parse json.Json) (all : List Token) (found : List (Bor (List ℕ) × Json)) (left : List Token) (so_far : MembersRead p all found left) where
-  pub one_member_read : (m : Bor (List ℕ) × Json) (after rest : List Token) → read_key left ≡ Some (Some m.0.now, after) → Some (view m.1, rest) ≡ converted of_json (p after)
-      → length rest < length after → MembersRead p all (found ++ m ∷ []) rest
-  one_member_read m after rest key is less =
-      let named = read_key-shorter left (Some m.0.now) after key in
-      let read = data_read of_json (p after) (view m.1) rest is in
-      let turn = ap (converted (λ ms. of_members ms (members_view found))) (members_more p so_far.turns m.0.now left after rest read.0 (omega (arith, so_far.enough)) key read.1)
-      ∙ with_member m.0.now read.0 (view m.1) (members_view found) read.2 _ in
+module _ (p : Parse json.Json) (all : List Token) (before : Members) (left : List Token) (so_far : MembersRead p all before left) where
+  pub one_member_read : (name : List ℕ) (d : Data) (after rest : List Token) → read_key left ≡ Some (Some name, after) → Some (d, rest) ≡ converted of_json (p after)
+      → length rest < length after → MembersRead p all (put name d before) rest
+  one_member_read name d after rest key is less =
+      let named = read_key-shorter left (Some name) after key in
+      let read = data_read of_json (p after) d rest is in
+      let turn = ap (converted (λ ms. of_members ms before)) (members_more p so_far.turns name left after rest read.0 (omega (arith, so_far.enough)) key read.1)
+      ∙ with_member name read.0 d before read.2 _ in
       record {
         turns = so_far.turns - 1;
         enough = omega (arith, so_far.enough);
-        same = so_far.same ∙ turn
-            ∙ ap (λ before. converted (λ ms. of_members ms before) (members p (so_far.turns - 1) rest)) (sym (members_view-push found m));
+        same = so_far.same ∙ turn;
         shorter = omega (arith, so_far.shorter);
       }
 
   pub no_key_reads : read_key left ≡ None → converted (λ ms. of_members ms no_members) (members p (length all) all) ≡ None
-  no_key_reads none = so_far.same ∙ ap (converted (λ ms. of_members ms (members_view found))) (members_no_key p so_far.turns left none)
+  no_key_reads none = so_far.same ∙ ap (converted (λ ms. of_members ms before)) (members_no_key p so_far.turns left none)
 
   pub no_member_reads : (name : List ℕ) (after : List Token) → read_key left ≡ Some (Some name, after) → None ≡ converted of_json (p after)
       → converted (λ ms. of_members ms no_members) (members p (length all) all) ≡ None
@@ -146,12 +145,12 @@ module _ (p : Parse json.Json) (all : List Token) (found : List (Bor (List ℕ) 
   no_member_reads name after key is = so_far.same ∙ by_reading so_far.turns (p after) refl is
     where
       by_reading : (n : ℕ) (o : Option (json.Json × List Token)) → p after ≡ o → None ≡ converted of_json o
-          → converted (λ ms. of_members ms (members_view found)) (members p n left) ≡ None
-      by_reading n None is none = ap (converted (λ ms. of_members ms (members_view found))) (members_fail p n name left after key is)
+          → converted (λ ms. of_members ms before) (members p n left) ≡ None
+      by_reading n None is none = ap (converted (λ ms. of_members ms before)) (members_fail p n name left after key is)
       by_reading zero (Some q) is none = refl
       by_reading (suc n) (Some q) is none =
-          ap (converted (λ ms. of_members ms (members_view found))) (members_more p (suc n) name left after q.1 q.0 (omega arith) key is)
-          ∙ without_member name q.0 (members_view found) (no_data_read of_json q none) _
+          ap (converted (λ ms. of_members ms before)) (members_more p (suc n) name left after q.1 q.0 (omega arith) key is)
+          ∙ without_member name q.0 before (no_data_read of_json q none) _
 
-  pub all_members_read : (rest : List Token) → read_key left ≡ Some (None, rest) → converted (λ ms. of_members ms no_members) (members p (length all) all) ≡ Some (members_view found, rest)
-  all_members_read rest over = so_far.same ∙ ap (converted (λ ms. of_members ms (members_view found))) (members_end p so_far.turns left rest so_far.enough over)
+  pub all_members_read : (rest : List Token) → read_key left ≡ Some (None, rest) → converted (λ ms. of_members ms no_members) (members p (length all) all) ≡ Some (before, rest)
+  all_members_read rest over = so_far.same ∙ ap (converted (λ ms. of_members ms before)) (members_end p so_far.turns left rest so_far.enough over)

@@ -1,12 +1,14 @@
 -- Lemmas on texts that are appended to.
-use Rattle.std.proofs.Common.{◌≡◌, ℕ, ◌+◌, ◌<◌, zero, suc, List, [], ◌∷◌, ◌++◌, length, get_or, take, map, min, Bool, true, ◌&&◌, ◌==◌, refl, ap, sym, ◌∙◌, append_assoc, add-one, arith}
+use Rattle.std.proofs.Common.{◌≡◌, ℕ, ◌+◌, ◌<◌, zero, suc, List, [], ◌∷◌, ◌++◌, length, get_or, take, map, min, Bool, true, ◌&&◌, ◌==◌, codes, refl, ap, sym, ◌∙◌, append_assoc, append-nil, add-one, arith}
 use Rattle.std.proofs.lemmas.Bool.{and_parts, or_parts, not-true, eqb-false, ltb-false}
-use Rattle.std.specs.List.{list_all}
+use Rattle.std.proofs.lemmas.List.{map-append}
+use Rattle.std.proofs.lemmas.List.Folds.{concat-append}
+use Rattle.std.specs.List.{concat, list_all}
 use Rattle.json.specs.Print.{escape}
 use Rattle.json.specs.Run.{is_plain, is_stop}
 use Rattle.json.proofs.Printed.Strings.{escape_byte_plain}
 use Rattle.ksql_types.specs.declared.value.Value.{Value}
-use Rattle.topic_files.specs.Printed.{comma_joined, fields_of, printed}
+use Rattle.topic_files.specs.Printed.{after_commas, comma_joined, fields_of, labelled_text, led_text, printed}
 
 -- one text after another, in any grouping
 pub ruleset appends = (append_assoc)
@@ -49,6 +51,36 @@ comma_joined-push (first ∷ second ∷ pieces) piece =
 pub joined_more : (pieces : List (List ℕ)) (piece old : List ℕ)
     → ((old ++ comma_joined pieces) ++ comma_after pieces) ++ piece ≡ old ++ comma_joined (pieces ++ piece ∷ [])
 joined_more pieces piece old = rw (comma_joined-push pieces piece) (simp append_assoc)
+
+-- one more label goes after a comma, unless it is the first
+pub after_commas-push : (labels : List (List ℕ)) (label : List ℕ)
+    → after_commas (labels ++ label ∷ []) ≡ after_commas labels ++ (comma_after labels ++ label) ∷ []
+unfolding after_commas comma_after
+after_commas-push [] label = refl
+after_commas-push (first ∷ labels) label = ap (λ more. first ∷ more) (map-append (λ next. codes "," ++ next) labels (label ∷ []))
+
+-- the fields after a first one, each with its comma
+concat-rest : (labels : List (List ℕ)) (row : List Value) (first : List ℕ)
+    → first ++ concat (fields_of (map (λ next. codes "," ++ next) labels) row) ≡ comma_joined (first ∷ fields_of labels row)
+unfolding fields_of
+concat-rest [] row first = append-nil first
+concat-rest (label ∷ labels) [] first = append-nil first
+concat-rest (label ∷ labels) (value ∷ row) first = ap (λ text. first ++ (44 ∷ text)) (concat-rest labels row (label ++ printed value))
+
+-- fields whose labels are after commas are fields with commas between
+concat-after_commas : (labels : List (List ℕ)) (row : List Value) → concat (fields_of (after_commas labels) row) ≡ comma_joined (fields_of labels row)
+unfolding after_commas fields_of
+concat-after_commas [] row = refl
+concat-after_commas (label ∷ labels) [] = refl
+concat-after_commas (label ∷ labels) (value ∷ row) = concat-rest labels row (label ++ printed value)
+
+pub led_text-after_commas : (labels : List (List ℕ)) (row : List Value) → led_text (after_commas labels) row ≡ labelled_text labels row
+unfolding labelled_text
+led_text-after_commas labels row = ap (λ fields. codes "{" ++ (fields ++ codes "}")) (concat-after_commas labels row)
+
+-- one more field after a text that ends in the others
+pub concat_more : (fields : List (List ℕ)) (field old : List ℕ) → (old ++ concat fields) ++ field ≡ old ++ concat (fields ++ field ∷ [])
+concat_more fields field old = rw (concat-append fields (field ∷ [])) (simp (append_assoc, append-nil))
 
 -- the fields of one more label and value
 fields_of-suc : (labels : List (List ℕ)) (row : List Value) (i : ℕ) (label : List ℕ) (value : Value)

@@ -1,6 +1,7 @@
 pub mod Cells
 pub mod Delimited
 pub mod File
+pub mod LineFields
 pub mod Lines
 pub mod Printed
 pub mod Record

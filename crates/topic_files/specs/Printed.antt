@@ -1,7 +1,7 @@
 -- The printed text of a row.
 use Rattle.std.specs.Prelude.{ℕ, List, [], ◌∷◌, ◌++◌, codes, if◌then◌else◌, map, string_bytes}
 use Rattle.std.specs.Fmt.{signed_decimal}
-use Rattle.std.specs.List.{join_with_byte}
+use Rattle.std.specs.List.{concat, join_with_byte}
 use Rattle.json.specs.Print.{quoted}
 use Rattle.ksql_types.specs.declared.relation.Column.{Column}
 use Rattle.ksql_types.specs.declared.relation.Format.{Format}
@@ -55,7 +55,16 @@ row_in Delimited columns row = quoted (line_of row)
 abbrev pub value_text : Relation → List Value → List ℕ
 value_text relation row = row_in relation.format relation.schema.values row
 
+-- labels, each but the first after a comma
+unfoldable pub after_commas : List (List ℕ) → List (List ℕ)
+after_commas [] = []
+after_commas (label ∷ labels) = label ∷ map (λ next. codes "," ++ next) labels
+
+-- an object that has these texts before its values, without blanks
+abbrev pub led_text : List (List ℕ) → List Value → List ℕ
+led_text labels row = codes "{" ++ (concat (fields_of labels row) ++ codes "}")
+
 -- a row as a printer prints it
 abbrev pub printed_by : Printer → List Value → List ℕ
-printed_by (Objects labels) row = labelled_text (map string_bytes labels.items) row
+printed_by (Objects labels) row = led_text (map string_bytes labels.items) row
 printed_by Texts row = quoted (line_of row)

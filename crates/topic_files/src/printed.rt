@@ -1,19 +1,20 @@
 //! The printed text of a value and of a row.
 
 ghost use Rattle.std.specs.Prelude.{◌≡◌, ◌++◌, IfOk, List, OnOk, length, map, string_bytes};
-ghost use Rattle.std.specs.List.{list_all};
+ghost use Rattle.std.specs.List.{concat, list_all};
 ghost use Rattle.json.specs.Print.{quoted};
 ghost use Rattle.json.specs.Run.{is_plain};
 ghost use Rattle.ksql_types.specs.declared.value.Value.{Value as OneValue};
-ghost use Rattle.topic_files.specs.Printed.{comma_joined, fields_of, label_of, labelled_text, labels_of, printed, printed_by, value_text};
+ghost use Rattle.topic_files.specs.Printed.{after_commas, fields_of, label_of, labels_of, led_text, printed, printed_by, value_text};
 
 use crate::delimited::line_of;
+use itoa::Buffer;
 use ksql_types::{Bytes, Column, Format, Items, Relation, Value};
 use serde_json::Value as Json;
 use std::alloc::{AllocError, Global};
 
-/// How the rows of a relation are printed: as JSON objects whose fields have these labels, or as JSON texts of fields with
-/// commas between.
+/// How the rows of a relation are printed: as JSON objects with one of these texts before each value, which is the label of
+/// its field, after a comma but for the first; or as JSON texts of fields with commas between.
 #[derive(Drop)]
 pub enum Printer {
     Objects(Vec<String>),
@@ -57,44 +58,47 @@ pub fn value_text(alloc: Global, relation: &Relation, row: &[Value]) -> Result<B
     Ok(Items::of(out.into_bytes()))
 }
 
-/// The labels of columns: of each its name as a JSON text and a colon.
+/// The labels of columns, each but the first after a comma.
 fn labels(alloc: Global, columns: &[Column]) -> Result<Vec<String>, AllocError>
-    ensures { IfOk result (λ labels. map string_bytes labels.items ≡ labels_of columns.now) }
+    ensures { IfOk result (λ labels. map string_bytes labels.items ≡ after_commas (labels_of columns.now)) }
 {
     let mut labels = Vec::new(alloc);
+    let mut separator = "";
     for column in columns {
-        labels.push(label(alloc, column)?)?;
+        labels.push(label(alloc, separator, column)?)?;
+        separator = ",";
     }
     Ok(labels)
 }
 
-/// The label of a column.
+/// The label of a column after a separator: its name as a JSON text and a colon.
 #[tactic(auto, using(crate::proofs::Texts::appends), unfolding(crate::specs::Printed::label_of))]
-fn label(alloc: Global, column: &Column) -> Result<String, AllocError>
-    ensures { IfOk result (λ label. string_bytes label ≡ label_of column.now) }
+fn label(alloc: Global, separator: &str, column: &Column) -> Result<String, AllocError>
+    ensures { IfOk result (λ label. string_bytes label ≡ separator.now ++ label_of column.now) }
 {
     let mut label = String::new(alloc);
+    label.push_str(separator)?;
     push_quoted(&mut label, alloc, column.name.items())?;
     label.push_str(":")?;
     Ok(label)
 }
 
-/// Appends a row as a JSON object of the columns that have these labels, without blanks.
-#[tactic(auto, using(crate::proofs::Texts::appends), unfolding(crate::specs::Printed::labelled_text))]
+/// Appends a row as a JSON object with these texts before its values, without blanks.
+#[tactic(auto, using(crate::proofs::Texts::appends))]
 fn push_object(
     out: &mut String,
     alloc: Global,
     labels: &[String],
     row: &[Value],
 ) -> Result<(), AllocError>
-    ensures { OnOk result (string_bytes out.new ≡ string_bytes out.old ++ labelled_text (map string_bytes labels.now) row.now) }
+    ensures { OnOk result (string_bytes out.new ≡ string_bytes out.old ++ led_text (map string_bytes labels.now) row.now) }
 {
     out.push_str("{")?;
     push_fields(out, alloc, labels, row)?;
     out.push_str("}")
 }
 
-/// Appends the fields of an object with commas between: each label with its value.
+/// Appends the values, each with the text before it.
 fn push_fields(
     out: &mut String,
     alloc: Global,
@@ -102,14 +106,11 @@ fn push_fields(
     row: &[Value],
 ) -> Result<(), AllocError>
     ensures { OnOk result (string_bytes out.new
-        ≡ string_bytes out.old ++ comma_joined (fields_of (map string_bytes labels.now) row.now)) }
+        ≡ string_bytes out.old ++ concat (fields_of (map string_bytes labels.now) row.now)) }
 {
-    let mut separator = "";
     for (label, value) in labels.iter().zip(row) {
-        out.push_str(separator)?;
         out.push_str(label.as_str())?;
         push_printed(out, alloc, value)?;
-        separator = ",";
     }
     Ok(())
 }
@@ -121,10 +122,11 @@ pub fn push_printed(out: &mut String, alloc: Global, value: &Value) -> Result<()
 {
     match value {
         Value::Null => out.push_str("null"),
-        Value::Int(number) => write!(out, "{number}"),
-        Value::Big(number) => write!(out, "{number}"),
+        Value::Int(number) => out.push_str(Buffer::new().format(*number)),
+        Value::Big(number) => out.push_str(Buffer::new().format(*number)),
         Value::Txt(text) => push_quoted(out, alloc, text.items()),
-        Value::Bool(truth) => write!(out, "{truth}"),
+        Value::Bool(true) => out.push_str("true"),
+        Value::Bool(false) => out.push_str("false"),
     }
 }
 

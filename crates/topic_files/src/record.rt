@@ -2,13 +2,14 @@
 
 ghost use Rattle.std.specs.Prelude.{◌≡◌, ◌∷◌, [], IfOk, option_map};
 ghost use Rattle.topic_files.specs.Cells.{typed};
-ghost use Rattle.topic_files.specs.Record.{decoded, delimited_row, fed_of, fed_of_data, field_value, key_of, object_row, row_in};
+ghost use Rattle.topic_files.specs.LineFields.{fed_in, seen};
+ghost use Rattle.topic_files.specs.Record.{decoded, delimited_row, fed_of, field_value, key_of, object_row, row_in};
 ghost use Rattle.topic_files.specs.Tree.{view};
 
 use crate::delimited::text_row;
 use crate::fields::{cells, typed};
-use crate::line::topic_line;
-use crate::read::json_of_line;
+use crate::line::{LineFields, topic_line};
+use crate::read::fields_of_line;
 use crate::topic::Fed;
 use crate::tree::Json;
 use json::Scratch;
@@ -25,17 +26,21 @@ pub(crate) fn fed_of_line(
 ) -> Result<Option<Fed>, AllocError>
     ensures { IfOk result (λ fed. fed ≡ fed_of relation.now line.now) }
 {
-    match json_of_line(alloc, line, scratch)? {
-        Some(json) => fed_of_json(alloc, relation, &json),
+    match fields_of_line(alloc, line, scratch)? {
+        Some(fields) => fed_of_fields(alloc, relation, &fields),
         None => Ok(None),
     }
 }
 
-/// The record that a line's JSON says, None where it isn't a topic line.
-fn fed_of_json(alloc: Global, relation: &Relation, json: &Json) -> Result<Option<Fed>, AllocError>
-    ensures { IfOk result (λ fed. fed ≡ fed_of_data relation.now (view json.now)) }
+/// The record that the fields of a line say, None where they make no topic line.
+fn fed_of_fields(
+    alloc: Global,
+    relation: &Relation,
+    fields: &LineFields,
+) -> Result<Option<Fed>, AllocError>
+    ensures { IfOk result (λ fed. fed ≡ fed_in relation.now (seen fields.now)) }
 {
-    let Some(line) = topic_line(json) else {
+    let Some(line) = topic_line(fields) else {
         return Ok(None);
     };
     match key_of(alloc, relation.schema.keys.items(), line.key)? {

@@ -88,7 +88,7 @@ fn member_of<'t, 'a>(members: &'t [Member<'a>], name: &str) -> Option<&'t Json<'
 }
 
 /// Whether a key is this name. Most names that differ do so in length or in their first letter.
-fn is_named(key: &str, name: &str) -> bool
+pub(crate) fn is_named(key: &str, name: &str) -> bool
     ensures { result ≡ bytes_eq key.now name.now }
 {
     let (key, name) = (key.as_bytes(), name.as_bytes());

@@ -6,7 +6,7 @@ use Rattle.topic_files.specs.Printed.{printed_by, value_text}
 use Rattle.run_text.specs.Lines.{extent_text, shown_of}
 use Rattle.run_text.specs.Printed.{change_line, row_line}
 use Rattle.run_text.specs.Report.{row_lines, section_text, summary_rows, summary_text, Section}
-use Rattle.run_text.specs.declared.printed.Line.{Line}
+use Rattle.run_text.specs.declared.line.Line.{Line}
 use Rattle.run_text.proofs.ReportLemmas.{lines-by}
 use Rattle.run_text.proofs.section.push_section.Goals as goal
 

@@ -1,18 +1,17 @@
-use Rattle.std.proofs.Common.{[], ◌∷◌, map, length, string_bytes, refl, arith, sym, ap, ◌∙◌}
+use Rattle.std.proofs.Common.{map, length, string_bytes, arith, sym, ap, ◌∙◌}
 use Rattle.std.proofs.lemmas.Grind.{common_steps}
 use Rattle.std.proofs.lemmas.List.{get_or-map, length-map, length_push}
 use Rattle.std.proofs.lemmas.Slice.Zip.{zip_turn, zip_end}
 use Rattle.topic_files.specs.Printed.{fields_of}
-use Rattle.topic_files.proofs.Texts.{comma_after, comma_after-push, joined_more, fields_of-next, fields_of-min}
+use Rattle.topic_files.proofs.Texts.{concat_more, fields_of-next, fields_of-min}
 use Rattle.topic_files.proofs.printed.push_fields.Goals as goal
 
 pub loop-label-init : goal.loop-label-init
-unfolding comma_after fields_of
-loop-label-init c = record { written = grind (arith, common_steps); next = refl; can = (tt, tt); finite = tt; is_text = ([], (refl, refl)) }
+unfolding fields_of
+loop-label-init c = record { written = grind (arith, common_steps); can = (tt, tt); finite = tt }
 
 -- this pair stands at the place that was reached, so its field is the next one
 pub loop-label-preserved : goal.loop-label-preserved
-unfolding lib.Utf8.encode
 loop-label-preserved c =
     let turn = zip_turn c.args.labels.now c.args.row.now c.loop-label.yielded
     c.into_iter-label-iterator.result c.loop-label.label-iterator c.next.new.self c.next.result
@@ -22,13 +21,7 @@ loop-label-preserved c =
     let more = fields_of-next (map string_bytes c.args.labels.now) c.args.row.now (length c.loop-label.yielded) _
     (string_bytes c.in-Some.label.now) c.in-Some.value.now
     (length_push c.loop-label.yielded (c.in-Some.label, c.in-Some.value)) (simp length-map turn.0) turn.1 label (turn.3 c.in-Some.value.now) in
-    record {
-      written = grind (arith, common_steps, joined_more, more);
-      next = grind (arith, common_steps, comma_after-push, more);
-      can = (tt, tt);
-      finite = tt;
-      is_text = (44 ∷ [], (refl, refl));
-    }
+    record { written = grind (arith, common_steps, concat_more, more); can = (tt, tt); finite = tt }
 
 -- one of the two lists has come to its end
 pub returns : goal.returns

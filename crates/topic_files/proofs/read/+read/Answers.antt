@@ -1,17 +1,17 @@
 -- Each token begins a value of its own kind, and each turn of a loop reads one item or member more.
-use Rattle.std.proofs.Common.{◌≡◌, ℕ, ◌<◌, List, ◌∷◌, [], Bor, length, Some, None, sym, ap, ap₂, ◌∙◌, arith, rules}
+use Rattle.std.proofs.Common.{◌≡◌, ℕ, ◌<◌, List, ◌∷◌, [], Bor, length, Some, None, sym, ap, ap₂, ◌∙◌, subst, arith, rules}
 use Rattle.std.proofs.lemmas.Result.{IfOk-weaker}
 use Rattle.json.specs.Token.{Token}
 use Rattle.json.specs.Json.{items, members, parse_map, read_key, value}
 use Rattle.json.specs.Reads.{token_of}
 use Rattle.json.proofs.Grammar.{value-begin_array, value-begin_object, value_is}
-use Rattle.serde_json.specs.Data.{array, boolean, null, number, object, string}
+use Rattle.serde_json.specs.Data.{array, boolean, null, number, object, put, string}
 use Rattle.serde_json.specs.Read.{converted, of_json}
 use Rattle.serde_json.specs.View.{number_view}
-use Rattle.topic_files.specs.Tree.{view}
+use Rattle.topic_files.specs.Tree.{members_view, view}
 use Rattle.topic_files.specs.declared.tree.Json.{Json, Bool, Null, Number, Text, the_lemmas}
-use Rattle.topic_files.proofs.ReadLemmas.{all_items_read, all_members_read, converted-array, converted-object, no_item_reads, no_key_reads, no_member_reads, one_item_read, one_member_read}
-use Rattle.topic_files.proofs.TreeLemmas.{view-Array, view-Object}
+use Rattle.topic_files.proofs.ReadLemmas.{MembersRead, all_items_read, all_members_read, converted-array, converted-object, no_item_reads, no_key_reads, no_member_reads, one_item_read, one_member_read}
+use Rattle.topic_files.proofs.TreeLemmas.{members_view-push, view-Array, view-Object}
 use Rattle.topic_files.proofs.read.+read.Goals as goal
 use Rattle.topic_files.proofs.read.+read.Goals.{read_value-in_default-token-via-in-BeginArray+else-depth-gt0, read_value-in_default-token-via-in-BeginObject+else-depth-gt0-2, read_value-in_default-token-via-in_default-token}
 
@@ -47,7 +47,7 @@ read_object-returns-in_default-clause-value t c =
     let key : read_key c.members.reader ≡ Some (Some name, after) = grind arith in
     let none : None ≡ converted of_json (p after) = grind arith in
     let all = members p (length c.args.reader.now) c.args.reader.now in
-    sym (converted-object all ∙ ap (parse_map object) (no_member_reads p c.args.reader.now c.members.found.items c.members.reader c.members.invariant name after key none))
+    sym (converted-object all ∙ ap (parse_map object) (no_member_reads p c.args.reader.now (members_view c.members.found.items) c.members.reader c.members.invariant name after key none))
 
 pub read_object-members-preserved : goal.read_object-members-preserved
 read_object-members-preserved t c =
@@ -58,7 +58,9 @@ read_object-members-preserved t c =
     let key : read_key c.members.reader ≡ Some (Some c.in-Ok-Some.name.now, after) = grind arith in
     let is : Some (view c.in-Some.field, rest) ≡ converted of_json (p after) = grind arith in
     let less : length rest < length after = grind arith in
-    rw c.in_ok-push-in-Ok-Some.ensures.items (one_member_read p c.args.reader.now c.members.found.items c.members.reader c.members.invariant member after rest key is less)
+    let read = one_member_read p c.args.reader.now (members_view c.members.found.items) c.members.reader c.members.invariant member.0.now (view member.1) after rest key is less in
+    let pushed = ap members_view c.in_ok-push-in-Ok-Some.ensures.items ∙ members_view-push c.members.found.items member in
+    subst (λ before. MembersRead p c.args.reader.now before rest) (sym pushed) read
 
 pub read_object-returns-in-Ok-None-clause-value : goal.read_object-returns-in-Ok-None-clause-value
 read_object-returns-in-Ok-None-clause-value t c =
@@ -66,14 +68,14 @@ read_object-returns-in-Ok-None-clause-value t c =
     let rest = c.next_key.new.self in
     let over : read_key c.members.reader ≡ Some (None, rest) = grind arith in
     let all = members p (length c.args.reader.now) c.args.reader.now in
-    sym (converted-object all ∙ ap (parse_map object) (all_members_read p c.args.reader.now c.members.found.items c.members.reader c.members.invariant rest over)
+    sym (converted-object all ∙ ap (parse_map object) (all_members_read p c.args.reader.now (members_view c.members.found.items) c.members.reader c.members.invariant rest over)
     ∙ ap (λ d. Some (d, rest)) (sym (view-Object c.members.found)))
 
 pub read_object-returns-in-Err-clause-value : goal.read_object-returns-in-Err-clause-value
 read_object-returns-in-Err-clause-value t c =
     let p = value c.args.depth in
     let all = members p (length c.args.reader.now) c.args.reader.now in
-    sym (converted-object all ∙ ap (parse_map object) (no_key_reads p c.args.reader.now c.members.found.items c.members.reader c.members.invariant c.in-Err.ensures.value))
+    sym (converted-object all ∙ ap (parse_map object) (no_key_reads p c.args.reader.now (members_view c.members.found.items) c.members.reader c.members.invariant c.in-Err.ensures.value))
 
 pub read_value-returns-in_default-clause-value : goal.read_value-returns-in_default-clause-value
 read_value-returns-in_default-clause-value t c =

@@ -7,7 +7,7 @@ use Rattle.ksql_place.specs.declared.change.Body.TheVariants.{Turned}
 use Rattle.query_meaning.specs.Plain.{said_to}
 use Rattle.run_text.specs.Lines.{shown_of}
 use Rattle.run_text.specs.Printed.{Shown}
-use Rattle.run_text.proofs.TableLemmas.{change_by, is_some-lent, lines-more, row_before, row_keys-more, said_to-table, shown_by}
+use Rattle.run_text.proofs.TableLemmas.{change_by, is_some-lent, lines-more, row_before, row_brought-said, row_keys-more, said_to-table, shown_by}
 use Rattle.run_text.proofs.declared.TableLines.push.Goals as goal
 use Rattle.run_text.proofs.declared.TableLines.push.Goals.{then-had-via-then-had, then-had-via-else-had+then-is_some}
 
@@ -35,8 +35,9 @@ returns-in_ok-push c before so =
       | then-had-via-else-had+then-is_some w ↦ either-right c.in_ok-had.had (is_some row) (is_some-lent _ c.in-Some.row ∙ sym w.is_some-else-had.ensures ∙ w.if-is_some.true)
     ] in
     let line : map shown_of c.push.new.self.items ≡ map shown_of c.args.self.now.lines.items ++ shown_by x row ∷ [] =
-    ap (map shown_of) c.in_ok-push.ensures.items ∙ map-append shown_of c.args.self.now.lines.items (c.line_of_record.result ∷ [])
-    ∙ ap (λ (s : Shown). map shown_of c.args.self.now.lines.items ++ s ∷ []) c.line_of_record.ensures in
+    ap (map shown_of) c.in_ok-push.ensures.items ∙ map-append shown_of c.args.self.now.lines.items (c.of_record.result ∷ [])
+    ∙ ap (λ (s : Shown). map shown_of c.args.self.now.lines.items ++ s ∷ [])
+    (c.of_record.ensures ∙ ap (shown_by x) (row_brought-said Table x.key x.value row c.in-Some.ensures)) in
     record {
       lines =
           line

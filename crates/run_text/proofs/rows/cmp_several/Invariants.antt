@@ -3,7 +3,7 @@ use Rattle.std.specs.Iterator.Adapters.{zip_first, zip_second}
 use Rattle.std.specs.Slice.Iter.{iter_rest}
 use Rattle.std.specs.Cmp.Lexicographic.{slice_cmp}
 use Rattle.run_text.specs.Report.{cell_cmp}
-use Rattle.run_text.proofs.rows.cmp_cells.Given as goal
+use Rattle.run_text.proofs.rows.cmp_several.Given as goal
 
 -- the values that were gone over are equal, so those that are left decide
 abbrev pub invariant-loop-first : goal.invariant-loop-first

@@ -2,7 +2,7 @@ use Rattle.std.proofs.Common.{◌≡◌, ◌∙◌, ◌⊎◌, length, sym, inl,
 use Rattle.std.specs.Iterator.Adapters.{zip_first, zip_second}
 use Rattle.std.specs.Slice.Iter.{iter_rest}
 use Rattle.run_text.proofs.RowLemmas.{cells-spent}
-use Rattle.run_text.proofs.rows.cmp_cells.Goals as goal
+use Rattle.run_text.proofs.rows.cmp_several.Goals as goal
 
 pub returns : goal.returns
 returns c =
