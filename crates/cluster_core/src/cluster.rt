@@ -137,43 +137,24 @@ impl Cluster {
     }
 
     /// The cluster after the feed of a step.
-    fn fed(self, alloc: Global, step: &Step) -> Result<Cluster, AllocError>
+    fn fed(mut self, alloc: Global, step: &Step) -> Result<Cluster, AllocError>
         requires come { (items : List OneItem) × (p : Progress) × IsSound items × HasCome items p self }
         ensures { IfOk result (λ next. (items : List OneItem) (p : Progress) → IsSound items → HasCome items p self →
             HasCome items (feed (taken step.now) p) next) }
     {
         feeds_fit();
-        let Cluster {
-            topology,
-            chain,
-            mut broker,
-            live,
-            seats,
-            sources,
-            rounds,
-            mut journal,
-        } = self;
-        if broker.fed() == u64::MAX {
+        if self.broker.fed() == u64::MAX {
             return Err(AllocError);
         }
-        let feed = broker.fed() + 1;
-        ask_parts(&broker, topology.topics.items());
-        let (sources, records) = feed_sources(alloc, sources, feed, step)?;
-        journal.push(JournalEntry::Fed {
+        let feed = self.broker.fed() + 1;
+        ask_parts(&self.broker, self.topology.topics.items());
+        let (sources, records) = feed_sources(alloc, self.sources, feed, step)?;
+        self.journal.push(JournalEntry::Fed {
             feed,
             records: records.len() as u64,
         })?;
-        broker.feed(alloc, records)?;
-        Ok(Cluster {
-            topology,
-            chain,
-            broker,
-            live,
-            seats,
-            sources,
-            rounds,
-            journal,
-        })
+        self.broker.feed(alloc, records)?;
+        Ok(Cluster { sources, ..self })
     }
 
     /// The cluster after as many rounds as the longest path has.
@@ -204,39 +185,24 @@ impl Cluster {
     }
 
     /// The cluster after a round. What the tasks of a lost worker propose is lost; they are still where they were.
-    fn round(self, alloc: Global, lost: Option<u32>) -> Result<Cluster, AllocError>
+    fn round(mut self, alloc: Global, lost: Option<u32>) -> Result<Cluster, AllocError>
         requires come { (items : List OneItem) × (p : Progress) × IsSound items × HasCome items p self }
         ensures topology { IfOk result (λ next. next.topology ≡ self.topology) }
         ensures next { IfOk result (λ next. (items : List OneItem) (p : Progress) → IsSound items → HasCome items p self →
             (ms : List OneMoved) × HasComeWith items (round lost self.topology p) ms next × AllZip (IsIdleBut lost) next.seats.items ms) }
     {
-        let Cluster {
-            topology,
-            chain,
-            mut broker,
-            live,
-            seats,
-            sources,
-            rounds,
-            mut journal,
-        } = self;
-        if rounds == u32::MAX {
+        if self.rounds == u32::MAX {
             return Err(AllocError);
         }
-        let number = rounds + 1;
-        journal.push(JournalEntry::Round { number })?;
-        ask_parts(&broker, topology.topics.items());
-        let rans = advance_all(alloc, seats, &broker)?;
-        let seats = commit_all(alloc, &mut broker, rans, lost, &mut journal)?;
+        let rounds = self.rounds + 1;
+        self.journal.push(JournalEntry::Round { number: rounds })?;
+        ask_parts(&self.broker, self.topology.topics.items());
+        let rans = advance_all(alloc, self.seats, &self.broker)?;
+        let seats = commit_all(alloc, &mut self.broker, rans, lost, &mut self.journal)?;
         Ok(Cluster {
-            topology,
-            chain,
-            broker,
-            live,
             seats,
-            sources,
-            rounds: number,
-            journal,
+            rounds,
+            ..self
         })
     }
 
@@ -291,34 +257,28 @@ impl Cluster {
 
     /// The cluster after some tasks left their owners: each task that has one of these owners then, and no instance, is made
     /// anew.
-    fn moved(self, alloc: Global, stays: &[bool], owners: &[Owned]) -> Result<Cluster, AllocError>
+    fn moved(
+        mut self,
+        alloc: Global,
+        stays: &[bool],
+        owners: &[Owned],
+    ) -> Result<Cluster, AllocError>
         requires come { (items : List OneItem) × (p : Progress) × (ms : List OneMoved) × (leaves : OneTask → Bool) × IsSound items
             × HasComeWith items p ms self × CanMove self.topology leaves stays.now owners.now self.seats.items ms }
         ensures { IfOk result (λ next. (items : List OneItem) (p : Progress) (ms : List OneMoved) (leaves : OneTask → Bool) → IsSound items →
             HasComeWith items p ms self → CanMove self.topology leaves stays.now owners.now self.seats.items ms → HasCome items (after_moves leaves owners.now p) next) }
     {
-        let Cluster {
-            topology,
-            chain,
-            mut broker,
-            live,
-            seats,
-            sources,
-            rounds,
-            mut journal,
-        } = self;
-        let kept = leave_all(alloc, &mut broker, seats, stays, &mut journal)?;
-        let seats = seat_all(alloc, &broker, &topology, kept, owners, &mut journal)?;
-        Ok(Cluster {
-            topology,
-            chain,
-            broker,
-            live,
-            seats,
-            sources,
-            rounds,
-            journal,
-        })
+        let seats = self.seats;
+        let kept = leave_all(alloc, &mut self.broker, seats, stays, &mut self.journal)?;
+        let seats = seat_all(
+            alloc,
+            &self.broker,
+            &self.topology,
+            kept,
+            owners,
+            &mut self.journal,
+        )?;
+        Ok(Cluster { seats, ..self })
     }
 }
 
