@@ -27,13 +27,7 @@ pub fn made_of(chain: &mut Chain, alloc: Global, reader: Reader) -> Result<Made,
     ensures rest { OnOk result (chain.new ≡ at_rest chain.old.nodes (maps_in chain.new)) }
     ensures runs { IfOk result (λ made. Runs chain.old.nodes (maps_in chain.old) (pending reader.entry) made.outputs.items made.entries.items (maps_in chain.new)) }
 {
-    // Most nodes give about as much as they take.
-    let room = reader
-        .left
-        .entries
-        .len()
-        .saturating_add(reader.right.entries.len());
-    let mut outputs = Vec::with_capacity(alloc, room)?;
+    let mut outputs = Vec::new(alloc);
     run_all(chain, alloc, reader, &mut outputs)?;
     let entries = chain.changes(alloc)?;
     Ok(Made { outputs, entries })
