@@ -12,6 +12,3 @@ mod windows;
 pub use agg_op::AggOp;
 pub use table_agg_op::TableAggOp;
 pub use window_agg_op::WindowAggOp;
-
-#[cfg(test)]
-mod tests;

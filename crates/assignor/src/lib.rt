@@ -11,6 +11,3 @@ mod previous;
 pub use assigning::assign;
 pub use assignment::{Assignment, Owned};
 pub use laws::{balanced, each_task_owned, keeps_all, stays_within_share};
-
-#[cfg(test)]
-mod tests;

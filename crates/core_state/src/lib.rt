@@ -5,8 +5,6 @@
 mod journal;
 mod laws;
 mod log;
-#[cfg(test)]
-mod tests;
 
 pub use journal::{Journal, JournalEntry};
 pub use laws::events_keep_good;

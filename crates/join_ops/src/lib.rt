@@ -8,6 +8,3 @@ mod tables;
 
 pub use stream_table_op::StreamTableOp;
 pub use table_table_op::TableTableOp;
-
-#[cfg(test)]
-mod tests;

@@ -13,6 +13,3 @@ mod topics;
 pub use command::run_command;
 pub use headline::ksql;
 pub use status::Status;
-
-#[cfg(test)]
-mod tests;

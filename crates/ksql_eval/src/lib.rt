@@ -14,6 +14,3 @@ pub use comparison::{is_greater, is_less};
 pub use evaluation::{eval, holds};
 pub use number::{number_in, whole};
 pub use view::RowView;
-
-#[cfg(test)]
-mod tests;

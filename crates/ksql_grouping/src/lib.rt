@@ -10,6 +10,3 @@ pub use aggregates::{aggregates_of, has_aggregate, has_ordered_aggregate, has_un
 pub use columns::{has_bare_column, has_nested_aggregate, once, place_among};
 pub use laws::sameness_is_equality;
 pub use same::same_expr;
-
-#[cfg(test)]
-mod tests;

@@ -12,6 +12,3 @@ mod token;
 pub use fault::LexFault;
 pub use script::{one_reading, tokens};
 pub use token::{Mark, Token, TokenKind};
-
-#[cfg(test)]
-mod tests;

@@ -6,6 +6,3 @@ mod node;
 
 pub use laws::{chains_are_cut, chains_are_one, nodes_are_local, tables_are_summed};
 pub use node::{Node, Nodes, Side};
-
-#[cfg(test)]
-mod tests;

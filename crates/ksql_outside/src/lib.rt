@@ -8,8 +8,6 @@ mod mem_folder;
 mod mem_sink;
 mod sink;
 mod std_sink;
-#[cfg(test)]
-mod tests;
 
 pub use dir_folder::DirFolder;
 pub use folder::{Folder, ReadFail};

@@ -17,6 +17,3 @@ pub use order::{PartTimes, cmp_between, cmp_place, order_of, stamps_of};
 pub use path::Path;
 pub use said::{is_skipped, said_by};
 pub use stamp::{Place, Stamp};
-
-#[cfg(test)]
-mod tests;

@@ -8,6 +8,3 @@ mod reading;
 pub use fault::ScriptFault;
 pub use laws::{one_script, some_script};
 pub use reading::program_of_script;
-
-#[cfg(test)]
-mod tests;

@@ -37,6 +37,3 @@ pub use word::{Word, Words};
 
 /// A list of bytes.
 pub type Bytes = Items<u8>;
-
-#[cfg(test)]
-mod tests;

@@ -6,6 +6,3 @@ mod replacing;
 
 pub use deciding::{Decides, passes};
 pub use replacing::{Replaces, becomes};
-
-#[cfg(test)]
-mod tests;

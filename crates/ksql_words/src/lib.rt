@@ -9,6 +9,3 @@ mod reading;
 pub use asked::Command;
 pub use fault::WordsFault;
 pub use reading::read_words;
-
-#[cfg(test)]
-mod tests;

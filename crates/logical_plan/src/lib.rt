@@ -12,6 +12,3 @@ pub use planning::plan;
 pub use query_meaning::{Agg, Aggs, From, Item, JoinKind, Program, Query, Shape, relation_of};
 pub use relations::{key_columns, kind_of};
 pub use tree::Plan;
-
-#[cfg(test)]
-mod tests;

@@ -18,6 +18,3 @@ pub use rows::{
     copied, filtered, push_copies, push_given, push_nulls, selected, turned, values_of, with_body,
 };
 pub use steps::{one_or_none, results};
-
-#[cfg(test)]
-mod tests;

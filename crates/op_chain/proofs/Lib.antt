@@ -1,4 +1,3 @@
-pub mod Filtered
 pub mod Laws
 pub mod Logs
 pub mod Ops

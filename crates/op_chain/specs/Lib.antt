@@ -1,4 +1,3 @@
 pub mod Along
 pub mod Chain
 pub mod Codes
-pub mod Plain

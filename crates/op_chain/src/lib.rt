@@ -7,6 +7,3 @@ mod op;
 
 pub use chain::{Chain, Entry};
 pub use op::Op;
-
-#[cfg(test)]
-mod tests;

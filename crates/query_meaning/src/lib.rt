@@ -15,6 +15,3 @@ pub use ksql_types::Window;
 pub use meaning::{Listed, Lists, partition_of, slow_meaning};
 pub use operator::{Operator, StoredOperator};
 pub use windowless::have_no_window;
-
-#[cfg(test)]
-mod tests;

@@ -9,6 +9,3 @@ mod writing;
 pub use law::one_spelling;
 pub use reading::{decode, decode_row, decode_values};
 pub use writing::{encode, encode_new, encode_row, encode_values};
-
-#[cfg(test)]
-mod tests;

@@ -12,6 +12,3 @@ pub use input_table::{standing, turn};
 pub use rekey_op::RekeyOp;
 pub use select_op::SelectOp;
 pub use table_op::TableOp;
-
-#[cfg(test)]
-mod tests;

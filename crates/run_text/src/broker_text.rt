@@ -227,6 +227,3 @@ fn changes_shown<'a>(
     }
     by_place(changes)
 }
-
-#[cfg(test)]
-mod tests;

@@ -159,6 +159,3 @@ fn is_skipped_up_to(relation: &Relation, feed: u64, fed: &SourceRecord) -> bool
 {
     fed.stamp.feed <= feed && is_skipped(relation, fed)
 }
-
-#[cfg(test)]
-mod tests;

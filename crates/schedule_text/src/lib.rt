@@ -10,6 +10,3 @@ mod words;
 
 pub use fault::{ScheduleFault, StepWhy};
 pub use reading::read_schedule;
-
-#[cfg(test)]
-mod tests;

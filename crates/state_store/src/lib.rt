@@ -3,7 +3,5 @@
 
 mod slots;
 mod store;
-#[cfg(test)]
-mod tests;
 
 pub use store::{Found, Store};

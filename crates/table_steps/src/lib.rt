@@ -9,8 +9,3 @@ mod joins;
 pub use groups::group_results;
 pub use join::{Join, Standing, stream_joined, tables_joined};
 pub use joins::join_results;
-
-#[cfg(test)]
-mod group_tests;
-#[cfg(test)]
-mod tests;

@@ -1,6 +1,5 @@
 pub mod Cuts
 pub mod Merging
-pub mod Modest
 pub mod Stepping
 pub mod Takes
 pub mod Underway

@@ -10,6 +10,3 @@ mod task;
 mod whole;
 
 pub use task::{Moved, Task};
-
-#[cfg(test)]
-mod tests;

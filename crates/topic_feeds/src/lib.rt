@@ -6,6 +6,3 @@ mod laws;
 
 pub use feeding::Reached;
 pub use laws::feeds_are_merged;
-
-#[cfg(test)]
-mod tests;

@@ -18,6 +18,3 @@ pub use file::read_topic;
 pub use lines::Lines;
 pub use printed::{Printer, push_printed, value_text};
 pub use topic::{Fed, Feds, FileFault, LineWhy, Room, TopicLines};
-
-#[cfg(test)]
-mod tests;

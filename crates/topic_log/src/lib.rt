@@ -11,6 +11,3 @@ mod shelves;
 pub use broker::Broker;
 pub use core_state::{Journal, JournalEntry, LogEntry, Proposal};
 pub use prepared::Prepared;
-
-#[cfg(test)]
-mod tests;

@@ -12,6 +12,3 @@ pub use schedule::{Count, Counts, Lined, Schedule, Step, Steps};
 pub use stage::{CutName, Link, Links, Stage, Stages};
 pub use tasks::{chain_of, tasks_of};
 pub use topology::{Sub, SubInput, SubInputs, Subs, Topics, Topology};
-
-#[cfg(test)]
-mod tests;

@@ -212,6 +212,3 @@ fn topic_name(topics: &[TopicSpec], number: u32) -> &str
         None => "",
     }
 }
-
-#[cfg(test)]
-mod tests;

@@ -7,8 +7,6 @@ mod keys;
 mod loading;
 mod starts;
 mod store;
-#[cfg(test)]
-mod tests;
 
 pub use keys::{put_window_key, window_key};
 pub use store::WStore;

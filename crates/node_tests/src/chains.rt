@@ -1,0 +1,67 @@
+ghost use Rattle.std.specs.Prelude.{IfOk};
+ghost use Rattle.node_tests.specs.Plain.{AreFiltered, IsPlain};
+
+use crate::changes::{column, crosses_threads};
+use ksql_nodes::Node;
+use ksql_place::{Body, Change, Path, Place, Stamp};
+use ksql_types::{Items, Key, SqlType, Value};
+use op_chain::{Chain, Entry};
+use std::alloc::{AllocError, Global};
+use std::test::Fail;
+
+#[test]
+fn entries_cross_threads(_rt: HostRuntime) -> Result<(), Fail> {
+    crosses_threads::<Entry>();
+    Ok(())
+}
+
+/// A filter by the first column, and a select list of it.
+fn filtered(alloc: Global) -> Result<Vec<Node>, AllocError>
+    ensures { IfOk result (λ nodes. AreFiltered nodes.items) }
+{
+    let filter = Node::Filter {
+        on: column(0, SqlType::Bool),
+    };
+    let select = Node::Select {
+        keys: Items::of(Vec::new(alloc)),
+        values: Items::of(vec![in alloc; column(0, SqlType::Bool)]?),
+    };
+    let nodes = vec![in alloc; filter, select]?;
+    Ok(nodes)
+}
+
+/// A row of one column, of a stream.
+fn entry(alloc: Global, passes: bool) -> Result<Entry, AllocError>
+    ensures { IfOk result (λ entry. IsPlain entry.change) }
+{
+    let stamp = Stamp {
+        feed: 1,
+        high: 0,
+        topic: 0,
+        part: 0,
+        offset: 0,
+    };
+    let change = Change {
+        place: Place {
+            stamp,
+            path: Path::root(alloc),
+        },
+        time: 0,
+        key: Key::of(Vec::new(alloc)),
+        span: None,
+        body: Body::Said(Items::of(vec![in alloc; Value::Bool(passes)]?)),
+    };
+    Ok(Entry { side: 0, change })
+}
+
+#[test]
+fn what_passes_a_filter_comes_out(rt: HostRuntime) -> Result<(), Fail> {
+    let alloc = rt.alloc();
+    let nodes = filtered(alloc)?;
+    let mut chain = Chain::new(alloc, nodes.as_slice())?;
+    let entries = vec![in alloc; entry(alloc, true)?, entry(alloc, false)?]?;
+    let mut out = Vec::new(alloc);
+    chain.run(alloc, entries, &mut out)?;
+    assert_eq!(rt; out.len(), 1);
+    Ok(())
+}

@@ -1,0 +1,12 @@
+//! Short texts.
+
+use ksql_types::Chars;
+use std::alloc::{AllocError, Global};
+
+#[tactic(auto, unfolding(ksql_types::specs::Text::longest_text))]
+pub fn chars(alloc: Global, text: &str) -> Result<Chars, AllocError> {
+    if text.len() > 100 {
+        return Err(AllocError);
+    }
+    Ok(Chars::of(String::from_str(alloc, text)?)?)
+}

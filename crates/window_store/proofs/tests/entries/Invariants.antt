@@ -1,6 +1,0 @@
-use Rattle.std.proofs.Common.{All}
-use Rattle.operator.specs.Holding.{IsWindowEntry}
-use Rattle.window_store.proofs.tests.entries.Given as goal
-
-abbrev pub invariant-loop-number : goal.invariant-loop-number
-invariant-loop-number l = All IsWindowEntry l.log.items
