@@ -108,10 +108,10 @@ fn give(
     let place = found.place;
     let turn = turned(alloc, over, aggs, found.value, &change)?;
     groups.write_at(alloc, place, key.items(), Some(turn.bytes))?;
-    let after = turn.after.as_slice();
-    let body = turn_of(alloc, &change.key, None, turn.before.as_slice(), after)?;
+    let time = kept_time(turn.after.as_slice());
+    let body = turn_of(alloc, &change.key, None, turn.before, turn.after)?;
     out.push(Change {
-        time: kept_time(after),
+        time,
         span: None,
         body,
         ..change

@@ -1,5 +1,5 @@
 //! What is kept of a group: its greatest time, and then the values of its aggregates.
-ghost use Rattle.std.specs.Prelude.{◌≡◌, ◌<◌, ◌≤◌, ◌^◌, ◌≤ℤ◌, ◌∷◌, [], IfOk, IfSome, neg_ℤ, option_map, pos, slice_get, unwrap_or};
+ghost use Rattle.std.specs.Prelude.{◌≡◌, ◌<◌, ◌≤◌, ◌^◌, ◌≤ℤ◌, ◌∷◌, ◌++◌, [], IfOk, IfSome, OnOk, drop, length, neg_ℤ, option_map, pos, slice_get, unwrap_or};
 ghost use Rattle.ksql_types.specs.declared.relation.Kind.TheVariants as kinds;
 ghost use Rattle.ksql_place.specs.declared.change.Body.TheVariants.{Turned};
 ghost use Rattle.ksql_nodes.specs.Aggregates.{amount};
@@ -10,7 +10,7 @@ use ksql_expr::AggFun;
 use ksql_place::{Body, Change};
 use ksql_program::Agg;
 use ksql_types::{CopyOf, Items, Key, Kind, Row, Span, SqlType, Value};
-use node_steps::{argument, greater, lesser, push_copies, row_in, row_out, type_of_agg};
+use node_steps::{argument, greater, lesser, row_in, row_out, type_of_agg};
 use std::alloc::{AllocError, Global};
 
 /// What is kept of a group after one more change.
@@ -40,11 +40,11 @@ pub(crate) fn turn_of(
     alloc: Global,
     group: &Key,
     span: Option<Span>,
-    before: &[Value],
-    after: &[Value],
+    before: Vec<Value>,
+    after: Vec<Value>,
 ) -> Result<Body, AllocError>
     requires { IfSome span HasBigBounds }
-    ensures { IfOk result (λ turn. turn ≡ Turned (result_of group.now span before.now) (result_of group.now span after.now)) }
+    ensures { IfOk result (λ turn. turn ≡ Turned (result_of group.now span before.items) (result_of group.now span after.items)) }
 {
     Ok(Body::Turned {
         old: result_of(alloc, group, span, before)?,
@@ -209,20 +209,33 @@ fn result_of(
     alloc: Global,
     group: &Key,
     span: Option<Span>,
-    mine: &[Value],
+    mine: Vec<Value>,
 ) -> Result<Option<Row>, AllocError>
     requires { IfSome span HasBigBounds }
-    ensures { IfOk result (λ row. row ≡ result_of group.now span mine.now) }
+    ensures { IfOk result (λ row. row ≡ result_of group.now span mine.items) }
 {
-    let [_, worths @ ..] = mine else {
+    if mine.is_empty() {
         return Ok(None);
-    };
-    let mut row = Vec::with_capacity(alloc, group.items().len() + mine.len() + 1)?;
-    push_copies(alloc, &mut row, group.items())?;
-    push_copies(alloc, &mut row, worths)?;
+    }
+    let mut row = mine;
+    put_key(alloc, &mut row, group.items())?;
     if let Some(span) = span {
+        row.reserve_exact(2)?;
         row.push(Value::Big(span.start.cast_signed()))?;
         row.push(Value::Big(span.end.cast_signed()))?;
     }
     Ok(Some(Items::of(row)))
+}
+
+/// Puts the values of a key in place of the first value.
+fn put_key(alloc: Global, row: &mut Vec<Value>, key: &[Value]) -> Result<(), AllocError>
+    requires { 0 < length row.old.items }
+    ensures { OnOk result (row.new.items ≡ key.now ++ drop 1 row.old.items) }
+{
+    drop(row.remove(0));
+    row.reserve_exact(key.len())?;
+    for (index, value) in key.iter().enumerate() {
+        row.insert(index, value.copy(alloc)?)?;
+    }
+    Ok(())
 }

@@ -192,14 +192,7 @@ fn add_to(
     let place = found.place;
     let turn = turned(alloc, Kind::Stream, aggs, found.value, change)?;
     windows.set_at(alloc, place, at, turn.bytes)?;
-    window_change(
-        alloc,
-        change,
-        span,
-        index,
-        turn.before.as_slice(),
-        turn.after.as_slice(),
-    )
+    window_change(alloc, change, span, index, turn.before, turn.after)
 }
 
 /// The change of one of a change's windows, whose index among them ends the path.
@@ -208,18 +201,19 @@ fn window_change(
     change: &Change,
     span: Span,
     index: u32,
-    before: &[Value],
-    after: &[Value],
+    before: Vec<Value>,
+    after: Vec<Value>,
 ) -> Result<Change, AllocError>
     requires { HasBigBounds span }
-    ensures { IfOk result (λ made. made ≡ at_path (change.now.place.path ++ index ∷ []) (changed change.now (Some span) before.now after.now)) }
+    ensures { IfOk result (λ made. made ≡ at_path (change.now.place.path ++ index ∷ []) (changed change.now (Some span) before.items after.items)) }
 {
+    let time = kept_time(after.as_slice());
     Ok(Change {
         place: Place {
             stamp: change.place.stamp,
             path: change.place.path.with_last(alloc, index)?,
         },
-        time: kept_time(after),
+        time,
         key: change.key.copy(alloc)?,
         span: Some(span),
         body: turn_of(alloc, &change.key, Some(span), before, after)?,

@@ -1,7 +1,6 @@
-use Rattle.std.proofs.Common.{◌≡◌, ◌∙◌, ap, ap₂, subst, List, [], ◌∷◌, ◌++◌, ℕ}
+use Rattle.std.proofs.Common.{◌≡◌, ◌∙◌, ap, subst, List, [], ◌∷◌, ◌++◌, ℕ}
 use Rattle.std.specs.Prelude.{None, Some, unwrap_or}
 use Rattle.std.specs.FinMap.{get}
-use Rattle.ksql_types.specs.declared.value.Value.{Value}
 use Rattle.ksql_place.specs.declared.change.Body.TheVariants.{Turned}
 use Rattle.ksql_place.specs.declared.change.Change.{Change}
 use Rattle.ksql_nodes.specs.Entries.{Entry, of_key}
@@ -28,10 +27,9 @@ returns-clause-next c = λ side es h.
     turn.before (totals over aggs mine) (groups-spelled over aggs m es change.key h key) (c.find-found.ensures.value ∙ ap (get m) read_at ∙ groups-read over aggs m es change.key h key) in
     let after : c.in_ok-turn.turn.after.items ≡ next_totals over aggs change (unwrap_or (totals over aggs mine) []) = turn.after ∙ ap (next_totals over aggs change) before in
     let bytes : c.in_ok-turn.turn.bytes ≡ values (next_totals over aggs change (unwrap_or (totals over aggs mine) [])) = turn.bytes ∙ ap values after in
-    let time : c.kept_time.result ≡ kept_time c.in_ok-turn.turn.after.items = c.kept_time.ensures.time ∙ ap kept_time c.as_slice-after.ensures.value in
-    let body : c.in_ok-body.body ≡ Turned (result_of change.key None c.in_ok-turn.turn.before.items) (result_of change.key None c.in_ok-turn.turn.after.items) =
-    c.in_ok-body.ensures ∙ ap₂ (λ (b a : List Value). Turned (result_of change.key None b) (result_of change.key None a)) c.as_slice.ensures.value c.as_slice-after.ensures.value in
-    let given : record { place = change.place; time = c.kept_time.result; key = change.key; span = None; body = c.in_ok-body.body } ≡ changed change None c.in_ok-turn.turn.before.items c.in_ok-turn.turn.after.items =
+    let time : c.kept_time-time.result ≡ kept_time c.in_ok-turn.turn.after.items = c.kept_time-time.ensures.time ∙ ap kept_time c.as_slice.ensures.value in
+    let body : c.in_ok-body.body ≡ Turned (result_of change.key None c.in_ok-turn.turn.before.items) (result_of change.key None c.in_ok-turn.turn.after.items) = c.in_ok-body.ensures in
+    let given : record { place = change.place; time = c.kept_time-time.result; key = change.key; span = None; body = c.in_ok-body.body } ≡ changed change None c.in_ok-turn.turn.before.items c.in_ok-turn.turn.after.items =
     λ i. record { place = change.place; time = time i; key = change.key; span = None; body = body i } in (
       c.in_ok-push.ensures.items ∙ ap (λ (made : Change). c.args.out.now.items ++ made ∷ []) (given ∙ change-of over aggs None mine e _ _ before turn.after),
       groups-more over aggs m c.write_at.new.self.map es e h key (subst AreSpellable after turn.spellable)
