@@ -1,16 +1,15 @@
 //! The table at an input: for each key the change that set its row, under the bytes of the key.
-ghost use Rattle.std.specs.Prelude.{◌≡◌, ℕ, List, [], ◌∷◌, ◌++◌, Option, All, IfOk, IfSome, OnOk, option_map};
-ghost use Rattle.std.specs.FinMap as finite;
+ghost use Rattle.std.specs.Prelude.{◌≡◌, ℕ, List, [], ◌∷◌, ◌++◌, Option, All, IfOk, IfSome, OnOk, option_copied, option_map};
 ghost use Rattle.ksql_place.specs.declared.change.Change.{Change as OneChange};
 ghost use Rattle.ksql_nodes.specs.Entries.{Entry, of_key};
-ghost use Rattle.state_store.specs.Store.{Values, with_value, IsBase};
+ghost use Rattle.state_store.specs.Store.{Values, IsBase};
 ghost use Rattle.record_codec.specs.Spelling.{spelling, IsShort, IsSpellable};
 ghost use Rattle.operator.specs.Kept.{kept, kept_after};
 ghost use Rattle.operator.specs.Storable.{HasShortRow};
 ghost use Rattle.row_ops.specs.InputTable.{HoldsRows};
 
 use ksql_place::Change;
-use ksql_types::Key;
+use ksql_types::{Bytes, Key};
 use node_steps::row_in;
 use operator::{is_short, spelled_key};
 use record_codec::{decode, encode_new};
@@ -27,8 +26,11 @@ pub fn turn(store: &mut Store, alloc: Global, change: &Change) -> Result<Option<
     ensures base { (base : Values) → IsBase base store.old → IsBase base store.new }
 {
     let key = spelled_key(alloc, &change.key)?;
-    let before = latest(store, alloc, key.items())?;
-    keep(store, alloc, key.items(), change)?;
+    let found = store.find(key.items());
+    let place = found.place;
+    let before = kept_in(alloc, found.value)?;
+    let bytes = kept_of(alloc, change)?;
+    store.write_at(alloc, place, key.items(), bytes)?;
     Ok(before)
 }
 
@@ -41,32 +43,28 @@ pub fn standing(store: &Store, alloc: Global, key: &Key) -> Result<Option<Change
         return Ok(None);
     }
     let key = spelled_key(alloc, key)?;
-    latest(store, alloc, key.items())
+    kept_in(alloc, store.get(key.items()))
 }
 
-/// The change that is kept under some bytes; None also where what is kept there spells no change.
-fn latest(store: &Store, alloc: Global, key: &[u8]) -> Result<Option<Change>, AllocError>
-    ensures { (change : Option OneChange) → IfSome change IsSpellable → finite.get store.now.map key.now ≡ option_map spelling change →
+/// The change that is kept in some bytes; None where there are none, and also where they spell no change.
+fn kept_in(alloc: Global, bytes: Option<&[u8]>) -> Result<Option<Change>, AllocError>
+    ensures { (change : Option OneChange) → IfSome change IsSpellable → option_copied bytes.entry ≡ option_map spelling change →
         IfOk result (λ found. found ≡ change) }
 {
-    match store.get(key) {
+    match bytes {
         Some(bytes) => decode(alloc, bytes),
         None => Ok(None),
     }
 }
 
-/// Keeps what a change says of a key in place of what was kept before: nothing where it brings no row.
-fn keep(store: &mut Store, alloc: Global, key: &[u8], change: &Change) -> Result<(), AllocError>
+/// The bytes in which a change is kept; None where it brings no row.
+fn kept_of(alloc: Global, change: &Change) -> Result<Option<Bytes>, AllocError>
     requires { HasShortRow change.now }
-    ensures map { OnOk result (store.new.map ≡ with_value store.old.map key.now (option_map spelling (kept change.now))) }
+    ensures bytes { IfOk result (λ bytes. bytes ≡ option_map spelling (kept change.now)) }
     ensures spellable { OnOk result (IfSome (kept change.now) IsSpellable) }
-    ensures base { (base : Values) → IsBase base store.old → IsBase base store.new }
 {
     match row_in(&change.body) {
-        Some(row) => {
-            let bytes = encode_new(alloc, change, row)?;
-            store.set(alloc, key, bytes.items())
-        }
-        None => store.delete(alloc, key),
+        Some(row) => Ok(Some(encode_new(alloc, change, row)?)),
+        None => Ok(None),
     }
 }

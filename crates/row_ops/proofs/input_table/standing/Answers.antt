@@ -24,6 +24,6 @@ pub returns : goal.returns
 returns c =
     let m = c.args.store.now.map in
     let key = c.args.key.now in
-    of-all m key c.latest.result
-    (λ es h. c.latest.ensures (kept_after (of_key key es)) (rows-spelled m es key h)
-    (ap (get m) (c.items.ensures ∙ c.in_ok-key.ensures.bytes) ∙ rows-read m es key h c.in_ok-key.ensures.spellable))
+    of-all m key c.kept_in.result
+    (λ es h. c.kept_in.ensures (kept_after (of_key key es)) (rows-spelled m es key h)
+    (c.get.ensures ∙ ap (get m) (c.items.ensures ∙ c.in_ok-key.ensures.bytes) ∙ rows-read m es key h c.in_ok-key.ensures.spellable))
