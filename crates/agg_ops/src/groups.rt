@@ -10,7 +10,7 @@ ghost use Rattle.operator.specs.StandsFor.{StandsFor};
 ghost use Rattle.operator.specs.Storable.{HasShortArguments};
 ghost use Rattle.agg_ops.specs.Groups.{HoldsGroups};
 
-use crate::totals::{kept_time, turn_of};
+use crate::totals::{kept_time, room_for_result, turn_of};
 use crate::turn::turned;
 use ksql_place::Change;
 use ksql_program::{Agg, Aggs};
@@ -106,7 +106,8 @@ fn give(
     let key = spelled_key(alloc, &change.key)?;
     let found = groups.find(key.items());
     let place = found.place;
-    let turn = turned(alloc, over, aggs, found.value, &change)?;
+    let room = room_for_result(&change.key, false);
+    let turn = turned(alloc, over, aggs, room, found.value, &change)?;
     groups.write_at(alloc, place, key.items(), Some(turn.bytes))?;
     let time = kept_time(turn.after.as_slice());
     let body = turn_of(alloc, &change.key, None, turn.before, turn.after)?;

@@ -13,11 +13,19 @@ use ksql_types::{CopyOf, Items, Key, Kind, Row, Span, SqlType, Value};
 use node_steps::{argument, greater, lesser, row_in, row_out, type_of_agg};
 use std::alloc::{AllocError, Global};
 
-/// What is kept of a group after one more change.
+/// How many values more the result of a group has than are kept of it: those of its key, which stand in place of the time, and
+/// the start and the end of its window.
+pub(crate) fn room_for_result(group: &Key, window: bool) -> usize {
+    let bounds = if window { 2 } else { 0 };
+    group.items().len().saturating_sub(1).saturating_add(bounds)
+}
+
+/// What is kept of a group after one more change, in a list with room for so many values more.
 pub(crate) fn next_totals(
     alloc: Global,
     over: Kind,
     aggs: &[Agg],
+    room: usize,
     mine: &[Value],
     change: &Change,
 ) -> Result<Vec<Value>, AllocError>
@@ -26,7 +34,7 @@ pub(crate) fn next_totals(
 {
     let time = kept_time(mine).max(change.time);
     let worths = kept_worths(mine);
-    let mut totals = Vec::with_capacity(alloc, 1 + aggs.len())?;
+    let mut totals = Vec::with_capacity(alloc, room.saturating_add(1 + aggs.len()))?;
     totals.push(Value::Big(time.cast_signed()))?;
     for (index, agg) in aggs.iter().enumerate() {
         let worth = worth_at(alloc, over, worths, index, agg)?;
@@ -220,7 +228,6 @@ fn result_of(
     let mut row = mine;
     put_key(alloc, &mut row, group.items())?;
     if let Some(span) = span {
-        row.reserve_exact(2)?;
         row.push(Value::Big(span.start.cast_signed()))?;
         row.push(Value::Big(span.end.cast_signed()))?;
     }
@@ -232,9 +239,22 @@ fn put_key(alloc: Global, row: &mut Vec<Value>, key: &[Value]) -> Result<(), All
     requires { 0 < length row.old.items }
     ensures { OnOk result (row.new.items ≡ key.now ++ drop 1 row.old.items) }
 {
+    match key {
+        [only] => {
+            row[0] = only.copy(alloc)?;
+            Ok(())
+        }
+        _ => put_several(alloc, row, key),
+    }
+}
+
+/// Puts values in place of the first value.
+fn put_several(alloc: Global, row: &mut Vec<Value>, values: &[Value]) -> Result<(), AllocError>
+    requires { 0 < length row.old.items }
+    ensures { OnOk result (row.new.items ≡ values.now ++ drop 1 row.old.items) }
+{
     drop(row.remove(0));
-    row.reserve_exact(key.len())?;
-    for (index, value) in key.iter().enumerate() {
+    for (index, value) in values.iter().enumerate() {
         row.insert(index, value.copy(alloc)?)?;
     }
     Ok(())

@@ -20,11 +20,12 @@ pub(crate) struct Turn {
     pub(crate) bytes: Bytes,
 }
 
-/// Adds a change to a group of which these bytes are kept, where any are.
+/// Adds a change to a group of which these bytes are kept, where any are. The lists have room for so many values more.
 pub(crate) fn turned(
     alloc: Global,
     over: Kind,
     aggs: &[Agg],
+    room: usize,
     bytes: Option<&[u8]>,
     change: &Change,
 ) -> Result<Turn, AllocError>
@@ -37,8 +38,8 @@ pub(crate) fn turned(
     ensures bytes { IfOk result (λ turn. turn.bytes ≡ values turn.after.items) }
     ensures spellable { IfOk result (λ turn. AreSpellable turn.after.items) }
 {
-    let before = kept_in(alloc, bytes)?;
-    let after = next_totals(alloc, over, aggs, before.as_slice(), change)?;
+    let before = kept_in(alloc, room, bytes)?;
+    let after = next_totals(alloc, over, aggs, room, before.as_slice(), change)?;
     let bytes = encode_values(alloc, after.as_slice())?;
     Ok(Turn {
         before,
@@ -48,7 +49,7 @@ pub(crate) fn turned(
 }
 
 /// What is kept in some bytes; nothing where there are none, and also where they spell no values.
-fn kept_in(alloc: Global, bytes: Option<&[u8]>) -> Result<Vec<Value>, AllocError>
+fn kept_in(alloc: Global, room: usize, bytes: Option<&[u8]>) -> Result<Vec<Value>, AllocError>
     ensures value { (kept : Option (List OneValue)) → IfSome kept AreSpellable → option_copied bytes.entry ≡ option_map values kept →
         IfOk result (λ found. found.items ≡ unwrap_or kept []) }
     ensures short { IfOk result (λ found. All IsShort found.items) }
@@ -56,7 +57,7 @@ fn kept_in(alloc: Global, bytes: Option<&[u8]>) -> Result<Vec<Value>, AllocError
     let Some(bytes) = bytes else {
         return Ok(Vec::new(alloc));
     };
-    match decode_values(alloc, bytes)? {
+    match decode_values(alloc, bytes, room)? {
         Some(kept) => Ok(kept.into_items()),
         None => Ok(Vec::new(alloc)),
     }

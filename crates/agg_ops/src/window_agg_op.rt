@@ -17,7 +17,7 @@ ghost use Rattle.window_store.specs.Windows.{IsWindowKey};
 ghost use Rattle.agg_ops.specs.Totals.{changed, is_sound_window, is_window_aggregate, next_totals, HasBigBounds};
 ghost use Rattle.agg_ops.specs.WindowGroups.{HoldsWindows};
 
-use crate::totals::{kept_time, turn_of};
+use crate::totals::{kept_time, room_for_result, turn_of};
 use crate::turn::turned;
 use crate::windows::windows_of;
 use ksql_nodes::Node;
@@ -190,7 +190,8 @@ fn add_to(
 {
     let found = windows.find(at);
     let place = found.place;
-    let turn = turned(alloc, Kind::Stream, aggs, found.value, change)?;
+    let room = room_for_result(&change.key, true);
+    let turn = turned(alloc, Kind::Stream, aggs, room, found.value, change)?;
     windows.set_at(alloc, place, at, turn.bytes)?;
     window_change(alloc, change, span, index, turn.before, turn.after)
 }

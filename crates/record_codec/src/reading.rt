@@ -110,10 +110,16 @@ fn value(alloc: Global, bytes: &[u8]) -> Result<(Value, &[u8]), ReadError>
     }
 }
 
-fn many_values(alloc: Global, count: u32, bytes: &[u8]) -> Result<(Vec<Value>, &[u8]), ReadError>
+fn many_values(
+    alloc: Global,
+    count: u32,
+    room: usize,
+    bytes: &[u8],
+) -> Result<(Vec<Value>, &[u8]), ReadError>
     ensures { Gives with_items result (read.times read.value_at count bytes.now) }
 {
-    let mut values = Vec::with_capacity(alloc, bytes.len().min(count as usize))?;
+    let most = bytes.len().min(count as usize);
+    let mut values = Vec::with_capacity(alloc, most.saturating_add(room))?;
     let mut rest = bytes;
     for _ in 0..count {
         let (value, after) = value(alloc, rest)?;
@@ -124,21 +130,26 @@ fn many_values(alloc: Global, count: u32, bytes: &[u8]) -> Result<(Vec<Value>, &
 }
 
 #[tactic(auto, unfolding(crate::specs::Reading::list_at))]
-fn values_of(alloc: Global, limit: u32, bytes: &[u8]) -> Result<(Vec<Value>, &[u8]), ReadError>
+fn values_of(
+    alloc: Global,
+    limit: u32,
+    room: usize,
+    bytes: &[u8],
+) -> Result<(Vec<Value>, &[u8]), ReadError>
     ensures { Gives with_items result (read.list_at limit read.value_at bytes.now) }
 {
     let (count, rest) = four(bytes)?;
     if count > limit {
         return Err(ReadError::Unspelled);
     }
-    many_values(alloc, count, rest)
+    many_values(alloc, count, room, rest)
 }
 
 #[tactic(auto, unfolding(crate::specs::Reading::row_at))]
 fn row(alloc: Global, bytes: &[u8]) -> Result<(Row, &[u8]), ReadError>
     ensures { Gives with_rest result (read.row_at bytes.now) }
 {
-    let (values, rest) = values_of(alloc, 64, bytes)?;
+    let (values, rest) = values_of(alloc, 64, 0, bytes)?;
     Ok((Items::of(values), rest))
 }
 
@@ -146,7 +157,7 @@ fn row(alloc: Global, bytes: &[u8]) -> Result<(Row, &[u8]), ReadError>
 fn key(alloc: Global, bytes: &[u8]) -> Result<(Key, &[u8]), ReadError>
     ensures { Gives with_rest result (read.key_at bytes.now) }
 {
-    let (values, rest) = values_of(alloc, 8, bytes)?;
+    let (values, rest) = values_of(alloc, 8, 0, bytes)?;
     if !Key::is_key(&values) {
         return Err(ReadError::Unspelled);
     }
@@ -333,10 +344,10 @@ fn whole_row(alloc: Global, bytes: &[u8]) -> Result<Row, ReadError>
 }
 
 #[tactic(auto, unfolding(crate::specs::Reading::values_at))]
-fn whole_values(alloc: Global, bytes: &[u8]) -> Result<Items<Value>, ReadError>
+fn whole_values(alloc: Global, bytes: &[u8], room: usize) -> Result<Items<Value>, ReadError>
     ensures { Gives (λ vs. vs) result (read.whole read.values_at bytes.now) }
 {
-    let (values, rest) = values_of(alloc, u32::MAX, bytes)?;
+    let (values, rest) = values_of(alloc, u32::MAX, room, bytes)?;
     if !rest.is_empty() {
         return Err(ReadError::Unspelled);
     }
@@ -367,12 +378,16 @@ pub fn decode_row(alloc: Global, bytes: &[u8]) -> Result<Option<Row>, AllocError
     }
 }
 
-/// The values that the bytes spell, or `None` where they spell none.
-pub fn decode_values(alloc: Global, bytes: &[u8]) -> Result<Option<Items<Value>>, AllocError>
+/// The values that the bytes spell, in a list with room for so many more, or `None` where they spell none.
+pub fn decode_values(
+    alloc: Global,
+    bytes: &[u8],
+    room: usize,
+) -> Result<Option<Items<Value>>, AllocError>
     ensures found { IfOk result (λ o. IfSome o (λ vs. AreSpellable vs × (bytes.now ≡ values vs))) }
     ensures only { (vs : List OneValue) → AreSpellable vs → bytes.now ≡ values vs → IfOk result (λ o. o ≡ Some vs) }
 {
-    match whole_values(alloc, bytes) {
+    match whole_values(alloc, bytes, room) {
         Ok(values) => Ok(Some(values)),
         Err(ReadError::Unspelled) => Ok(None),
         Err(ReadError::OutOfMemory) => Err(AllocError),
