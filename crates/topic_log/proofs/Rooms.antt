@@ -1,16 +1,18 @@
 -- How many changes go to a partition, and how they are put there.
-use Rattle.std.proofs.Common.{◌≡◌, ◌≢◌, ◌∙◌, ℕ, ◌+◌, ◌<◌, ◌≤◌, not, List, [], ◌∷◌, ◌++◌, length, get_or, set, take, sym, ap, refl, subst, arith}
-use Rattle.std.specs.Prelude.{Bool, filter, vec_capacity}
+use Rattle.std.proofs.Common.{◌≡◌, ◌≢◌, ◌∙◌, ℕ, suc, ◌+◌, ◌<◌, ◌≤◌, true, false, cond, not, List, [], ◌∷◌, ◌++◌, length, get_or, set, take, sym, ap, refl, subst, arith}
+use Rattle.std.specs.Prelude.{Bool, Option, Some, None, IfSome, filter, position, vec_capacity, ◌==◌}
 use Rattle.std.specs.Global.{Vec}
-use Rattle.std.proofs.lemmas.Bool.{cond-true, cond-false, eq-eqb, ne_eqb}
+use Rattle.std.proofs.lemmas.Bool.{cond-true, cond-false, eq-eqb, eqb-true, ne_eqb}
 use Rattle.std.proofs.lemmas.List.{append_assoc, length-append, length-take-le}
 use Rattle.std.proofs.lemmas.List.Filters.{length-filter_both}
+use Rattle.std.proofs.lemmas.List.Quantifiers.{position-Some}
 use Rattle.ksql_types.specs.Lane.{lane}
 use Rattle.ksql_place.specs.Routing.{is_to}
 use Rattle.ksql_place.specs.declared.change.Change.{Change}
-use Rattle.topic_log.specs.Taking.{WillHave, count_to}
+use Rattle.topic_log.specs.Taking.{AreRooms, IsEmptyRoom, WillHave, count_to, room_beside}
+use Rattle.topic_log.specs.declared.prepared.Rooms.{Rooms}
 use Rattle.topic_log.specs.Views.{EachAt}
-use Rattle.topic_log.proofs.EachPlace.{EachAt-written}
+use Rattle.topic_log.proofs.EachPlace.{EachAt-weaker, EachAt-written}
 
 pub filter-le : {A : Type 0} (p : A → Bool) (xs : List A) → length (filter p xs) ≤ length xs
 filter-le p xs = omega (arith, length-filter_both p (λ x. not (p x)) (λ x. refl) xs)
@@ -21,6 +23,22 @@ count-front n xs i q inside =
     let few : count_to n (take i xs) q ≤ length (take i xs) = filter-le (is_to n q) (take i xs) in
     let len : length (take i xs) ≡ i = length-take-le i xs (omega arith) in
     omega arith
+
+-- lists by the counts of changes are lists for these changes
+pub rooms-counted : (n : ℕ) (xs : List Change) (counts : List ℕ) (rooms : Rooms) → length counts ≡ n → EachAt (λ q count. count ≡ count_to n xs q) counts → length rooms.lists.items ≡ length counts →
+    rooms.whole ≡ position (λ count. count == length xs) counts → EachAt (λ q list. IsEmptyRoom (room_beside rooms.whole (get_or counts q 0)) list) rooms.lists.items → AreRooms n xs rooms
+rooms-counted n xs counts rooms len counted same whole each = record {
+  len = same ∙ len;
+  whole = by rooms.whole whole;
+  lists = EachAt-weaker (λ q list. IsEmptyRoom (room_beside rooms.whole (get_or counts q 0)) list) (λ q list. IsEmptyRoom (room_beside rooms.whole (count_to n xs q)) list) rooms.lists.items
+      (λ q list below empty. subst (λ (count : ℕ). IsEmptyRoom (room_beside rooms.whole count) list) (counted q 0 (omega (arith, below, same))) empty) each;
+}
+  where
+    by : (o : Option ℕ) → o ≡ position (λ count. count == length xs) counts → IfSome o (λ part. (part < n) × (count_to n xs part ≡ length xs))
+    by None is = tt
+    by (Some part) is =
+        let at = position-Some (λ (count : ℕ). count == length xs) counts part 0 (sym is) in
+        (omega (arith, at.0, len), sym (counted part 0 at.0) ∙ eqb-true (get_or counts part 0) (length xs) at.1)
 
 -- the partition to which a change goes
 abbrev pub goes_to : ℕ → Change → ℕ
@@ -59,3 +77,31 @@ put-next n all x rest rooms part room put lane-is within at items cap each =
           omega (arith, have.room, cap);
     })
     each
+
+-- ---- one partition gets the whole
+
+module _ {A : Type 0} (p : A → Bool) where
+  -- where as many pass as there are, the first one does
+  whole-cons : (x : A) (xs : List A) → length (filter p (x ∷ xs)) ≡ length (x ∷ xs) → (p x ≡ true) × (length (filter p xs) ≡ length xs)
+  whole-cons x xs = by (p x) refl
+    where
+      by : (b : Bool) → p x ≡ b → length (cond b (x ∷ filter p xs) (filter p xs)) ≡ suc (length xs) → (p x ≡ true) × (length (filter p xs) ≡ length xs)
+      by true is e = (is, omega arith)
+      by false is e = absurd (omega (arith, e, filter-le p xs))
+
+  filter-whole : (xs : List A) → length (filter p xs) ≡ length xs → filter p xs ≡ xs
+  filter-whole [] e = refl
+  filter-whole (x ∷ xs) e = let first = whole-cons x xs e in rw first.0 (ap (λ (l : List A). x ∷ l) (filter-whole xs first.1))
+
+  filter-else : (q : A → Bool) → ((x : A) → p x ≡ true → q x ≡ false) → (xs : List A) → length (filter p xs) ≡ length xs → filter q xs ≡ []
+  filter-else q apart [] e = refl
+  filter-else q apart (x ∷ xs) e = let first = whole-cons x xs e in rw (apart x first.0) (filter-else q apart xs first.1)
+
+-- all changes are put
+pub put-whole : (n : ℕ) (all : Vec Change) (lists : List (Vec Change)) (part : ℕ) → part < length lists → count_to n all.items part ≡ length all.items → EachAt (λ q list. list.items ≡ []) lists →
+    EachAt (λ q xs. xs.items ≡ filter (is_to n q) all.items) (set lists part all)
+put-whole n all lists part within whole empty =
+    EachAt-written (λ q list. list.items ≡ []) (λ q xs. xs.items ≡ filter (is_to n q) all.items) lists part all within
+    (λ q list apart none. none ∙ sym (filter-else (is_to n part) (is_to n q) (λ x here. ne_eqb (goes_to n x) q (λ e. apart (sym e ∙ eqb-true (goes_to n x) part here))) all.items whole))
+    (sym (filter-whole (is_to n part) all.items whole))
+    empty

@@ -1,9 +1,10 @@
 -- The memory that is taken before a commit.
-use Rattle.std.specs.Prelude.{◌≡◌, ℕ, ◌+◌, ◌≤◌, List, [], ◌++◌, length, filter, slice_get, IfSome, vec_capacity}
+use Rattle.std.specs.Prelude.{◌≡◌, ℕ, ◌+◌, ◌<◌, ◌≤◌, List, [], ◌++◌, length, filter, slice_get, Option, Some, None, IfSome, vec_capacity}
 use Rattle.std.specs.Global.{Vec}
 use Rattle.ksql_place.specs.Routing.{is_to}
 use Rattle.ksql_place.specs.declared.change.Change.{Change}
 use Rattle.core_state.specs.declared.log.Proposal.{Proposal}
+use Rattle.topic_log.specs.declared.prepared.Rooms.{Rooms}
 use Rattle.topic_log.specs.declared.shelves.TopicShelf.{TopicShelf}
 use Rattle.topic_log.specs.Ready.{HasRoom}
 use Rattle.topic_log.specs.Views.{EachAt}
@@ -15,6 +16,17 @@ count_to n xs part = length (filter (is_to n part) xs)
 -- an empty list with room for so many changes
 abbrev pub IsEmptyRoom : ℕ → Vec Change → Type 0
 IsEmptyRoom more xs = (xs.items ≡ []) × (more ≤ vec_capacity xs)
+
+-- the room that a list needs for so many changes: none where one partition gets the list of all
+abbrev pub room_beside : Option ℕ → ℕ → ℕ
+room_beside None count = count
+room_beside (Some part) count = 0
+
+-- lists for changes by their partitions among n: all go to one of them, or each list has room for those that go there
+pub record AreRooms (n : ℕ) (xs : List Change) (rooms : Rooms) : Type 0 where
+  pub len : length rooms.lists.items ≡ n
+  pub whole : IfSome rooms.whole (λ part. (part < n) × (count_to n xs part ≡ length xs))
+  pub lists : EachAt (λ q list. IsEmptyRoom (room_beside rooms.whole (count_to n xs q)) list) rooms.lists.items
 
 -- a list becomes with those that are left what of all changes goes to its partition among n, and has room for them
 pub record WillHave (n : ℕ) (all rest : List Change) (part : ℕ) (xs : Vec Change) : Type 0 where

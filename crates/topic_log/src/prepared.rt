@@ -1,11 +1,11 @@
 //! Commits for which all memory was taken.
-ghost use Rattle.std.specs.Prelude.{◌≡◌, ◌+◌, ◌≤◌, ◌⊎◌, [], IfErr, IfOk, IfSome, OnOk, filter, length, map, slice_get, slice_index, sum, vec_capacity};
+ghost use Rattle.std.specs.Prelude.{◌≡◌, ◌+◌, ◌≤◌, ◌==◌, ◌⊎◌, [], IfErr, IfOk, IfSome, OnOk, filter, length, map, position, slice_get, slice_index, sum, vec_capacity};
 ghost use Rattle.std.specs.VecDeque.{deque_capacity};
 ghost use Rattle.ksql_place.specs.Routing.{is_to};
 ghost use Rattle.core_state.specs.Routes.{IsWriter};
 ghost use Rattle.topic_log.specs.Ready.{HasRoom, IsProposal, IsReady};
 ghost use Rattle.topic_log.specs.Shelves.{AreShelves, routes_in};
-ghost use Rattle.topic_log.specs.Taking.{count_to, HasRoomFor, IsEmptyRoom};
+ghost use Rattle.topic_log.specs.Taking.{AreRooms, count_to, HasRoomFor, IsEmptyRoom, room_beside};
 ghost use Rattle.topic_log.specs.Views.{part_view, task_view, topic_view, topic_views, EachAt};
 
 use crate::shelves::{PartShelf, Shelves, TaskShelf, TopicShelf};
@@ -24,6 +24,13 @@ pub struct Prepared {
     pub to: u64,
     pub(crate) sent: Vec<Vec<Change>>,
     pub(crate) entries: Vec<StoreEntry>,
+}
+
+/// An empty list for each partition, and the partition to which all outputs go, if there is one: it gets their own list.
+#[derive(Drop)]
+struct Rooms {
+    whole: Option<usize>,
+    lists: Vec<Vec<Change>>,
 }
 
 /// Takes all memory of a proposal's commit in the topic of this number, which its task writes. What the topics have stays
@@ -52,25 +59,23 @@ pub(crate) fn prepare(
     }
 }
 
-/// Takes the memory of a proposal's commit in its topic, and answers an empty list for each partition that has room for the
-/// outputs that go there.
+/// Takes the memory of a proposal's commit in its topic, and answers the lists for its outputs.
 fn take_room(
     alloc: Global,
     topic: &mut TopicShelf,
     proposal: &Proposal,
-) -> Result<Vec<Vec<Change>>, AllocError>
+) -> Result<Rooms, AllocError>
     requires some { 1 ≤ topic.old.spec.partitions }
     requires few { topic.old.spec.partitions ≤ 64 }
     requires parts { length topic.old.parts.items ≡ topic.old.spec.partitions }
     ensures view { topic_view topic.new ≡ topic_view topic.old }
-    ensures len { IfOk result (λ rooms. length rooms.items ≡ topic.old.spec.partitions) }
-    ensures rooms { IfOk result (λ rooms.
-        EachAt (λ q room. IsEmptyRoom (count_to topic.old.spec.partitions proposal.now.outputs q) room) rooms.items) }
+    ensures rooms { IfOk result (AreRooms topic.old.spec.partitions proposal.now.outputs) }
     ensures room { OnOk result (HasRoomFor proposal.now topic.new) }
 {
     let writer = proposal.task.part as usize;
-    let counts = counts_of(alloc, proposal.outputs.items(), topic.spec.partitions)?;
-    let rooms = rooms_of(alloc, counts.as_slice())?;
+    let outputs = proposal.outputs.items();
+    let counts = counts_of(alloc, outputs, topic.spec.partitions)?;
+    let rooms = rooms_of(alloc, counts.as_slice(), outputs.len())?;
     reserve_parts(&mut topic.parts, writer, counts.as_slice())?;
     reserve_logs(&mut topic.tasks, writer, proposal.entries.items().len())?;
     Ok(rooms)
@@ -91,16 +96,43 @@ fn counts_of(alloc: Global, outputs: &[Change], parts: u32) -> Result<Vec<usize>
     Ok(counts)
 }
 
-/// An empty list with room for so many changes, for each of these numbers.
-fn rooms_of(alloc: Global, counts: &[usize]) -> Result<Vec<Vec<Change>>, AllocError>
-    ensures len { IfOk result (λ rooms. length rooms.items ≡ length counts.now) }
-    ensures rooms { IfOk result (λ rooms. EachAt (λ q room. IsEmptyRoom (slice_index counts.now q) room) rooms.items) }
+/// The lists for so many outputs in all, of which so many go to each partition.
+fn rooms_of(alloc: Global, counts: &[usize], all: usize) -> Result<Rooms, AllocError>
+    ensures len { IfOk result (λ rooms. length rooms.lists.items ≡ length counts.now) }
+    ensures whole { IfOk result (λ rooms. rooms.whole ≡ position (λ count. count == all) counts.now) }
+    ensures lists { IfOk result (λ rooms.
+        EachAt (λ q list. IsEmptyRoom (room_beside rooms.whole (slice_index counts.now q)) list) rooms.lists.items) }
 {
-    let mut rooms = Vec::new(alloc);
+    let whole = counts.iter().position(|count| *count == all);
+    let lists = lists_of(alloc, counts, whole)?;
+    Ok(Rooms { whole, lists })
+}
+
+/// An empty list for each of these numbers of changes, with room for so many unless one partition gets the whole.
+fn lists_of(
+    alloc: Global,
+    counts: &[usize],
+    whole: Option<usize>,
+) -> Result<Vec<Vec<Change>>, AllocError>
+    ensures len { IfOk result (λ lists. length lists.items ≡ length counts.now) }
+    ensures lists { IfOk result (λ lists.
+        EachAt (λ q list. IsEmptyRoom (room_beside whole (slice_index counts.now q)) list) lists.items) }
+{
+    let mut lists = Vec::new(alloc);
     for count in counts {
-        rooms.push(Vec::with_capacity(alloc, *count)?)?;
+        lists.push(Vec::with_capacity(alloc, room_beside(whole, *count))?)?;
     }
-    Ok(rooms)
+    Ok(lists)
+}
+
+/// The room that a list needs for so many changes: none where one partition gets the whole.
+fn room_beside(whole: Option<usize>, count: usize) -> usize
+    ensures { result ≡ room_beside whole count }
+{
+    match whole {
+        Some(_) => 0,
+        None => count,
+    }
 }
 
 /// Makes room in each partition for what waits there and for so many changes of a task.
@@ -173,11 +205,10 @@ fn reserve_logs(tasks: &mut Vec<TaskShelf>, writer: usize, more: usize) -> Resul
 }
 
 /// The proposal with its outputs in the list of the partition that each goes to, among so many. Takes no memory.
-fn sorted(mut rooms: Vec<Vec<Change>>, proposal: Proposal, parts: u32) -> Prepared
+fn sorted(rooms: Rooms, proposal: Proposal, parts: u32) -> Prepared
     requires some { 1 ≤ parts }
     requires few { parts ≤ 64 }
-    requires len { length rooms.items ≡ parts }
-    requires rooms { EachAt (λ q room. IsEmptyRoom (count_to parts proposal.outputs q) room) rooms.items }
+    requires rooms { AreRooms parts proposal.outputs rooms }
     ensures task { result.task ≡ proposal.task }
     ensures generation { result.generation ≡ proposal.generation }
     ensures from { result.from ≡ proposal.from }
@@ -194,15 +225,30 @@ fn sorted(mut rooms: Vec<Vec<Change>>, proposal: Proposal, parts: u32) -> Prepar
         outputs,
         entries,
     } = proposal;
-    sort_outputs(&mut rooms, outputs.into_items(), parts);
     Prepared {
         task,
         generation,
         from,
         to,
-        sent: rooms,
+        sent: sent_in(rooms, outputs.into_items(), parts),
         entries: entries.into_items(),
     }
+}
+
+/// The outputs in the list of the partition that each goes to, among so many. Takes no memory.
+fn sent_in(rooms: Rooms, outputs: Vec<Change>, parts: u32) -> Vec<Vec<Change>>
+    requires some { 1 ≤ parts }
+    requires few { parts ≤ 64 }
+    requires rooms { AreRooms parts outputs.items rooms }
+    ensures len { length result.items ≡ parts }
+    ensures sent { EachAt (λ q xs. xs.items ≡ filter (is_to parts q) outputs.items) result.items }
+{
+    let Rooms { whole, mut lists } = rooms;
+    match whole {
+        Some(part) => lists[part] = outputs,
+        None => sort_outputs(&mut lists, outputs, parts),
+    }
+    lists
 }
 
 /// Puts each output into the list of the partition that it goes to, among so many. Takes no memory.
