@@ -37,11 +37,11 @@ pub there : (topics : List TopicShelf) (r : SourceRecord) → IsThere topics r �
 there topics r is = there-topic topics r.stamp.topic r.stamp.part (slice_get topics r.stamp.topic) refl is
 
 -- where a record of a list stands
-pub there-item : (topics : List TopicShelf) (records : List SourceRecord) (i : ℕ) (r : SourceRecord) → All (IsThere topics) records → i < length records → r ≡ get_or records i r →
+there-item : (topics : List TopicShelf) (records : List SourceRecord) (i : ℕ) (r : SourceRecord) → All (IsThere topics) records → i < length records → r ≡ get_or records i r →
     There topics r.stamp.topic r.stamp.part
 there-item topics records i r all inside at = there topics r (subst (IsThere topics) (sym at) (all i r inside))
 
-pub topic-within : (topics : List TopicShelf) (topic q : ℕ) → There topics topic q → topic < length topics
+topic-within : (topics : List TopicShelf) (topic q : ℕ) → There topics topic q → topic < length topics
 topic-within topics topic q here = slice_get_within topics topic here.of here.at
 
 pub is_in-here : (r : SourceRecord) → is_in r.stamp.topic r.stamp.part r ≡ true
@@ -102,14 +102,30 @@ module _ (records : List SourceRecord) (i : ℕ) (r : SourceRecord) (inside : i 
       each
 
 -- the numbers of the topic in which a record stands
-pub counted-at : (topics : List TopicShelf) (records : List SourceRecord) (counts : List (Vec ℕ)) (topic q : ℕ) (ns : Vec ℕ) → topic < length counts → ns ≡ get_or counts topic ns →
+counted-at : (topics : List TopicShelf) (records : List SourceRecord) (counts : List (Vec ℕ)) (topic q : ℕ) (ns : Vec ℕ) → topic < length counts → ns ≡ get_or counts topic ns →
     (here : There topics topic q) → EachAt (λ topic of. IfSome (slice_get topics topic) (λ t. IsCounted topic records t of.items)) counts → IsCounted topic records here.of ns.items
 counted-at topics records counts topic q ns within is here each =
     subst (λ (v : Vec ℕ). IsCounted topic records here.of v.items) (sym is)
     (IfSome-at (λ t. IsCounted topic records t (get_or counts topic ns).items) (slice_get topics topic) here.of here.at (each topic ns within))
 
-pub part-within : (topics : List TopicShelf) (records : List SourceRecord) (topic q : ℕ) (ns : List ℕ) (here : There topics topic q) → IsCounted topic records here.of ns → q < length ns
+part-within : (topics : List TopicShelf) (records : List SourceRecord) (topic q : ℕ) (ns : List ℕ) (here : There topics topic q) → IsCounted topic records here.of ns → q < length ns
 part-within topics records topic q ns here counted = let inside = slice_get_within here.of.parts.items q here.part here.part_at in omega (arith, counted.len)
+
+-- where the next record of a list is counted
+pub record CountedNext (topics : List TopicShelf) (records : List SourceRecord) (r : SourceRecord) (counts : List (Vec ℕ)) (ns : Vec ℕ) : Type 0 where
+  pub within : r.stamp.topic < length counts
+  pub inside : r.stamp.part < length ns.items
+  pub each : EachAt (λ q count. count ≡ count_in r.stamp.topic q records) ns.items
+
+pub counts-there : (topics : List TopicShelf) (records : List SourceRecord) (i : ℕ) (r : SourceRecord) (counts : List (Vec ℕ)) (ns : Vec ℕ) → All (IsThere topics) records → i < length records →
+    r ≡ get_or records i r → length counts ≡ length topics → ns ≡ get_or counts r.stamp.topic ns →
+    EachAt (λ topic of. IfSome (slice_get topics topic) (λ t. IsCounted topic (take i records) t of.items)) counts → CountedNext topics (take i records) r counts ns
+counts-there topics records i r counts ns there inside is len at each =
+    let here = there-item topics records i r there inside is in
+    let below = topic-within topics r.stamp.topic r.stamp.part here in
+    let within : r.stamp.topic < length counts = omega (arith, len) in
+    let counted = counted-at topics (take i records) counts r.stamp.topic r.stamp.part ns within at here each in
+    record { within = within; inside = part-within topics (take i records) r.stamp.topic r.stamp.part ns.items here counted; each = counted.each }
 
 pub count-small : (records : List SourceRecord) (i topic q : ℕ) → i < length records → count_in topic q (take i records) ≤ i
 count-small records i topic q inside =
