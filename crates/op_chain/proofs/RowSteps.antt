@@ -43,11 +43,11 @@ pub can_store-first : (n : Node) (ns : List Node) (h : Held) (hs : List Held) (e
 can_store-first n ns h hs entries can = can.2.0
 
 -- what comes to the later operators can be taken there
-pub can_take-later : (n : Node) (ns : List Node) (h next : Held) (hs : List Held) (entries later : List Entry) (changes : List Change) → CanTake (n ∷ ns) (h ∷ hs) entries →
-    Steps n h next entries [] changes → later ≡ from_side 0 changes → CanTake ns hs later
-can_take-later n ns h next hs entries later changes can steps is =
+pub can_take-later : (n : Node) (ns : List Node) (h next : Held) (hs : List Held) (entries : List Entry) (changes : List Change) → CanTake (n ∷ ns) (h ∷ hs) entries →
+    Steps n h next entries [] changes → CanTake ns hs (from_side 0 changes)
+can_take-later n ns h next hs entries changes can steps =
     let earlier : List Entry = can.0 in
-    let came : later ≡ passed n earlier entries = is ∙ ap (from_side 0) (steps earlier (stands-held n h earlier can.1.0)).0 in
+    let came : from_side 0 changes ≡ passed n earlier entries = ap (from_side 0) (steps earlier (stands-held n h earlier can.1.0)).0 in
     (passed n [] earlier, can.1.1, subst (AreStorable ns (passed n [] earlier)) (sym came) can.2.1)
 
 pub along-none : (entries : List Entry) (old new : List Change) → new ≡ old ++ map (λ e. e.change) entries → StepAlong [] [] [] entries old new
@@ -58,6 +58,10 @@ along-none entries old new is = λ earlier s. (is, tt)
 from_side-changes : (side : ℕ) (cs : List Change) → map (λ (e : Entry). e.change) (from_side side cs) ≡ cs
 from_side-changes side [] = refl
 from_side-changes side (c ∷ cs) = ap (λ (cs : List Change). c ∷ cs) (from_side-changes side cs)
+
+-- changes that come in after the last operator are given as they are
+pub along-given : (changes old new : List Change) → new ≡ old ++ changes → StepAlong [] [] [] (from_side 0 changes) old new
+along-given changes old new is = along-none (from_side 0 changes) old new (is ∙ ap (λ (cs : List Change). old ++ cs) (sym (from_side-changes 0 changes)))
 
 -- the steps of the last operator
 pub along-last : (n : Node) (h next : Held) (entries : List Entry) (old new : List Change) → Steps n h next entries old new →
@@ -70,14 +74,14 @@ along-last n h next entries old new steps = λ earlier s.
     )
 
 -- the first operator's steps and then the later ones'
-pub along-more : (n : Node) (ns : List Node) (h next : Held) (hs nexts : List Held) (entries later : List Entry) (changes old new : List Change) →
-    Steps n h next entries [] changes → later ≡ from_side 0 changes → StepAlong ns hs nexts later old new → StepAlong (n ∷ ns) (h ∷ hs) (next ∷ nexts) entries old new
+pub along-more : (n : Node) (ns : List Node) (h next : Held) (hs nexts : List Held) (entries : List Entry) (changes old new : List Change) →
+    Steps n h next entries [] changes → StepAlong ns hs nexts (from_side 0 changes) old new → StepAlong (n ∷ ns) (h ∷ hs) (next ∷ nexts) entries old new
 unfolding given
-along-more n ns h next hs nexts entries later changes old new steps is rest = λ earlier s.
+along-more n ns h next hs nexts entries changes old new steps rest = λ earlier s.
     let first = steps earlier (stands-held n h earlier s.0) in
-    let came : later ≡ passed n earlier entries = is ∙ ap (from_side 0) first.0 in
+    let came : from_side 0 changes ≡ passed n earlier entries = ap (from_side 0) first.0 in
     let on = rest (passed n [] earlier) s.1 in
-    let whole : passed n [] earlier ++ later ≡ passed n [] (earlier ++ entries) = ap (λ (es : List Entry). passed n [] earlier ++ es) came ∙ sym (passed-append n [] earlier entries) in (
+    let whole : passed n [] earlier ++ from_side 0 changes ≡ passed n [] (earlier ++ entries) = ap (λ (es : List Entry). passed n [] earlier ++ es) came ∙ sym (passed-append n [] earlier entries) in (
       on.0 ∙ ap (λ (es : List Entry). old ++ given ns (passed n [] earlier) es) came,
       (stands-committed n next (earlier ++ entries) first.1, subst (StandAlong ns (map maps_of nexts)) whole on.1),
     )

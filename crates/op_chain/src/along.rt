@@ -34,8 +34,32 @@ pub(crate) fn run_along(
     }
     let mut given = Vec::with_capacity(alloc, entries.len())?;
     step_each(op, alloc, entries, &mut given)?;
-    let entries = from_left(alloc, given)?;
-    run_along(later, alloc, entries, out)
+    run_on(later, alloc, given, out)
+}
+
+/// Takes changes that come in on the left through operators in a row, and adds what the last one gives to `out`.
+fn run_on(
+    ops: &mut [Op],
+    alloc: Global,
+    mut changes: Vec<Change>,
+    out: &mut Vec<Change>,
+) -> Result<(), AllocError>
+    requires { CanTake (map ⟦<Op as Operator>⟧.node ops.old) (map ⟦<Op as Operator>⟧.held ops.old) (from_side 0 changes.items) }
+    ensures nodes { map ⟦<Op as Operator>⟧.node ops.new ≡ map ⟦<Op as Operator>⟧.node ops.old }
+    ensures next { OnOk result (StepAlong (map ⟦<Op as Operator>⟧.node ops.old) (map ⟦<Op as Operator>⟧.held ops.old) (map ⟦<Op as Operator>⟧.held ops.new)
+        (from_side 0 changes.items) out.old.items out.new.items) }
+    ensures bases { (bases : List Maps) → AllZip IsBaseOf bases (map ⟦<Op as Operator>⟧.held ops.old) → AllZip IsBaseOf bases (map ⟦<Op as Operator>⟧.held ops.new) }
+{
+    let Some((op, later)) = ops.split_first_mut() else {
+        out.append(&mut changes)?;
+        return Ok(());
+    };
+    if later.is_empty() {
+        return step_left(op, alloc, changes, out);
+    }
+    let mut given = Vec::with_capacity(alloc, changes.len())?;
+    step_left(op, alloc, changes, &mut given)?;
+    run_on(later, alloc, given, out)
 }
 
 /// Takes entries through one operator, and adds what it gives.
@@ -56,15 +80,22 @@ fn step_each(
     Ok(())
 }
 
-/// Changes as they come in at the next operator.
-fn from_left(alloc: Global, changes: Vec<Change>) -> Result<Vec<Entry>, AllocError>
-    ensures { IfOk result (λ entries. entries_of entries.items ≡ from_side 0 changes.items) }
+/// Takes changes that come in on the left through one operator, and adds what it gives.
+fn step_left(
+    op: &mut Op,
+    alloc: Global,
+    changes: Vec<Change>,
+    out: &mut Vec<Change>,
+) -> Result<(), AllocError>
+    requires { CanStore (⟦<Op as Operator>⟧.node op.old) (from_side 0 changes.items) }
+    ensures node { ⟦<Op as Operator>⟧.node op.new ≡ ⟦<Op as Operator>⟧.node op.old }
+    ensures next { OnOk result (Steps (⟦<Op as Operator>⟧.node op.old) (⟦<Op as Operator>⟧.held op.old) (⟦<Op as Operator>⟧.held op.new) (from_side 0 changes.items) out.old.items out.new.items) }
+    ensures base { (base : Maps) → IsBaseOf base (⟦<Op as Operator>⟧.held op.old) → IsBaseOf base (⟦<Op as Operator>⟧.held op.new) }
 {
-    let mut entries = Vec::with_capacity(alloc, changes.len())?;
     for change in changes {
-        entries.push(Entry { side: 0, change })?;
+        op.step(alloc, 0, change, out)?;
     }
-    Ok(entries)
+    Ok(())
 }
 
 /// Adds what comes in after the last operator.

@@ -9,10 +9,10 @@ use Rattle.op_chain.specs.Along.{StepAlong, Steps}
 use Rattle.op_chain.specs.Chain.{entries_of}
 use Rattle.op_chain.proofs.Ops.{held_of, node_of}
 use Rattle.op_chain.proofs.RowSteps.{along-last, along-more, along-none, bases-more}
-use Rattle.op_chain.proofs.along.+run_along.Goals as goal
+use Rattle.op_chain.proofs.along.run_along.Goals as goal
 
 pub returns-in_default-clause-next : goal.returns-in_default-clause-next
-returns-in_default-clause-next t c =
+returns-in_default-clause-next c =
     let none : c.args.ops.now ≡ [] = nil_from_length c.args.ops.now c.in_default.ensures.cases in
     let entries = entries_of c.args.entries.items in
     let old = c.args.out.now.items in
@@ -22,35 +22,28 @@ returns-in_default-clause-next t c =
     c.give.ensures
 
 pub returns-in_err-given-clause-bases : goal.returns-in_err-given-clause-bases
-returns-in_err-given-clause-bases t c = λ bases all.
+returns-in_err-given-clause-bases c = λ bases all.
     let op = c.in-Some.op.now in
     let later = c.in-Some.later.now in
     bases-more bases (held_of op) (held_of op) (map held_of later) (map held_of later) (λ base h. h) (λ bases all. all)
     (subst (λ (ops : List Op). AllZip IsBaseOf bases (map held_of ops)) c.in-Some.ensures.cases.0 all)
 
-pub returns-in_err-entries-clause-bases : goal.returns-in_err-entries-clause-bases
-returns-in_err-entries-clause-bases t c = λ bases all.
-    let op = c.in-Some.op.now in
-    let later = c.in-Some.later.now in
-    bases-more bases (held_of op) (held_of c.step_each-2.new.op) (map held_of later) (map held_of later) c.in_ok-step_each.ensures.base (λ bases all. all)
-    (subst (λ (ops : List Op). AllZip IsBaseOf bases (map held_of ops)) c.in-Some.ensures.cases.0 all)
-
 pub returns-in_err-step_each-clause-bases : goal.returns-in_err-step_each-clause-bases
-returns-in_err-step_each-clause-bases t c = λ bases all.
+returns-in_err-step_each-clause-bases c = λ bases all.
     let op = c.in-Some.op.now in
     let later = c.in-Some.later.now in
     bases-more bases (held_of op) (held_of c.step_each-2.new.op) (map held_of later) (map held_of later) c.in_err-step_each.ensures.base (λ bases all. all)
     (subst (λ (ops : List Op). AllZip IsBaseOf bases (map held_of ops)) c.in-Some.ensures.cases.0 all)
 
 pub returns-then-is_empty-clause-bases : goal.returns-then-is_empty-clause-bases
-returns-then-is_empty-clause-bases t c = λ bases all.
+returns-then-is_empty-clause-bases c = λ bases all.
     let op = c.in-Some.op.now in
     let later = c.in-Some.later.now in
     bases-more bases (held_of op) (held_of c.step_each.new.op) (map held_of later) (map held_of later) c.step_each.ensures.base (λ bases all. all)
     (subst (λ (ops : List Op). AllZip IsBaseOf bases (map held_of ops)) c.in-Some.ensures.cases.0 all)
 
 pub returns-then-is_empty-clause-next : goal.returns-then-is_empty-clause-next
-returns-then-is_empty-clause-next t c =
+returns-then-is_empty-clause-next c =
     let op = c.in-Some.op.now in
     let later = c.in-Some.later.now in
     let split : c.args.ops.now ≡ op ∷ later = c.in-Some.ensures.cases.0 in
@@ -66,26 +59,25 @@ returns-then-is_empty-clause-next t c =
     c.step_each.ensures.next
 
 pub returns-clause-next : goal.returns-clause-next
-returns-clause-next t c =
+returns-clause-next c =
     let op = c.in-Some.op.now in
     let later = c.in-Some.later.now in
     let split : c.args.ops.now ≡ op ∷ later = c.in-Some.ensures.cases.0 in
     let entries = entries_of c.args.entries.items in
-    let came = entries_of c.in_ok-entries.entries.items in
     let given = c.step_each-2.new.out.items in
     let next = held_of c.step_each-2.new.op in
-    let nexts = map held_of c.run_along.new.ops in
+    let nexts = map held_of c.run_on.new.ops in
     let old = c.args.out.now.items in
-    let new = c.run_along.new.out.items in
+    let new = c.run_on.new.out.items in
     let steps = subst (λ (first : List Change). Steps (node_of op) (held_of op) next entries first given) c.in_ok-given.ensures.items c.in_ok-step_each.ensures.next in
-    on_ok_weaker c.run_along.result
+    on_ok_weaker c.run_on.result
     (λ on. subst (λ (ops : List Op). StepAlong (map node_of ops) (map held_of ops) (next ∷ nexts) entries old new) (sym split)
-    (along-more (node_of op) (map node_of later) (held_of op) next (map held_of later) nexts entries came given old new steps c.in_ok-entries.ensures on))
-    c.run_along.ensures.next
+    (along-more (node_of op) (map node_of later) (held_of op) next (map held_of later) nexts entries given old new steps on))
+    c.run_on.ensures.next
 
 pub returns-clause-bases : goal.returns-clause-bases
-returns-clause-bases t c = λ bases all.
+returns-clause-bases c = λ bases all.
     let op = c.in-Some.op.now in
     let later = c.in-Some.later.now in
-    bases-more bases (held_of op) (held_of c.step_each-2.new.op) (map held_of later) (map held_of c.run_along.new.ops) c.in_ok-step_each.ensures.base c.run_along.ensures.bases
+    bases-more bases (held_of op) (held_of c.step_each-2.new.op) (map held_of later) (map held_of c.run_on.new.ops) c.in_ok-step_each.ensures.base c.run_on.ensures.bases
     (subst (λ (ops : List Op). AllZip IsBaseOf bases (map held_of ops)) c.in-Some.ensures.cases.0 all)
