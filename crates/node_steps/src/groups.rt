@@ -1,5 +1,5 @@
 //! Each row under another key: that of its group, or the one by which it is joined.
-ghost use Rattle.std.specs.Prelude.{◌≡◌, ◌++◌, IfOk, OnErr, OnOk, option_and_then, option_map};
+ghost use Rattle.std.specs.Prelude.{◌≡◌, ◌∷◌, ◌++◌, [], if◌then◌else◌, IfOk, OnErr, OnOk, option_and_then, option_map};
 ghost use Rattle.std.specs.Option.{option_to_list};
 ghost use Rattle.ksql_place.specs.declared.change.Body.TheVariants as body;
 ghost use Rattle.ksql_nodes.specs.Groups.{grouped, in_group, member, moved};
@@ -7,7 +7,7 @@ ghost use Rattle.ksql_nodes.specs.Joins.{join_key, rekeyed};
 ghost use Rattle.node_steps.specs.Steps.{member_of};
 
 use crate::keys::{is_same_key, one_key};
-use crate::rows::{copied, key_from, push_given, value_of, values_of};
+use crate::rows::{copied, key_from, value_of, values_of};
 use ksql_expr::Typed;
 use ksql_place::{Body, Change, Place};
 use ksql_types::{Key, Row};
@@ -21,18 +21,22 @@ struct RowInGroup<'a> {
 }
 
 /// A stream's change under the key by which it is joined; None of a table's change, or where there is no key.
-pub fn rekeyed(alloc: Global, on: &Typed, change: Change) -> Result<Option<Change>, AllocError>
+pub fn rekeyed(alloc: Global, on: &Typed, mut change: Change) -> Result<Option<Change>, AllocError>
     ensures { IfOk result (λ made. option_to_list made ≡ rekeyed (join_key on.now change) change) }
 {
     let key = join_key(alloc, on, &change)?;
-    Ok(with_key(key, change))
+    if put_under(key, &mut change) {
+        Ok(Some(change))
+    } else {
+        Ok(None)
+    }
 }
 
 /// Adds a change under the keys of the groups of its rows.
 pub fn push_grouped(
     alloc: Global,
     keys: &[Typed],
-    change: Change,
+    mut change: Change,
     out: &mut Vec<Change>,
 ) -> Result<(), AllocError>
     ensures given { OnOk result (out.new.items ≡ out.old.items ++ grouped keys.now change) }
@@ -41,7 +45,10 @@ pub fn push_grouped(
     match &change.body {
         Body::Said(row) => {
             let key = key_from(alloc, keys, change.time, row)?;
-            push_given(out, with_key(key, change))
+            if put_under(key, &mut change) {
+                out.push(change)?;
+            }
+            Ok(())
         }
         Body::Turned { old, new } => {
             let left = member(alloc, keys, change.time, old.as_ref())?;
@@ -66,15 +73,15 @@ fn join_key(alloc: Global, on: &Typed, change: &Change) -> Result<Key, AllocErro
     }
 }
 
-/// A change under a key; None without one.
-fn with_key(key: Key, change: Change) -> Option<Change>
-    ensures { option_to_list result ≡ rekeyed key change }
+/// Puts a change under a key; answers whether there is one.
+fn put_under(key: Key, change: &mut Change) -> bool
+    ensures { (if result then change.new ∷ [] else []) ≡ rekeyed key change.old }
 {
     if key.items().is_empty() {
-        None
-    } else {
-        Some(Change { key, ..change })
+        return false;
     }
+    change.key = key;
+    true
 }
 
 /// A row beside its group, where there is a row that is in one: none of its group's values is NULL.

@@ -1,8 +1,8 @@
 //! Steps that look at each row by itself.
-ghost use Rattle.std.specs.Prelude.{◌≡◌, ◌∷◌, ◌++◌, [], IfOk, OnErr, OnOk, map, replicate, option_and_then, option_map};
+ghost use Rattle.std.specs.Prelude.{◌≡◌, ◌∷◌, ◌++◌, [], if◌then◌else◌, None, Some, IfOk, OnErr, OnOk, map, replicate, option_and_then, option_map};
 ghost use Rattle.std.specs.Option.{option_to_list};
 ghost use Rattle.ksql_types.specs.declared.value.Value.TheVariants as value;
-ghost use Rattle.ksql_expr.specs.Value.{value_of};
+ghost use Rattle.ksql_expr.specs.Value.{is_true_value, value_of};
 ghost use Rattle.ksql_nodes.specs.Rows.{by_rows, filtered, key_of, passing, selected, selected_key, turned, values, with_body};
 
 use crate::keys::{key_of, one_key};
@@ -13,25 +13,13 @@ use ksql_types::{CopyOf, Items, Key, Row, Value};
 use std::alloc::{AllocError, Global};
 
 /// What passes WHERE or HAVING of a change, where anything does.
-pub fn filtered(alloc: Global, on: &Typed, change: Change) -> Result<Option<Change>, AllocError>
+pub fn filtered(alloc: Global, on: &Typed, mut change: Change) -> Result<Option<Change>, AllocError>
     ensures { IfOk result (λ made. option_to_list made ≡ filtered on.now change) }
 {
-    let Change {
-        place,
-        time,
-        key,
-        span,
-        body,
-    } = change;
-    match filtered_body(alloc, on, time, body)? {
-        Some(body) => Ok(Some(Change {
-            place,
-            time,
-            key,
-            span,
-            body,
-        })),
-        None => Ok(None),
+    if keep_passing(alloc, on, change.time, &mut change.body)? {
+        Ok(Some(change))
+    } else {
+        Ok(None)
     }
 }
 
@@ -40,13 +28,17 @@ pub fn selected(
     alloc: Global,
     keys: &[Typed],
     items: &[Typed],
-    change: Change,
+    mut change: Change,
 ) -> Result<Option<Change>, AllocError>
     ensures { IfOk result (λ made. option_to_list made ≡ selected keys.now items.now change) }
 {
     let key = selected_key(alloc, keys, &change)?;
-    let body = selected_body(alloc, items, &change)?;
-    Ok(with_body(Change { key, ..change }, body))
+    let Some(body) = selected_body(alloc, items, &change)? else {
+        return Ok(None);
+    };
+    change.key = key;
+    change.body = body;
+    Ok(Some(change))
 }
 
 /// A change from one row of a table to another; from absent to absent there is none.
@@ -61,13 +53,14 @@ pub fn turned(old: Option<Row>, new: Option<Row>) -> Option<Body>
 }
 
 /// A change with another body, where there is one.
-pub fn with_body(change: Change, body: Option<Body>) -> Option<Change>
+pub fn with_body(mut change: Change, body: Option<Body>) -> Option<Change>
     ensures { option_to_list result ≡ with_body change body }
 {
-    match body {
-        Some(body) => Some(Change { body, ..change }),
-        None => None,
-    }
+    let Some(body) = body else {
+        return None;
+    };
+    change.body = body;
+    Some(change)
 }
 
 /// The value of an expression on a row at a time.
@@ -158,47 +151,43 @@ pub fn push_nulls(cells: &mut Vec<Value>, count: u32) -> Result<(), AllocError>
     Ok(())
 }
 
-/// What a condition leaves of what a change at a time says.
-fn filtered_body(
-    alloc: Global,
-    on: &Typed,
-    time: u64,
-    body: Body,
-) -> Result<Option<Body>, AllocError>
-    ensures { IfOk result (λ left. left ≡ by_rows (passing on.now time) body) }
+/// Takes the rows that don't pass a condition out of what a change at a time says; answers whether it says anything then.
+fn keep_passing(alloc: Global, on: &Typed, time: u64, body: &mut Body) -> Result<bool, AllocError>
+    ensures { IfOk result (λ says. (if says then Some body.new else None) ≡ by_rows (passing on.now time) body.old) }
 {
     match body {
-        Body::Said(row) => Ok(passing(alloc, on, time, Some(row))?.map(Body::Said)),
+        Body::Said(row) => passes(alloc, on, time, row),
         Body::Turned { old, new } => {
-            let old = passing(alloc, on, time, old)?;
-            let new = passing(alloc, on, time, new)?;
-            Ok(turned(old, new))
+            keep_row(alloc, on, time, old)?;
+            keep_row(alloc, on, time, new)?;
+            Ok(old.is_some() || new.is_some())
         }
     }
 }
 
-/// The row, where there is one that passes a condition at a time.
-fn passing(
-    alloc: Global,
-    on: &Typed,
-    time: u64,
-    row: Option<Row>,
-) -> Result<Option<Row>, AllocError>
-    ensures { IfOk result (λ left. left ≡ option_and_then (passing on.now time) row) }
+/// Keeps a row, where there is one, if it passes a condition at a time.
+fn keep_row(alloc: Global, on: &Typed, time: u64, row: &mut Option<Row>) -> Result<(), AllocError>
+    ensures { OnOk result (row.new ≡ option_and_then (passing on.now time) row.old) }
 {
-    let Some(row) = row else {
-        return Ok(None);
+    let Some(kept) = row else {
+        return Ok(());
     };
+    if !passes(alloc, on, time, kept)? {
+        *row = None;
+    }
+    Ok(())
+}
+
+/// Whether a row passes a condition at a time.
+fn passes(alloc: Global, on: &Typed, time: u64, row: &Row) -> Result<bool, AllocError>
+    ensures { IfOk result (λ passed. passed ≡ is_true_value (value_of row.now time on.now)) }
+{
     let view = RowView {
         key: &[],
         row: row.items(),
         time,
     };
-    if holds(alloc, on, &view)? {
-        Ok(Some(row))
-    } else {
-        Ok(None)
-    }
+    holds(alloc, on, &view)
 }
 
 /// The key that a select list gives: that of a stream comes from its row, and a table keeps its own.
