@@ -1,15 +1,14 @@
 //! The joined changes, from the rows that stand on the sides of a join.
-ghost use Rattle.std.specs.Prelude.{◌≡◌, ◌∷◌, ◌++◌, max, IfOk, OnOk, option_map};
+ghost use Rattle.std.specs.Prelude.{◌≡◌, ◌++◌, IfOk, OnOk, option_map};
 ghost use Rattle.std.specs.Option.{option_to_list};
 ghost use Rattle.ksql_nodes.specs.Joins.{joined, joined_from, or_nulls, other_side, side_step};
-ghost use Rattle.ksql_nodes.specs.Rows.{at_path};
 ghost use Rattle.table_steps.specs.Joining.{beside, standing_of, turned_beside};
 
 use ksql_nodes::Side;
-use ksql_place::{Body, Change, Place};
+use ksql_place::{Body, Change};
 use ksql_program::JoinKind;
 use ksql_types::{Items, Row, Value};
-use node_steps::{push_copies, push_nulls, row_in, turned, with_body};
+use node_steps::{push_copies, push_nulls, row_in, turned};
 use std::alloc::{AllocError, Global};
 
 /// A join of two relations, whichever their kinds.
@@ -33,13 +32,16 @@ pub struct Standing<'a> {
 pub fn stream_joined(
     alloc: Global,
     join: &Join,
-    change: Change,
+    mut change: Change,
     row: Option<&Row>,
 ) -> Result<Option<Change>, AllocError>
     ensures { IfOk result (λ made. option_to_list made ≡ beside join.now change (option_map (λ r. r.now) row.entry)) }
 {
-    let row = joined(alloc, join, &[], row_in(&change.body), row)?;
-    Ok(with_body(change, row.map(Body::Said)))
+    let Some(row) = joined(alloc, join, &[], row_in(&change.body), row)? else {
+        return Ok(None);
+    };
+    change.body = Body::Said(row);
+    Ok(Some(change))
 }
 
 /// The joined change of a change of one of two tables: from the joined row before it to that after it.
@@ -47,7 +49,7 @@ pub fn tables_joined(
     alloc: Global,
     join: &Join,
     side: u32,
-    change: Change,
+    mut change: Change,
     standing: &Standing,
 ) -> Result<Option<Change>, AllocError>
     ensures { IfOk result (λ made. option_to_list made ≡ turned_beside join.now side change (standing_of standing.now)) }
@@ -59,13 +61,13 @@ pub fn tables_joined(
     let key = change.key.items();
     let old = joined_from(alloc, join, side, key, standing.own, standing.other)?;
     let new = joined_from(alloc, join, side, key, new, standing.other)?;
-    match turned(old, new) {
-        Some(body) => {
-            let step = side_step(join, side);
-            Ok(Some(join_change(alloc, step, change, standing.time, body)?))
-        }
-        None => Ok(None),
-    }
+    let Some(body) = turned(old, new) else {
+        return Ok(None);
+    };
+    change.place.path = change.place.path.with_first(alloc, side_step(join, side))?;
+    change.time = change.time.max(standing.time);
+    change.body = body;
+    Ok(Some(change))
 }
 
 /// The other one of two sides.
@@ -84,28 +86,6 @@ fn side_step(join: &Join, side: u32) -> u32
     } else {
         other_side(side)
     }
-}
-
-/// What a change of one side makes the join say, at a path with one more number, and no earlier than at a time.
-fn join_change(
-    alloc: Global,
-    step: u32,
-    change: Change,
-    time: u64,
-    body: Body,
-) -> Result<Change, AllocError>
-    ensures { IfOk result (λ made. made ≡ record (at_path (step ∷ change.place.path) change) { time = max change.time time; body = body }) }
-{
-    let place = Place {
-        stamp: change.place.stamp,
-        path: change.place.path.with_first(alloc, step)?,
-    };
-    Ok(Change {
-        place,
-        time: change.time.max(time),
-        body,
-        ..change
-    })
 }
 
 /// The joined row, from the row of a side and that of the other one.
