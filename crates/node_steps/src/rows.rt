@@ -2,12 +2,12 @@
 ghost use Rattle.std.specs.Prelude.{◌≡◌, ◌∷◌, ◌++◌, [], if◌then◌else◌, None, Some, IfOk, OnErr, OnOk, map, replicate, option_and_then, option_map};
 ghost use Rattle.std.specs.Option.{option_to_list};
 ghost use Rattle.ksql_types.specs.declared.value.Value.TheVariants as value;
-ghost use Rattle.ksql_expr.specs.Value.{is_true_value, value_of};
+ghost use Rattle.ksql_expr.specs.Value.{cell, is_true_value, value_of};
 ghost use Rattle.ksql_nodes.specs.Rows.{by_rows, filtered, key_of, passing, selected, selected_key, turned, values, with_body};
 
 use crate::keys::{key_of, one_key};
 use ksql_eval::{RowView, eval, holds};
-use ksql_expr::Typed;
+use ksql_expr::{Typed, TypedNode};
 use ksql_place::{Body, Change};
 use ksql_types::{CopyOf, Items, Key, Row, Value};
 use std::alloc::{AllocError, Global};
@@ -64,15 +64,29 @@ pub fn with_body(mut change: Change, body: Option<Body>) -> Option<Change>
 }
 
 /// The value of an expression on a row at a time.
+#[tactic(auto, unfolding(ksql_expr::specs::Value::value_of))]
 pub fn value_of(alloc: Global, e: &Typed, time: u64, row: &Row) -> Result<Value, AllocError>
     ensures { IfOk result (λ value. value ≡ value_of row.now time e.now) }
 {
+    if let TypedNode::Column(column) = &e.node {
+        return cell(alloc, row, *column);
+    }
     let view = RowView {
         key: &[],
         row: row.items(),
         time,
     };
     eval(alloc, e, &view)
+}
+
+/// The cell of a column; NULL where the row has no such column.
+fn cell(alloc: Global, row: &Row, column: u32) -> Result<Value, AllocError>
+    ensures { IfOk result (λ value. value ≡ cell row.now column) }
+{
+    match row.items().get(column as usize) {
+        Some(value) => value.copy(alloc),
+        None => Ok(Value::Null),
+    }
 }
 
 /// The values of expressions on a row at a time.
