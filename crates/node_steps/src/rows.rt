@@ -53,7 +53,7 @@ pub fn turned(old: Option<Row>, new: Option<Row>) -> Option<Body>
 }
 
 /// A change with another body, where there is one.
-pub fn with_body(mut change: Change, body: Option<Body>) -> Option<Change>
+pub(crate) fn with_body(mut change: Change, body: Option<Body>) -> Option<Change>
     ensures { option_to_list result ≡ with_body change body }
 {
     let Some(body) = body else {
