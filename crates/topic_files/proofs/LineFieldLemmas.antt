@@ -1,5 +1,5 @@
 -- The fields of a line's object: as its members are read, and as they make a record.
-use Rattle.std.proofs.Common.{◌≡◌, ℕ, ◌<◌, List, [], ◌∷◌, length, codes, Bool, true, false, true≢false, cond, bytes_eq, Option, Some, None, is_some, option_map, option_and_then, refl, sym, ap, ◌∙◌, arith}
+use Rattle.std.proofs.Common.{◌≡◌, ℕ, ◌<◌, List, [], ◌∷◌, length, codes, Bool, true, false, true≢false, cond, not, bytes_eq, Option, Some, None, is_some, option_map, option_and_then, refl, sym, ap, ◌∙◌, arith}
 use Rattle.std.proofs.lemmas.Slice.Eq.{bytes_eq-Decides}
 use Rattle.json.specs.Token.{Token}
 use Rattle.std.specs.Prelude.{MatchOption}
@@ -14,7 +14,7 @@ use Rattle.serde_json.specs.Find.{get_member}
 use Rattle.serde_json.specs.Read.{converted, number_of, of_items, of_json, of_members, read}
 use Rattle.serde_json.proofs.Views.{get_member-put, get_member-put_other}
 use Rattle.ksql_types.specs.declared.relation.Relation.{Relation}
-use Rattle.topic_files.specs.LineFields.{Fields, after_begin_object, fed_in, field_after, fields_in, fields_of, members_within}
+use Rattle.topic_files.specs.LineFields.{Fields, after_begin_object, fed_in, field_after, fields_in, fields_of, if_read, members_within}
 use Rattle.topic_files.specs.Record.{fed_of, fed_of_data}
 use Rattle.topic_files.specs.TopicLine.{data_of}
 use Rattle.topic_files.proofs.ReadLemmas.{MembersRead, all_members_read, no_key_reads, no_member_reads, no_members_read, one_member_read}
@@ -158,41 +158,41 @@ begun text left opens = by_tokens (tokens text) opens
     by_tokens (Token.null ∷ ts) e = cc
     by_tokens (Token.bad ∷ ts) e = cc
 
--- where no token comes next, none is left
-pub none_left : (o : Option Read) (old new : List Token) → MatchOption o ((old ≡ []) × (new ≡ [])) (λ t. old ≡ token_of t ∷ new) → is_some o ≡ false → old ≡ []
-none_left None old new m e = m.0
-none_left (Some t) old new m e = cc
+ended : (o : Option Fields) → o ≡ option_and_then (λ p. if_end p.0 p.1) (option_map {U = Fields × List Token} (λ f. (f, [])) o)
+ended None = refl
+ended (Some f) = refl
 
--- where one does, it is the first of those left
-pub some_left : (o : Option Read) (old new : List Token) → MatchOption o ((old ≡ []) × (new ≡ [])) (λ t. old ≡ token_of t ∷ new) → is_some o ≡ true
-    → (t : Token) × (rest : List Token) × (old ≡ t ∷ rest)
-some_left None old new m e = cc
-some_left (Some t) old new m e = (token_of t, new, m)
+not_ended : (o : Option Fields) (t : Token) (ts : List Token) → None ≡ option_and_then (λ p. if_end p.0 p.1) (option_map {U = Fields × List Token} (λ f. (f, t ∷ ts)) o)
+not_ended None t ts = refl
+not_ended (Some f) t ts = refl
 
-module _ {A : Type 0} (seen : A → Fields) where
-  ended : (o : Option A) → option_map seen o ≡ option_and_then (λ (p : Fields × List Token). if_end p.0 p.1) (option_map (λ a. (seen a, [])) o)
-  ended None = refl
-  ended (Some a) = refl
-
-  not_ended : (o : Option A) (t : Token) (ts : List Token) → None ≡ option_and_then (λ (p : Fields × List Token). if_end p.0 p.1) (option_map (λ a. (seen a, t ∷ ts)) o)
-  not_ended None t ts = refl
-  not_ended (Some a) t ts = refl
+-- the text of an object, by what was read of its members
+module _ (text : List ℕ) (left : List Token) (opens : after_begin_object (tokens text) ≡ Some left) where
+  -- members that don't end as an object make no JSON
+  pub no_end : None ≡ parse_map fields_in (members_within 126 left) → None ≡ option_and_then fields_of (read text)
+  no_end is = ap (option_and_then (λ (p : Fields × List Token). if_end p.0 p.1)) is ∙ sym (begun text left opens)
 
   -- the fields of an object's members that end the text are the text's
-  pub whole_object : (text : List ℕ) (left rest : List Token) (found : Option A) → after_begin_object (tokens text) ≡ Some left
-      → option_map (λ a. (seen a, rest)) found ≡ parse_map fields_in (members_within 126 left) → rest ≡ []
-      → option_map seen found ≡ option_and_then fields_of (read text)
-  whole_object text left rest found opens is end =
+  whole_object : (rest : List Token) (found : Option Fields) → option_map (λ f. (f, rest)) found ≡ parse_map fields_in (members_within 126 left)
+      → rest ≡ [] → found ≡ option_and_then fields_of (read text)
+  whole_object rest found is end =
       ended found
-      ∙ ap (λ r. option_and_then (λ (p : Fields × List Token). if_end p.0 p.1) (option_map (λ a. (seen a, r)) found)) (sym end)
+      ∙ ap (λ r. option_and_then (λ (p : Fields × List Token). if_end p.0 p.1) (option_map (λ f. (f, r)) found)) (sym end)
       ∙ ap (option_and_then (λ (p : Fields × List Token). if_end p.0 p.1)) is ∙ sym (begun text left opens)
 
   -- where more follows, the text is no JSON
-  pub more_follows : (text : List ℕ) (left : List Token) (t : Token) (rest : List Token) (found : Option A) → after_begin_object (tokens text) ≡ Some left
-      → option_map (λ a. (seen a, t ∷ rest)) found ≡ parse_map fields_in (members_within 126 left)
+  more_follows : (t : Token) (rest : List Token) (found : Option Fields) → option_map (λ f. (f, t ∷ rest)) found ≡ parse_map fields_in (members_within 126 left)
       → None ≡ option_and_then fields_of (read text)
-  more_follows text left t rest found opens is =
+  more_follows t rest found is =
       not_ended found t rest ∙ ap (option_and_then (λ (p : Fields × List Token). if_end p.0 p.1)) is ∙ sym (begun text left opens)
+
+  -- the fields of an object's members are the text's where no token comes next
+  pub if_last_read : (rest new : List Token) (next : Option Read) (ends : Bool) (fields : Fields) → Some (fields, rest) ≡ parse_map fields_in (members_within 126 left)
+      → MatchOption next ((rest ≡ []) × (new ≡ [])) (λ t. rest ≡ token_of t ∷ new) → is_some next ≡ not ends → if_read ends fields ≡ option_and_then fields_of (read text)
+  if_last_read rest new None true fields is left_over e = whole_object rest (Some fields) is left_over.0
+  if_last_read rest new None false fields is left_over e = cc
+  if_last_read rest new (Some t) true fields is left_over e = cc
+  if_last_read rest new (Some t) false fields is left_over e = more_follows (token_of t) new (Some fields) (ap (λ ts. Some (fields, ts)) (sym left_over) ∙ is)
 
 -- ---- the record of a line
 

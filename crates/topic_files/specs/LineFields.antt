@@ -1,5 +1,5 @@
 -- The members of a line's object that make it a topic line.
-use Rattle.std.specs.Prelude.{ℕ, List, [], ◌∷◌, length, codes, bytes_eq, ◌&&◌, if◌then◌else◌, Option, Some, None, option_map, option_and_then}
+use Rattle.std.specs.Prelude.{ℕ, List, [], ◌∷◌, length, codes, bytes_eq, Bool, ◌&&◌, if◌then◌else◌, Option, Some, None, option_map, option_and_then}
 use Rattle.json.specs.Token.{Token}
 use Rattle.json.specs.Json as json
 use Rattle.serde_json.specs.Data.{Data, Members, no_members}
@@ -25,6 +25,10 @@ fields_in members = record { time = get_member (codes "t") members; key = get_me
 -- those of JSON, None where it is no object
 abbrev pub fields_of : Data → Option Fields
 fields_of json = option_map fields_in (as_object json)
+
+-- fields that were read, None where they make no object
+abbrev pub if_read : Bool → Fields → Option Fields
+if_read is fields = if is then Some fields else None
 
 -- what follows the brace that opens an object, where one stands
 abbrev pub after_begin_object : List Token → Option (List Token)

@@ -3,8 +3,9 @@
 ghost use Rattle.std.specs.Prelude.{◌≡◌, ◌<◌, IfOk, None, OnSome, Some, length, option_and_then, option_map};
 ghost use Rattle.std.specs.Bool.{MatchBool};
 ghost use Rattle.json.specs.Json.{array, items, members, object, parse_map, value};
+ghost use Rattle.serde_json.specs.Data.{no_members};
 ghost use Rattle.serde_json.specs.Read.{converted, of_json, read};
-ghost use Rattle.topic_files.specs.LineFields.{after_begin_object, fields_in, fields_of, members_within, seen};
+ghost use Rattle.topic_files.specs.LineFields.{after_begin_object, fields_in, fields_of, if_read, members_within, seen};
 ghost use Rattle.topic_files.specs.TopicLine.{data_of};
 ghost use Rattle.topic_files.specs.Tree.{view};
 
@@ -17,38 +18,39 @@ use std::alloc::{AllocError, Global};
 /// How deep lists and objects may stand in one another within a line's object.
 const MEMBERS_DEPTH: usize = 126;
 
-/// The fields of the object that a line is, None where it is none: where it isn't UTF-8 or is no JSON, also where it is
-/// nested too deep or has a number too large for a float.
-pub(crate) fn fields_of_line<'a>(
+/// Puts the fields of the object that a line is into these, which are none yet, and answers whether it is one: it isn't
+/// where it isn't UTF-8 or is no JSON, also where it is nested too deep or has a number too large for a float.
+pub(crate) fn read_line<'a>(
     alloc: Global,
     line: &'a [u8],
     scratch: &'a mut Scratch,
-) -> Result<Option<LineFields<'a>>, AllocError>
-    ensures { IfOk result (λ fields. option_map seen fields ≡ option_and_then fields_of (data_of line.now)) }
+    fields: &mut LineFields<'a>,
+) -> Result<bool, AllocError>
+    requires { seen fields.old ≡ fields_in no_members }
+    ensures { IfOk result (λ is. if_read is (seen fields.new) ≡ option_and_then fields_of (data_of line.now)) }
 {
     match simdutf8::from_utf8_baseline(line) {
-        Ok(text) => fields_of_text(alloc, text, scratch),
-        Err(_) => Ok(None),
+        Ok(text) => read_text(alloc, text, scratch, fields),
+        Err(_) => Ok(false),
     }
 }
 
-/// The fields of the object that a text is, None where it is none.
-fn fields_of_text<'a>(
+/// Puts the fields of the object that a text is into these, which are none yet, and answers whether it is one.
+fn read_text<'a>(
     alloc: Global,
     text: &'a str,
     scratch: &'a mut Scratch,
-) -> Result<Option<LineFields<'a>>, AllocError>
-    ensures { IfOk result (λ fields. option_map seen fields ≡ option_and_then fields_of (read text.now)) }
+    fields: &mut LineFields<'a>,
+) -> Result<bool, AllocError>
+    requires { seen fields.old ≡ fields_in no_members }
+    ensures { IfOk result (λ is. if_read is (seen fields.new) ≡ option_and_then fields_of (read text.now)) }
 {
     let mut reader = Reader::new(text, scratch)?;
     if !take_begin_object(&mut reader) {
-        return Ok(None);
+        return Ok(false);
     }
-    let fields = read_fields(alloc, &mut reader)?;
-    if reader.next().is_some() {
-        return Ok(None);
-    }
-    Ok(fields)
+    let is_object = read_fields(alloc, &mut reader, fields)?;
+    Ok(is_object && reader.next().is_none())
 }
 
 /// Takes the brace that opens an object, where it is next.
@@ -58,25 +60,27 @@ fn take_begin_object(reader: &mut Reader) -> bool
     matches!(reader.next(), Some(Token::BeginObject))
 }
 
-/// The fields of the object whose members come next, None where they don't end as one.
+/// Puts the fields of the object whose members come next into these, which are none yet, and answers whether they end
+/// as one.
 fn read_fields<'a>(
     alloc: Global,
     reader: &mut Reader<'a>,
-) -> Result<Option<LineFields<'a>>, AllocError>
-    ensures { IfOk result (λ fields. option_map (λ f. (seen f, reader.new)) fields
+    fields: &mut LineFields<'a>,
+) -> Result<bool, AllocError>
+    requires { seen fields.old ≡ fields_in no_members }
+    ensures { IfOk result (λ is. option_map (λ f. (f, reader.new)) (if_read is (seen fields.new))
         ≡ parse_map fields_in (members_within MEMBERS_DEPTH reader.old)) }
 {
-    let mut fields = LineFields::new();
     'members: loop {
         match reader.next_key() {
             Ok(Some(name)) => {
                 let Some(field) = read_value(alloc, reader, MEMBERS_DEPTH)? else {
-                    return Ok(None);
+                    return Ok(false);
                 };
                 fields.put(name, field);
             }
-            Ok(None) => return Ok(Some(fields)),
-            Err(_) => return Ok(None),
+            Ok(None) => return Ok(true),
+            Err(_) => return Ok(false),
         }
     }
 }

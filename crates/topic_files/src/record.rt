@@ -9,7 +9,7 @@ ghost use Rattle.topic_files.specs.Tree.{view};
 use crate::delimited::text_row;
 use crate::fields::{cells, typed};
 use crate::line::{LineFields, topic_line};
-use crate::read::fields_of_line;
+use crate::read::read_line;
 use crate::topic::Fed;
 use crate::tree::Json;
 use json::Scratch;
@@ -26,9 +26,11 @@ pub(crate) fn fed_of_line(
 ) -> Result<Option<Fed>, AllocError>
     ensures { IfOk result (λ fed. fed ≡ fed_of relation.now line.now) }
 {
-    match fields_of_line(alloc, line, scratch)? {
-        Some(fields) => fed_of_fields(alloc, relation, &fields),
-        None => Ok(None),
+    let mut fields = LineFields::new();
+    if read_line(alloc, line, scratch, &mut fields)? {
+        fed_of_fields(alloc, relation, &fields)
+    } else {
+        Ok(None)
     }
 }
 

@@ -78,13 +78,15 @@ impl<'a> Json<'a> {
 fn member_of<'t, 'a>(members: &'t [Member<'a>], name: &str) -> Option<&'t Json<'a>>
     ensures { option_map (λ field. view field.now) result ≡ get_member name.now (members_view members.now) }
 {
-    let mut found = None;
-    for (key, field) in members {
+    let mut left = members.len();
+    'members: while left > 0 {
+        left -= 1;
+        let (key, field) = &members[left];
         if is_named(key, name) {
-            found = Some(field);
+            return Some(field);
         }
     }
-    found
+    None
 }
 
 /// Whether a key is this name. Most names that differ do so in length or in their first letter.

@@ -8,7 +8,7 @@ use Rattle.topic_files.proofs.LineFieldLemmas.{all_fields_read, no_field_name, n
 use Rattle.topic_files.proofs.read.read_fields.Goals as goal
 
 pub members-init : goal.members-init
-members-init c = no_fields_read (value 126) c.args.reader.now (seen c.new-fields.result) c.new-fields.ensures
+members-init c = no_fields_read (value 126) c.args.reader.now (seen c.args.fields.now) c.requires
 
 pub returns-in_default : goal.returns-in_default
 returns-in_default c =

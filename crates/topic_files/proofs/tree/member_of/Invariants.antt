@@ -1,8 +1,14 @@
-use Rattle.std.proofs.Common.{◌≡◌, option_map, take}
+use Rattle.std.proofs.Common.{◌≡◌, ◌≤◌, length, take}
 use Rattle.serde_json.specs.Find.{get_member}
-use Rattle.topic_files.specs.Tree.{members_view, view}
+use Rattle.topic_files.specs.Tree.{members_view}
 use Rattle.topic_files.proofs.tree.member_of.Given as goal
 
--- what is found so far is the last of this name among the members so far
-abbrev pub invariant-loop-key : goal.invariant-loop-key
-invariant-loop-key l = option_map (λ field. view field.now) l.found ≡ get_member l.fn.name (members_view (take l.key-index l.members))
+-- no member after those that are left has the name
+abbrev pub invariant-members : goal.invariant-members
+invariant-members l = record {
+  inside : l.left ≤ length l.fn.members;
+  same : get_member l.fn.name (members_view l.fn.members) ≡ get_member l.fn.name (members_view (take l.left l.fn.members));
+}
+
+abbrev pub decreases-members : goal.decreases-members
+decreases-members l = l.left
