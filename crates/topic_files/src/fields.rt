@@ -1,25 +1,28 @@
 //! The values that the fields of a line stand for, by the types of their columns.
 
 ghost use Rattle.std.specs.Prelude.{◌≡◌, IfOk, IfSome, option_and_then, option_map, false};
+ghost use Rattle.serde_json.specs.Data.{object};
 ghost use Rattle.ksql_types.specs.Key.{is_null};
 ghost use Rattle.topic_files.specs.Cells.{cell, cells, column_field, int_of, least_like, lesser, named_field, text_form, text_value, typed, value_of_type};
 ghost use Rattle.topic_files.specs.Tree.{members_view, named, view};
 
-use crate::tree::{Json, Member};
+use crate::tree::{Json, Member, member_of};
 use ksql_types::{Chars, Column, LONGEST_VALUE, SqlType, Value};
 use std::alloc::{AllocError, Global};
 
-/// The values of these columns in an object, in their order, None where a field isn't of its column's type.
+/// The values of these columns in an object of these members, in their order, None where a field isn't of its column's
+/// type.
 pub(crate) fn cells(
     alloc: Global,
     columns: &[Column],
-    object: &Json,
+    members: &[Member],
 ) -> Result<Option<Vec<Value>>, AllocError>
-    ensures { IfOk result (λ row. option_map (λ values. values.items) row ≡ cells columns.now (view object.now)) }
+    ensures { IfOk result (λ row. option_map (λ values. values.items) row
+        ≡ cells columns.now (object (members_view members.now))) }
 {
     let mut values = Vec::with_capacity(alloc, columns.len())?;
     for column in columns {
-        match cell(alloc, column, object)? {
+        match cell(alloc, column, members)? {
             Some(value) => values.push(value)?,
             None => return Ok(None),
         }
@@ -28,29 +31,29 @@ pub(crate) fn cells(
 }
 
 /// The value of a column in an object, None where its field isn't of its type.
-fn cell(alloc: Global, column: &Column, object: &Json) -> Result<Option<Value>, AllocError>
-    ensures { IfOk result (λ value. value ≡ cell column.now (view object.now)) }
+fn cell(alloc: Global, column: &Column, members: &[Member]) -> Result<Option<Value>, AllocError>
+    ensures { IfOk result (λ value. value ≡ cell column.now (object (members_view members.now))) }
 {
-    match column_field(object, column.name.items()) {
+    match column_field(members, column.name.items()) {
         Some(field) => value_of_type(alloc, column.ty, field),
         None => Ok(Some(Value::Null)),
     }
 }
 
 /// The field of a column of this name, None where it is missing or null.
-fn column_field<'t, 'a>(object: &'t Json<'a>, name: &str) -> Option<&'t Json<'a>>
-    ensures { option_map (λ field. view field.now) result ≡ column_field name.now (view object.now) }
+fn column_field<'t, 'a>(members: &'t [Member<'a>], name: &str) -> Option<&'t Json<'a>>
+    ensures { option_map (λ field. view field.now) result ≡ column_field name.now (object (members_view members.now)) }
 {
-    named_field(object, name).filter(|field| !field.is_null())
+    named_field(members, name).filter(|field| !field.is_null())
 }
 
 /// The field of exactly this name, else the least of those whose names differ from it in case alone.
-fn named_field<'t, 'a>(object: &'t Json<'a>, name: &str) -> Option<&'t Json<'a>>
-    ensures { option_map (λ field. view field.now) result ≡ named_field name.now (view object.now) }
+fn named_field<'t, 'a>(members: &'t [Member<'a>], name: &str) -> Option<&'t Json<'a>>
+    ensures { option_map (λ field. view field.now) result ≡ named_field name.now (object (members_view members.now)) }
 {
-    match object.get(name) {
+    match member_of(members, name) {
         Some(field) => Some(field),
-        None => least_like(object.as_object()?, name),
+        None => least_like(members, name),
     }
 }
 

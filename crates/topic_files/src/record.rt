@@ -142,10 +142,10 @@ fn delimited_row(alloc: Global, columns: &[Column], json: &Json) -> Result<Optio
 fn object_row(alloc: Global, columns: &[Column], json: &Json) -> Result<Option<Row>, AllocError>
     ensures { IfOk result (λ row. row ≡ object_row columns.now (view json.now)) }
 {
-    if json.as_object().is_none() {
+    let Some(members) = json.as_object() else {
         return Ok(None);
-    }
-    match cells(alloc, columns, json)? {
+    };
+    match cells(alloc, columns, members)? {
         Some(values) => Ok(Some(Items::of(values))),
         None => Ok(None),
     }

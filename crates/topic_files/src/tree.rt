@@ -1,7 +1,7 @@
 //! JSON as a line has it, with its texts lent.
 
 ghost use Rattle.std.specs.Prelude.{◌≡◌, bytes_eq, is_some, option_and_then, option_map};
-ghost use Rattle.serde_json.specs.Find.{as_bool, as_i64, as_null, as_number, as_object, as_str, get, get_member};
+ghost use Rattle.serde_json.specs.Find.{as_bool, as_i64, as_null, as_number, as_object, as_str, get_member};
 ghost use Rattle.topic_files.specs.Tree.{members_view, view};
 
 use serde_json::Number;
@@ -62,20 +62,10 @@ impl<'a> Json<'a> {
             _ => None,
         }
     }
-
-    /// The value of this name in an object.
-    pub(crate) fn get(&self, name: &str) -> Option<&Json<'a>>
-        ensures { option_map (λ field. view field.now) result ≡ get name.now (view self.now) }
-    {
-        match self {
-            Json::Object(members) => member_of(members, name),
-            _ => None,
-        }
-    }
 }
 
 /// The value of the last member of this name.
-fn member_of<'t, 'a>(members: &'t [Member<'a>], name: &str) -> Option<&'t Json<'a>>
+pub(crate) fn member_of<'t, 'a>(members: &'t [Member<'a>], name: &str) -> Option<&'t Json<'a>>
     ensures { option_map (λ field. view field.now) result ≡ get_member name.now (members_view members.now) }
 {
     let mut left = members.len();
