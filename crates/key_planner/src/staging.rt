@@ -59,7 +59,10 @@ fn stages_from(alloc: Global, program: &Program, plan: Plan) -> Made<Stages>
             let selected = with_node(last, Node::Select { keys, values })?;
             closed(program, selected, Link::Relation(out))
         }
-        _ => Ok(Items::of(Vec::new(alloc))),
+        other => {
+            drop(other);
+            Ok(Items::of(Vec::new(alloc)))
+        }
     }
 }
 

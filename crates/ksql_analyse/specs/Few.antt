@@ -1,9 +1,9 @@
 -- How many functions the expressions of a statement call.
 use Rattle.std.specs.Prelude.{◌≤◌, length}
 use Rattle.std.specs.List.{AllByRecursion}
-use Rattle.ksql_grammar.specs.declared.tree.Expr.{Expr}
-use Rattle.ksql_grammar.specs.declared.tree.StatementBody.{StatementBody}
-use Rattle.ksql_grammar.specs.declared.tree.StatementBody.TheVariants.{Declared, Query}
+use Rattle.ksql_expressions.specs.declared.tree.Expr.{Expr}
+use Rattle.ksql_statements.specs.declared.tree.StatementBody.{StatementBody}
+use Rattle.ksql_statements.specs.declared.tree.StatementBody.TheVariants.{Declared, Query}
 use Rattle.ksql_scope.specs.Uses.{calls}
 use Rattle.ksql_clauses.specs.Sources.{late_exprs}
 

@@ -1,7 +1,7 @@
 -- Which expressions have typed trees, and that all of an accepted query have them.
 use Rattle.std.specs.Prelude.{◌≡◌, ◌+◌, ◌≤◌, ◌-◌, ◌^◌, All, IsTrue, is_some, List, length, Option, option_map, true}
-use Rattle.ksql_grammar.specs.declared.tree.Expr.{Expr}
-use Rattle.ksql_grammar.specs.declared.tree.Select.{Select}
+use Rattle.ksql_expressions.specs.declared.tree.Expr.{Expr}
+use Rattle.ksql_statements.specs.declared.tree.Select.{Select}
 use Rattle.ksql_expr.specs.declared.typed.AggFun.{AggFun}
 use Rattle.ksql_expr.specs.declared.typed.Typed.{Typed}
 use Rattle.ksql_expr.specs.declared.typed.TypedNode.{TypedNode}

@@ -13,7 +13,7 @@ ghost use Rattle.ksql_analyse.specs.Typable.{IsAggregable, IsAggregateNode};
 use crate::trees::tree_of;
 use ksql_clauses::{Named, resolved};
 use ksql_expr::{Typed, TypedNode};
-use ksql_grammar::Expr;
+use ksql_expressions::Expr;
 use ksql_grouping::{aggregates_of, once};
 use ksql_program::Agg;
 use ksql_scope::Scope;

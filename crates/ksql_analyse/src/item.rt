@@ -9,8 +9,8 @@ ghost use Rattle.ksql_analyse.specs.Plain.{HasPlainNames};
 
 use crate::declaration::declared_relation;
 use crate::query::query_of;
-use ksql_grammar::{Statement, StatementBody};
 use ksql_program::Item;
+use ksql_statements::{Statement, StatementBody};
 use ksql_types::Catalog;
 use std::alloc::{AllocError, Global};
 

@@ -13,9 +13,9 @@ ghost use Rattle.ksql_analyse.specs.Next.{IsFaultOf};
 
 use crate::fault::AnalyseFault;
 use crate::item::item_of;
-use ksql_grammar::Statement;
 use ksql_program::{Item, Program, relation_of};
 use ksql_rules::lowest_code;
+use ksql_statements::Statement;
 use ksql_types::{AddRefusal, Catalog, CopyOf, Items, Relation};
 use std::alloc::{AllocError, Global};
 

@@ -1,7 +1,7 @@
 //! The query of a statement.
 
 ghost use Rattle.std.specs.Prelude.{◌≡◌, ◌≤◌, ◌<◌, ◌-◌, ◌^◌, All, IfOk, Some, codes, is_some, length, map, true, unwrap_or, false};
-ghost use Rattle.ksql_grammar.specs.declared.tree.StatementBody.TheVariants as body;
+ghost use Rattle.ksql_statements.specs.declared.tree.StatementBody.TheVariants as body;
 ghost use Rattle.ksql_clauses.specs.Items as items;
 ghost use Rattle.ksql_clauses.specs.Properties as properties;
 ghost use Rattle.ksql_clauses.specs.Sources as sources;
@@ -17,9 +17,9 @@ use crate::result::{columns_of, result_format, result_kind, result_partitions, r
 use crate::shape::{grouped_shape, plain_shape};
 use crate::trees::part_tree;
 use ksql_clauses::Named;
-use ksql_grammar::{Property, Select, Statement};
 use ksql_program::{Query, Shape};
 use ksql_rules::{key_columns, value_columns};
+use ksql_statements::{Property, Select, Statement};
 use ksql_types::{Catalog, CopyOf, Relation, Schema};
 use std::alloc::{AllocError, Global};
 

@@ -8,7 +8,7 @@ ghost use Rattle.ksql_analyse.specs.Typable.{AreColumnTrees, IsValue};
 
 use ksql_clauses::{Known, Named, format_in, has_topic, partitions_in, reads_stream, topic_in};
 use ksql_expr::Typed;
-use ksql_grammar::{Property, Select};
+use ksql_statements::{Property, Select};
 use ksql_types::{Chars, Column, Columns, CopyOf, Format, Items, Kind, Relation, Schema};
 use std::alloc::{AllocError, Global};
 

@@ -16,9 +16,10 @@ use crate::reading::Reading;
 use crate::trees::{column_trees, part_tree, trees_of};
 use ksql_clauses::{Named, window_of};
 use ksql_expr::{Typed, TypedNode};
-use ksql_grammar::{Expr, Select, WindowText};
+use ksql_expressions::Expr;
 use ksql_program::{Agg, Shape};
 use ksql_scope::Scope;
+use ksql_statements::{Select, WindowText};
 use ksql_types::{Items, Window};
 use std::alloc::{AllocError, Global};
 

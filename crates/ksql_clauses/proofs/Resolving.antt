@@ -3,13 +3,13 @@ use Rattle.std.proofs.Common.{◌≡◌, ℕ, Bool, true, false, if◌then◌els
 use Rattle.std.specs.Prelude.{option_map, find, filter}
 use Rattle.ksql_types.specs.declared.operator.BinaryOp.{BinaryOp}
 use Rattle.ksql_types.specs.declared.value.SqlType.{SqlType}
-use Rattle.ksql_grammar.specs.declared.tree.Expr.{Expr}
-use Rattle.ksql_grammar.specs.declared.tree.Expr.TheVariants as e
-use Rattle.ksql_grammar.specs.declared.tree.Expr.TheVariants.{outs-Digits, outs-Text, outs-Truth, outs-Null, outs-Name, outs-Sign, outs-Binary, outs-Not, outs-IsNull, outs-Between, outs-OneOf, outs-Like, outs-Cast, outs-Case, outs-Call}
-use Rattle.ksql_grammar.specs.declared.tree.WhenText.{WhenText}
+use Rattle.ksql_expressions.specs.declared.tree.Expr.{Expr}
+use Rattle.ksql_expressions.specs.declared.tree.Expr.TheVariants as e
+use Rattle.ksql_expressions.specs.declared.tree.Expr.TheVariants.{outs-Digits, outs-Text, outs-Truth, outs-Null, outs-Name, outs-Sign, outs-Binary, outs-Not, outs-IsNull, outs-Between, outs-OneOf, outs-Like, outs-Cast, outs-Case, outs-Call}
+use Rattle.ksql_expressions.specs.declared.tree.WhenText.{WhenText}
 use Rattle.ksql_scope.specs.declared.scope.Scope.{Scope}
 use Rattle.ksql_scope.specs.declared.scope.ScopeColumn.{ScopeColumn}
-use Rattle.ksql_walks.proofs.Becoming.{becomes-decided, becomes-Digits, becomes-Text, becomes-Truth, becomes-Null, becomes-Sign, becomes-Binary, becomes-Not, becomes-IsNull, becomes-Between, becomes-OneOf, becomes-Like, becomes-Cast, becomes-Case, becomes-Call}
+use Rattle.ksql_expressions.proofs.Becoming.{becomes-decided, becomes-Digits, becomes-Text, becomes-Truth, becomes-Null, becomes-Sign, becomes-Binary, becomes-Not, becomes-IsNull, becomes-Between, becomes-OneOf, becomes-Like, becomes-Cast, becomes-Case, becomes-Call}
 use Rattle.ksql_clauses.specs.Resolved.{resolved, resolved_when, full_name, full_name_of, written_for}
 
 module _ (s : Scope) where

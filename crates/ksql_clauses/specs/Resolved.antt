@@ -1,13 +1,13 @@
 -- Expressions with resolved names: two are equal where their trees with resolved names are.
 use Rattle.std.specs.Prelude.{ℕ, ◌==◌, Bool, true, false, ◌&&◌, if◌then◌else◌, List, [], ◌∷◌, length, filter, Option, Some, None, codes, bytes_eq}
-use Rattle.ksql_grammar.specs.declared.tree.Expr.{Expr, out-Expr}
-use Rattle.ksql_grammar.specs.declared.tree.Expr.TheVariants as e
-use Rattle.ksql_grammar.specs.declared.tree.Expr.TheOpen.{Expr-F}
-use Rattle.ksql_grammar.specs.declared.tree.WhenText.{WhenText}
+use Rattle.ksql_expressions.specs.declared.tree.Expr.{Expr, out-Expr}
+use Rattle.ksql_expressions.specs.declared.tree.Expr.TheVariants as e
+use Rattle.ksql_expressions.specs.declared.tree.Expr.TheOpen.{Expr-F}
+use Rattle.ksql_expressions.specs.declared.tree.WhenText.{WhenText}
 use Rattle.ksql_scope.specs.declared.scope.Scope.{Scope}
 use Rattle.ksql_scope.specs.declared.scope.ScopeColumn.{ScopeColumn}
 use Rattle.ksql_scope.specs.Scope.{is_known_as, row_time}
-use Rattle.ksql_walks.specs.Parts.{becomes, when_becomes}
+use Rattle.ksql_expressions.specs.Parts.{becomes, when_becomes}
 
 -- whether a name stands for ROWTIME
 abbrev pub is_row_time : Scope → Option (List ℕ) → List ℕ → Bool

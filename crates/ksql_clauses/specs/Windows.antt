@@ -1,11 +1,10 @@
 -- Windows as they are written, in milliseconds (ksqlDB reference manual, "Windows").
-use Rattle.std.specs.Prelude.{ℕ, ◌+◌, ◌*◌, ◌^◌, ◌==◌, Bool, true, false, ◌&&◌, ◌||◌, nat_lt, List, [], ◌∷◌, ◌++◌, Option, Some, None}
-use Rattle.std.specs.List.{list_any}
-use Rattle.ksql_grammar.specs.declared.tree.SpanText.{SpanText}
-use Rattle.ksql_grammar.specs.declared.tree.Unit.{Unit as UnitWord}
-use Rattle.ksql_grammar.specs.declared.tree.Unit.TheVariants.{Day, Hour, Minute, Second, Millisecond}
-use Rattle.ksql_grammar.specs.declared.tree.WindowText.{WindowText}
-use Rattle.ksql_grammar.specs.declared.tree.WindowText.TheVariants.{Tumbling, Hopping}
+use Rattle.std.specs.Prelude.{ℕ, ◌+◌, ◌*◌, ◌^◌, ◌==◌, Bool, true, false, ◌&&◌, ◌||◌, nat_lt, Option, Some, None}
+use Rattle.ksql_statements.specs.declared.tree.SpanText.{SpanText}
+use Rattle.ksql_statements.specs.declared.tree.Unit.{Unit as UnitWord}
+use Rattle.ksql_statements.specs.declared.tree.Unit.TheVariants.{Day, Hour, Minute, Second, Millisecond}
+use Rattle.ksql_statements.specs.declared.tree.WindowText.{WindowText}
+use Rattle.ksql_statements.specs.declared.tree.WindowText.TheVariants.{Tumbling, Hopping}
 use Rattle.ksql_types.specs.declared.relation.Window.{Window}
 
 abbrev pub unit_millis : UnitWord → ℕ
@@ -28,30 +27,31 @@ abbrev pub window_of : WindowText → Window
 window_of (Tumbling size retention grace) = record { size = millis size; advance = millis size; grace = grace_millis grace }
 window_of (Hopping size advance retention grace) = record { size = millis size; advance = millis advance; grace = grace_millis grace }
 
-abbrev pub perhaps : Option SpanText → List SpanText
-perhaps None = []
-perhaps (Some s) = s ∷ []
+-- whether a span is above 2^53 milliseconds
+abbrev pub is_long : SpanText → Bool
+is_long s = nat_lt (2 ^ 53) (millis s)
 
--- the spans of a window, and its retention
-abbrev pub spans : WindowText → List SpanText
-spans (Tumbling size retention grace) = size ∷ perhaps retention ++ perhaps grace
-spans (Hopping size advance retention grace) = size ∷ advance ∷ perhaps retention ++ perhaps grace
+-- whether a span that may be left out is
+abbrev pub has_long : Option SpanText → Bool
+has_long None = false
+has_long (Some s) = is_long s
 
-abbrev pub retention_of : WindowText → Option SpanText
-retention_of (Tumbling size retention grace) = retention
-retention_of (Hopping size advance retention grace) = retention
+-- whether a record is in more than 64 windows, which move on by more than nothing
+abbrev pub has_many : SpanText → SpanText → Bool
+has_many size advance = nat_lt 0 (millis advance) && nat_lt (64 * millis advance) (millis size)
 
 -- whether a window passes a limit: a span is above 2^53 milliseconds, or a record has more than 64 windows
 abbrev pub is_too_large : WindowText → Bool
-is_too_large w = list_any (λ s. nat_lt (2 ^ 53) (millis s)) (spans w) || (nat_lt 0 (window_of w).advance && nat_lt (64 * (window_of w).advance) (window_of w).size)
+is_too_large (Tumbling size retention grace) = is_long size || has_long retention || has_long grace
+is_too_large (Hopping size advance retention grace) = is_long size || is_long advance || has_long retention || has_long grace || has_many size advance
 
--- whether what is kept is less than the window and its grace
-abbrev pub keeps_too_little : Window → Option SpanText → Bool
-keeps_too_little w None = false
-keeps_too_little w (Some retention) = nat_lt (millis retention) (w.size + w.grace)
+-- whether RETENTION is below the size and the grace together
+abbrev pub keeps_too_little : SpanText → Option SpanText → Option SpanText → Bool
+keeps_too_little size None grace = false
+keeps_too_little size (Some retention) grace = nat_lt (millis retention) (millis size + grace_millis grace)
 
--- whether a window is none: its size or advance is 0, it moves on by more than its size, or keeps too little
+-- whether a window is none: its size or advance is 0, it moves on by more than its size, or it keeps too little
 abbrev pub is_bad : WindowText → Bool
-is_bad w =
-    ((window_of w).size == 0) || ((window_of w).advance == 0) || nat_lt (window_of w).size (window_of w).advance
-    || keeps_too_little (window_of w) (retention_of w)
+is_bad (Tumbling size retention grace) = (millis size == 0) || keeps_too_little size retention grace
+is_bad (Hopping size advance retention grace) =
+    (millis size == 0) || (millis advance == 0) || nat_lt (millis size) (millis advance) || keeps_too_little size retention grace

@@ -4,10 +4,9 @@ ghost use Rattle.std.specs.Prelude.{◌≡◌, IfOk, option_copied, find};
 ghost use Rattle.ksql_clauses.specs.Resolved as spec;
 ghost use Rattle.ksql_scope.specs.Scope as names;
 
-use ksql_grammar::Expr;
+use ksql_expressions::{Expr, Replaces, becomes};
 use ksql_scope::{Scope, ScopeColumn};
 use ksql_types::{Chars, CopyOf};
-use ksql_walks::{Replaces, becomes};
 use std::alloc::{AllocError, Global};
 
 /// Whether what is known by an alias can be named after a qualifier, where one is written.

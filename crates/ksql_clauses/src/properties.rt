@@ -6,7 +6,7 @@ ghost use Rattle.std.specs.Str.{str_to_ascii_uppercase};
 ghost use Rattle.ksql_types.specs.Names as names;
 ghost use Rattle.ksql_clauses.specs.Properties as spec;
 
-use ksql_grammar::{Property, PropertyValue};
+use ksql_statements::{Property, PropertyValue};
 use ksql_types::{Chars, Format};
 
 const TEXT_PROPERTIES: [&str; 3] = ["KAFKA_TOPIC", "KEY_FORMAT", "VALUE_FORMAT"];
@@ -82,14 +82,7 @@ fn has_kind(property: &Property) -> bool
 fn have_kinds(properties: &[Property]) -> bool
     ensures { result ≡ list_all (λ p. spec.has_kind (spec.name_of p) p.value) properties.now }
 {
-    let mut properties = properties;
-    while let [property, rest @ ..] = properties {
-        if !has_kind(property) {
-            return false;
-        }
-        properties = rest;
-    }
-    true
+    properties.iter().all(has_kind)
 }
 
 /// Whether one of some properties has a name.
@@ -123,14 +116,10 @@ fn are_distinct(properties: &[Property]) -> bool
 pub fn value_of<'a>(word: &str, properties: &'a [Property]) -> Option<&'a PropertyValue>
     ensures { option_copied result ≡ spec.value_of word.now properties.now }
 {
-    let mut properties = properties;
-    while let [property, rest @ ..] = properties {
-        if is_word(property.name.items(), word) {
-            return Some(&property.value);
-        }
-        properties = rest;
-    }
-    None
+    properties
+        .iter()
+        .find(|property| is_word(property.name.items(), word))
+        .map(|property| &property.value)
 }
 
 fn text_of<'a>(word: &str, properties: &'a [Property]) -> Option<&'a Chars>

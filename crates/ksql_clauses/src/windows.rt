@@ -1,10 +1,9 @@
 //! Windows, in milliseconds.
 
-ghost use Rattle.std.specs.Prelude.{◌≡◌, ◌≤◌, ◌<◌, ◌*◌, ◌^◌, false, nat_lt};
-ghost use Rattle.std.specs.List.{list_any};
+ghost use Rattle.std.specs.Prelude.{◌≡◌, ◌<◌, ◌^◌, false};
 ghost use Rattle.ksql_clauses.specs.Windows as spec;
 
-use ksql_grammar::{SpanText, Unit, WindowText};
+use ksql_statements::{SpanText, Unit, WindowText};
 use ksql_types::Window;
 
 /// The longest span of a window, 2^53 milliseconds.
@@ -42,13 +41,13 @@ fn grace_millis(grace: Option<SpanText>) -> u128
 }
 
 fn is_long(span: SpanText) -> bool
-    ensures { result ≡ nat_lt (2 ^ 53) (spec.millis span) }
+    ensures { result ≡ spec.is_long span }
 {
     LONGEST_SPAN < millis(span)
 }
 
-fn is_some_long(span: Option<SpanText>) -> bool
-    ensures { result ≡ list_any (λ s. nat_lt (2 ^ 53) (spec.millis s)) (spec.perhaps span) }
+fn has_long(span: Option<SpanText>) -> bool
+    ensures { result ≡ spec.has_long span }
 {
     match span {
         None => false,
@@ -56,72 +55,45 @@ fn is_some_long(span: Option<SpanText>) -> bool
     }
 }
 
-fn has_long_span(window: &WindowText) -> bool
-    ensures { result ≡ list_any (λ s. nat_lt (2 ^ 53) (spec.millis s)) (spec.spans window.now) }
+fn has_many(size: SpanText, advance: SpanText) -> bool
+    ensures { result ≡ spec.has_many size advance }
 {
-    match *window {
-        WindowText::Tumbling {
-            size,
-            retention,
-            grace,
-        } => is_long(size) || is_some_long(retention) || is_some_long(grace),
-        WindowText::Hopping {
-            size,
-            advance,
-            retention,
-            grace,
-        } => is_long(size) || is_long(advance) || is_some_long(retention) || is_some_long(grace),
-    }
-}
-
-/// The size of a window, in milliseconds.
-fn size_of(window: &WindowText) -> u128
-    ensures value { result ≡ (spec.window_of window.now).size }
-    ensures bound { result < 2 ^ 96 }
-{
-    match *window {
-        WindowText::Tumbling { size, .. } | WindowText::Hopping { size, .. } => millis(size),
-    }
-}
-
-/// By how much a window moves on, in milliseconds.
-fn advance_of(window: &WindowText) -> u128
-    ensures value { result ≡ (spec.window_of window.now).advance }
-    ensures bound { result < 2 ^ 96 }
-{
-    match *window {
-        WindowText::Tumbling { size, .. } => millis(size),
-        WindowText::Hopping { advance, .. } => millis(advance),
-    }
-}
-
-/// The grace of a window, in milliseconds.
-fn grace_of(window: &WindowText) -> u128
-    ensures value { result ≡ (spec.window_of window.now).grace }
-    ensures bound { result < 2 ^ 96 }
-{
-    match *window {
-        WindowText::Tumbling { grace, .. } | WindowText::Hopping { grace, .. } => {
-            grace_millis(grace)
-        }
-    }
-}
-
-fn retention_of(window: &WindowText) -> Option<SpanText>
-    ensures { result ≡ spec.retention_of window.now }
-{
-    match *window {
-        WindowText::Tumbling { retention, .. } | WindowText::Hopping { retention, .. } => retention,
-    }
+    let advance = millis(advance);
+    0 < advance && MOST_WINDOWS * advance < millis(size)
 }
 
 /// Whether a window passes a limit: a span is above 2^53 milliseconds, or a record has more than 64 windows.
 pub fn is_too_large(window: &WindowText) -> bool
     ensures { result ≡ spec.is_too_large window.now }
 {
-    let size = size_of(window);
-    let advance = advance_of(window);
-    has_long_span(window) || (0 < advance && MOST_WINDOWS * advance < size)
+    match *window {
+        WindowText::Tumbling {
+            size,
+            retention,
+            grace,
+        } => is_long(size) || has_long(retention) || has_long(grace),
+        WindowText::Hopping {
+            size,
+            advance,
+            retention,
+            grace,
+        } => {
+            is_long(size)
+                || is_long(advance)
+                || has_long(retention)
+                || has_long(grace)
+                || has_many(size, advance)
+        }
+    }
+}
+
+fn keeps_too_little(size: SpanText, retention: Option<SpanText>, grace: Option<SpanText>) -> bool
+    ensures { result ≡ spec.keeps_too_little size retention grace }
+{
+    match retention {
+        None => false,
+        Some(retention) => millis(retention) < millis(size) + grace_millis(grace),
+    }
 }
 
 /// Whether a window is none: its size or advance is 0, it moves on by more than its size, or it keeps less than the
@@ -129,17 +101,23 @@ pub fn is_too_large(window: &WindowText) -> bool
 pub fn is_bad(window: &WindowText) -> bool
     ensures { result ≡ spec.is_bad window.now }
 {
-    let size = size_of(window);
-    let advance = advance_of(window);
-    size == 0 || advance == 0 || size < advance || keeps_too_little(window)
-}
-
-fn keeps_too_little(window: &WindowText) -> bool
-    ensures { result ≡ spec.keeps_too_little (spec.window_of window.now) (spec.retention_of window.now) }
-{
-    match retention_of(window) {
-        None => false,
-        Some(retention) => millis(retention) < size_of(window) + grace_of(window),
+    match *window {
+        WindowText::Tumbling {
+            size,
+            retention,
+            grace,
+        } => millis(size) == 0 || keeps_too_little(size, retention, grace),
+        WindowText::Hopping {
+            size,
+            advance,
+            retention,
+            grace,
+        } => {
+            millis(size) == 0
+                || millis(advance) == 0
+                || millis(size) < millis(advance)
+                || keeps_too_little(size, retention, grace)
+        }
     }
 }
 
@@ -148,9 +126,18 @@ pub fn window_of(window: &WindowText) -> Window
     requires { spec.is_too_large window.now ≡ false }
     ensures { result ≡ spec.window_of window.now }
 {
+    let (size, advance, grace) = match *window {
+        WindowText::Tumbling { size, grace, .. } => (size, size, grace),
+        WindowText::Hopping {
+            size,
+            advance,
+            grace,
+            ..
+        } => (size, advance, grace),
+    };
     Window {
-        size: size_of(window) as u64,
-        advance: advance_of(window) as u64,
-        grace: grace_of(window) as u64,
+        size: millis(size) as u64,
+        advance: millis(advance) as u64,
+        grace: grace_millis(grace) as u64,
     }
 }

@@ -79,6 +79,12 @@ items_first [] item some first = absurd (omega (arith, some))
 items_first (i ∷ items) item some first =
     ap (λ (x : Item). x ∷ items) (sym first) ∙ ap (λ (xs : List Item). item ∷ xs) (sym (take_all (length (i ∷ items) - 1) items (omega arith)))
 
+-- the declared relations where the first item is a query
+pub declared_later : (items : List Item) (item : Item) (query : Query) → 1 ≤ length items → item ≡ slice_index_or items 0 item → item ≡ Started query
+    → declared_of items ≡ declared_of (rest_of items)
+declared_later items item query some first is =
+    ap declared_of (items_first items item some first ∙ ap (λ (x : Item). x ∷ rest_of items) is)
+
 pub none_fit : (items : List Item) (before : List TopicLines) → length items ≡ 0 → FitAfter items before before
 none_fit [] before none = ([], tt, sym (append-nil before))
 none_fit (i ∷ items) before none = absurd (omega (arith, none))

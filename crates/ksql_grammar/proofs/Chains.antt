@@ -4,9 +4,10 @@ use Rattle.std.specs.List.{prefix_len}
 use Rattle.std.proofs.lemmas.Option.{none-some, same_Some}
 use Rattle.ksql_types.specs.declared.operator.BinaryOp.{BinaryOp}
 use Rattle.ksql_grammar.specs.declared.symbol.Symbol.{Symbol}
-use Rattle.ksql_grammar.specs.declared.tree.Expr.{Expr}
-use Rattle.ksql_grammar.specs.declared.tree.Expr.TheVariants as e
-use Rattle.ksql_grammar.specs.Expressions.{◌>>=◌, Reader, first, list_end, list_of, chain_step, chain_with, chain, behind_prefix, behind_prefixes, prefixed}
+use Rattle.ksql_expressions.specs.declared.tree.Expr.{Expr}
+use Rattle.ksql_expressions.specs.declared.tree.Expr.TheVariants as e
+use Rattle.ksql_grammar.specs.Expressions.{Reader, first, list_end, list_of, chain_step, chain_with, chain, behind_prefix, behind_prefixes, prefixed}
+use Rattle.ksql_expressions.specs.Options.{◌>>=◌}
 use Rattle.ksql_grammar.proofs.Steps.{if_some, first_found, first_there}
 use Rattle.ksql_grammar.proofs.Ends.{Rest}
 use Rattle.ksql_grammar.proofs.Found.{prefix_len-true, prefix_len-false}

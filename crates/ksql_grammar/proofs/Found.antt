@@ -11,13 +11,14 @@ use Rattle.ksql_grammar.specs.declared.symbol.Keyword.{Keyword}
 use Rattle.ksql_grammar.specs.declared.symbol.Keyword.TheVariants as key
 use Rattle.ksql_grammar.specs.declared.symbol.Symbol.{Symbol}
 use Rattle.ksql_grammar.specs.declared.symbol.Symbol.TheVariants.{Key, Word, Quoted, Text, Number, Sign}
-use Rattle.ksql_grammar.specs.declared.tree.Expr.{Expr}
-use Rattle.ksql_grammar.specs.declared.tree.Expr.TheVariants as e
-use Rattle.ksql_grammar.specs.declared.tree.WhenText.{WhenText}
+use Rattle.ksql_expressions.specs.declared.tree.Expr.{Expr}
+use Rattle.ksql_expressions.specs.declared.tree.Expr.TheVariants as e
+use Rattle.ksql_expressions.specs.declared.tree.WhenText.{WhenText}
 use Rattle.ksql_grammar.specs.Symbols.{name_of, type_of, or_of, and_of, comparison_of, sum_of, product_of}
 use Rattle.ksql_grammar.specs.Grammar.{Level, Phrase, Spells, at, exprs, whens, operand, otherwise, arguments, negation, when_then, minus_of, truth_of, expr, conj, neg, pred, sum, prod, unary, primary}
 use Rattle.ksql_grammar.specs.Grammar as g
-use Rattle.ksql_grammar.specs.Expressions.{◌>>=◌, Reader, behind_key, behind_sign, first, list_end, list_of, chain_step, chain_with, chain, behind_prefix, behind_prefixes, prefixed, is_not, is_sign, negation_of, negation_at}
+use Rattle.ksql_grammar.specs.Expressions.{Reader, behind_key, behind_sign, first, list_end, list_of, chain_step, chain_with, chain, behind_prefix, behind_prefixes, prefixed, is_not, is_sign, negation_of, negation_at}
+use Rattle.ksql_expressions.specs.Options.{◌>>=◌}
 use Rattle.ksql_grammar.specs.Expressions as r
 use Rattle.ksql_grammar.proofs.Steps.{If, if_bind, if_some, if_weaker, if_from, key_found, sign_found, first_found}
 

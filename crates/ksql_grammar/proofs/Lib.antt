@@ -7,4 +7,3 @@ pub mod Only
 pub mod Steps
 pub mod Takes
 pub mod Whole
-pub mod Words

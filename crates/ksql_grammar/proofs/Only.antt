@@ -10,14 +10,17 @@ use Rattle.ksql_grammar.specs.declared.symbol.Keyword.{Keyword}
 use Rattle.ksql_grammar.specs.declared.symbol.Keyword.TheVariants as key
 use Rattle.ksql_grammar.specs.declared.symbol.Symbol.{Symbol}
 use Rattle.ksql_grammar.specs.declared.symbol.Symbol.TheVariants.{Key, Word, Quoted, Text, Number, Sign}
-use Rattle.ksql_grammar.specs.declared.tree.Expr.{Expr}
-use Rattle.ksql_grammar.specs.declared.tree.Expr.TheVariants as e
-use Rattle.ksql_grammar.specs.declared.tree.WhenText.{WhenText}
+use Rattle.ksql_expressions.specs.declared.tree.Expr.{Expr}
+use Rattle.ksql_expressions.specs.declared.tree.Expr.TheVariants as e
+use Rattle.ksql_expressions.specs.declared.tree.WhenText.{WhenText}
+use Rattle.ksql_grammar.specs.declared.expression.Level.{Level as Operators}
+use Rattle.ksql_grammar.specs.declared.expression.Level.TheVariants as level
 use Rattle.ksql_grammar.specs.Symbols.{name_of, type_of, or_of, and_of, comparison_of, sum_of, product_of}
 use Rattle.ksql_grammar.specs.Grammar.{Level, Phrase, Spells, at, exprs, whens, operand, otherwise, arguments, negation, when_then, minus_of, truth_of, expr, conj, neg, pred, sum, prod, unary, primary}
 use Rattle.ksql_grammar.specs.Grammar as g
 use Rattle.ksql_grammar.specs.Reading.{is_comma}
-use Rattle.ksql_grammar.specs.Expressions.{◌>>=◌, Reader, behind_key, behind_sign, first, list_end, list_of, chain_step, chain_with, chain, behind_prefix, behind_prefixes, prefixed, is_not, is_sign, negation_of, negation_at}
+use Rattle.ksql_grammar.specs.Expressions.{Reader, behind_key, behind_sign, first, list_end, list_of, chain_step, chain_with, chain, behind_prefix, behind_prefixes, prefixed, is_not, is_sign, negation_of, negation_at}
+use Rattle.ksql_expressions.specs.Options.{◌>>=◌}
 use Rattle.ksql_grammar.specs.Expressions as r
 use Rattle.ksql_grammar.proofs.Steps.{If, if_some, key_found, sign_found, key_there, sign_there, first_there}
 use Rattle.ksql_grammar.proofs.Takes.{takes}
@@ -98,17 +101,11 @@ takes_at : (l : Level) (read : Reader Expr) → ((ts : List Symbol) → If (read
 takes_at l read found ts x h = takes (if_some (read ts) (Reads l ts) x (found ts) h)
 
 module _ (n : ℕ) where
-  pub unary_takes : TakesOne (r.unary (r.within n))
-  unary_takes = takes_at unary (r.unary (r.within n)) (unary_found (r.within n) (within_found n))
-
-  pub product_takes : TakesOne (r.product (r.within n))
-  product_takes = takes_at prod (r.product (r.within n)) (product_found (r.within n) (within_found n))
-
-  pub negations_takes : TakesOne (r.negations (r.within n))
-  negations_takes = takes_at neg (r.negations (r.within n)) (negations_found (r.within n) (within_found n))
-
-  pub conjunction_takes : TakesOne (r.conjunction (r.within n))
-  conjunction_takes = takes_at conj (r.conjunction (r.within n)) (conjunction_found (r.within n) (within_found n))
+  pub operand_takes : (l : Operators) → TakesOne (r.operand_of (r.within n) l)
+  operand_takes level.Expr = takes_at conj (r.conjunction (r.within n)) (conjunction_found (r.within n) (within_found n))
+  operand_takes level.Conj = takes_at neg (r.negations (r.within n)) (negations_found (r.within n) (within_found n))
+  operand_takes level.Sum = takes_at prod (r.product (r.within n)) (product_found (r.within n) (within_found n))
+  operand_takes level.Prod = takes_at unary (r.unary (r.within n)) (unary_found (r.within n) (within_found n))
 
   pub expr_whole : (a : Expr) (ts us : List Symbol) → AtGoal expr a ts us n → Rest EndsExpr us → r.within (suc n) ts ≡ Some (a, us)
   unfolding r.within
@@ -137,7 +134,7 @@ module _ (n : ℕ) where
 
   or_only : (s : Symbol) (o : BinaryOp) (a b : Expr) (ts us vs : List Symbol) → AtGoal expr a ts (s ∷ us) n → or_of s ≡ Some o → AtGoal conj b us vs n → AtGoal expr (e.Binary o a b) ts vs n
   or_only s o a b ts us vs h k f ends =
-      h (or_ends s o k) ∙ chain_goes or_of (r.conjunction (r.within n)) conjunction_takes s o a b us vs k (conj_whole b us vs f ends)
+      h (or_ends s o k) ∙ chain_goes or_of (r.conjunction (r.within n)) (operand_takes level.Expr) s o a b us vs k (conj_whole b us vs f ends)
 
   one_neg_only : (a : Expr) (ts us : List Symbol) → AtGoal neg a ts us n → AtGoal conj a ts us n
   unfolding r.conjunction
@@ -145,7 +142,7 @@ module _ (n : ℕ) where
 
   and_only : (s : Symbol) (o : BinaryOp) (a b : Expr) (ts us vs : List Symbol) → AtGoal conj a ts (s ∷ us) n → and_of s ≡ Some o → AtGoal neg b us vs n → AtGoal conj (e.Binary o a b) ts vs n
   and_only s o a b ts us vs h k f ends =
-      h (and_ends s o k) ∙ chain_goes and_of (r.negations (r.within n)) negations_takes s o a b us vs k (f ends)
+      h (and_ends s o k) ∙ chain_goes and_of (r.negations (r.within n)) (operand_takes level.Conj) s o a b us vs k (f ends)
 
   one_prod_only : (a : Expr) (ts us : List Symbol) → AtGoal prod a ts us n → AtGoal sum a ts us n
   unfolding r.sum
@@ -153,7 +150,7 @@ module _ (n : ℕ) where
 
   added_only : (s : Symbol) (o : BinaryOp) (a b : Expr) (ts us vs : List Symbol) → AtGoal sum a ts (s ∷ us) n → sum_of s ≡ Some o → AtGoal prod b us vs n → AtGoal sum (e.Binary o a b) ts vs n
   added_only s o a b ts us vs h k f ends =
-      h (sum_ends s o k) ∙ chain_goes sum_of (r.product (r.within n)) product_takes s o a b us vs k (prod_whole b us vs f ends)
+      h (sum_ends s o k) ∙ chain_goes sum_of (r.product (r.within n)) (operand_takes level.Sum) s o a b us vs k (prod_whole b us vs f ends)
 
   one_unary_only : (a : Expr) (ts us : List Symbol) → AtGoal unary a ts us n → AtGoal prod a ts us n
   unfolding r.product
@@ -161,7 +158,7 @@ module _ (n : ℕ) where
 
   multiplied_only : (s : Symbol) (o : BinaryOp) (a b : Expr) (ts us vs : List Symbol) → AtGoal prod a ts (s ∷ us) n → product_of s ≡ Some o → AtGoal unary b us vs n → AtGoal prod (e.Binary o a b) ts vs n
   multiplied_only s o a b ts us vs h k f ends =
-      h (product_ends s o k) ∙ chain_goes product_of (r.unary (r.within n)) unary_takes s o a b us vs k (f ends)
+      h (product_ends s o k) ∙ chain_goes product_of (r.unary (r.within n)) (operand_takes level.Prod) s o a b us vs k (f ends)
 
 -- ---- prefixes
 

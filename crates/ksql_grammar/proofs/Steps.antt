@@ -8,7 +8,8 @@ use Rattle.ksql_grammar.specs.declared.symbol.Keyword.{Keyword}
 use Rattle.ksql_grammar.specs.contracts.symbol.Keyword.{the_type as the_keyword}
 use Rattle.ksql_grammar.specs.declared.symbol.Symbol.{Symbol}
 use Rattle.ksql_grammar.specs.declared.symbol.Symbol.TheVariants.{Key, Word, Quoted, Text, Number, Sign}
-use Rattle.ksql_grammar.specs.Expressions.{◌>>=◌, behind_key, behind_sign, first}
+use Rattle.ksql_grammar.specs.Expressions.{behind_key, behind_sign, first}
+use Rattle.ksql_expressions.specs.Options.{◌>>=◌}
 
 -- what is read, if anything is
 abbrev pub If : {A : Type 0} → Option A → (A → Type 0) → Type 0

@@ -12,7 +12,6 @@ Takes (negation n) ts us = length us ≤ length ts
 Takes (operand o) ts us = length us ≤ length ts
 Takes (otherwise o) ts us = length us ≤ length ts
 Takes (arguments s es) ts us = length us ≤ length ts
-Takes _ ts us = Unit {0}
 
 pub takes : {p : Phrase} {ts us : List Symbol} → Spells p ts us → Takes p ts us
 takes (one_conj d) = takes d
@@ -56,4 +55,3 @@ takes (name_in h k) = omega arith
 takes (parens d) = let a = takes d in omega arith
 takes (last_expr d) = takes d
 takes (more_exprs d f) = let a = takes d in let b = takes f in omega arith
-takes _ = tt

@@ -5,11 +5,12 @@ use Rattle.ksql_lexer.specs.declared.token.Mark.{Mark}
 use Rattle.ksql_grammar.specs.declared.symbol.Keyword.{Keyword}
 use Rattle.ksql_grammar.specs.declared.symbol.Symbol.{Symbol}
 use Rattle.ksql_grammar.specs.declared.symbol.Symbol.TheVariants.{Key, Sign}
-use Rattle.ksql_grammar.specs.declared.tree.Expr.{Expr}
+use Rattle.ksql_expressions.specs.declared.tree.Expr.{Expr}
 use Rattle.ksql_grammar.specs.Grammar.{Spells, at, exprs, expr}
 use Rattle.ksql_grammar.specs.Reading.{EndsExpr, EndsExprs}
 use Rattle.ksql_grammar.specs.declared.symbol.Keyword.TheVariants as key
-use Rattle.ksql_grammar.specs.Expressions.{◌>>=◌, behind_key, behind_sign, list_of}
+use Rattle.ksql_grammar.specs.Expressions.{behind_key, behind_sign, list_of}
+use Rattle.ksql_expressions.specs.Options.{◌>>=◌}
 use Rattle.ksql_grammar.specs.Expressions as r
 use Rattle.ksql_grammar.proofs.Steps.{If, if_some, key_found, sign_found}
 use Rattle.ksql_grammar.proofs.Takes.{takes}

@@ -4,6 +4,7 @@ use Rattle.std.specs.List.{prefix_len}
 use Rattle.std.specs.Global.{Vec}
 use Rattle.std.specs.Borrow.{Bor}
 use denote.Enum.Bare.{sameb}
+use Rattle.ksql_expressions.specs.Options.{◌>>=◌}
 use Rattle.ksql_types.specs.declared.operator.BinaryOp.{BinaryOp}
 use Rattle.ksql_types.specs.declared.value.SqlType.{SqlType}
 use Rattle.ksql_lexer.specs.declared.token.Mark.{Mark}
@@ -14,18 +15,13 @@ use Rattle.ksql_grammar.specs.declared.symbol.Keyword.TheVariants as key
 use Rattle.ksql_grammar.specs.contracts.symbol.Keyword.{the_type as the_keyword}
 use Rattle.ksql_grammar.specs.declared.symbol.Symbol.{Symbol}
 use Rattle.ksql_grammar.specs.declared.symbol.Symbol.TheVariants.{Key, Word, Quoted, Text, Number, Sign}
-use Rattle.ksql_grammar.specs.declared.tree.Expr.{Expr}
-use Rattle.ksql_grammar.specs.declared.tree.Expr.TheVariants as e
-use Rattle.ksql_grammar.specs.declared.tree.WhenText.{WhenText}
+use Rattle.ksql_expressions.specs.declared.tree.Expr.{Expr}
+use Rattle.ksql_expressions.specs.declared.tree.Expr.TheVariants as e
+use Rattle.ksql_expressions.specs.declared.tree.WhenText.{WhenText}
 use Rattle.ksql_grammar.specs.declared.expression.Level.{Level}
 use Rattle.ksql_grammar.specs.declared.expression.Level.TheVariants as level
 use Rattle.ksql_grammar.specs.Symbols.{name_of, type_of, or_of, and_of, comparison_of, sum_of, product_of}
 use Rattle.ksql_grammar.specs.Grammar.{when_then, minus_of}
-
-infixl 10 ◌>>=◌
-abbrev pub ◌>>=◌ : {A B : Type 0} → Option A → (A → Option B) → Option B
-None >>= f = None
-(Some x) >>= f = f x
 
 -- a reader gives a tree and the symbols after it
 abbrev pub Reader : Type 0 → Type 0
@@ -285,6 +281,13 @@ module _ (inner : Reader Expr) where
 
   unfoldable pub disjunction : Reader Expr
   disjunction = chain or_of conjunction
+
+  -- the operands of each level
+  abbrev pub operand_of : Level → Reader Expr
+  operand_of level.Expr = conjunction
+  operand_of level.Conj = negations
+  operand_of level.Sum = product
+  operand_of level.Prod = unary
 
 -- the operators of each level
 abbrev pub operator_at : Level → Symbol → Option BinaryOp

@@ -1,6 +1,7 @@
--- How the grammar reads a token: which words are reserved, and what is a name, a type or a unit.
+-- How the grammar reads a token: which words are reserved, and what is a name or a type.
 use Rattle.std.specs.Prelude.{◌≡◌, ℕ, List, [], ◌∷◌, Option, Some, None, option_map, if◌then◌else◌, bytes_eq, codes, map}
 use Rattle.std.specs.Str.Parse.{digits_value}
+use Rattle.ksql_expressions.specs.Words.{beside}
 use Rattle.ksql_types.specs.declared.value.SqlType.{SqlType}
 use Rattle.ksql_types.specs.declared.value.SqlType.TheVariants as sql
 use Rattle.ksql_types.specs.declared.operator.BinaryOp.{BinaryOp}
@@ -12,13 +13,6 @@ use Rattle.ksql_grammar.specs.declared.symbol.Keyword.{Keyword}
 use Rattle.ksql_grammar.specs.declared.symbol.Keyword.TheVariants as key
 use Rattle.ksql_grammar.specs.declared.symbol.Symbol.{Symbol}
 use Rattle.ksql_grammar.specs.declared.symbol.Symbol.TheVariants as sym
-use Rattle.ksql_grammar.specs.declared.tree.Unit.{Unit as UnitWord}
-use Rattle.ksql_grammar.specs.declared.tree.Unit.TheVariants as unit
-
--- what stands beside a word in a table
-abbrev pub beside : {A : Type 0} → List (List ℕ × A) → List ℕ → Option A
-beside [] word = None
-beside (row ∷ rows) word = if bytes_eq row.0 word then Some row.1 else beside rows word
 
 -- the reserved words
 abbrev pub reserved_words : List (List ℕ × Keyword)
@@ -57,10 +51,6 @@ name_of (sym.Word word) = Some word
 name_of (sym.Quoted name) = Some name
 name_of _ = None
 
--- the symbol is this word, which isn't reserved
-abbrev pub IsWord : List ℕ → Symbol → Type 0
-IsWord word s = s ≡ sym.Word word
-
 -- the types
 abbrev pub type_words : List (List ℕ × SqlType)
 type_words =
@@ -71,19 +61,6 @@ type_words =
 abbrev pub type_of : Symbol → Option SqlType
 type_of (sym.Word word) = beside type_words word
 type_of _ = None
-
--- the units of time
-abbrev pub unit_words : List (List ℕ × UnitWord)
-unit_words =
-    (codes "DAY", unit.Day) ∷ (codes "DAYS", unit.Day) ∷ (codes "HOUR", unit.Hour) ∷ (codes "HOURS", unit.Hour)
-    ∷ (codes "MINUTE", unit.Minute) ∷ (codes "MINUTES", unit.Minute) ∷ (codes "SECOND", unit.Second)
-    ∷ (codes "SECONDS", unit.Second) ∷ (codes "MILLISECOND", unit.Millisecond)
-    ∷ (codes "MILLISECONDS", unit.Millisecond) ∷ []
-
--- the unit that a symbol is
-abbrev pub unit_of : Symbol → Option UnitWord
-unit_of (sym.Word word) = beside unit_words word
-unit_of _ = None
 
 -- the operators of each level
 abbrev pub or_of : Symbol → Option BinaryOp

@@ -1,14 +1,15 @@
-//! Expressions.
+//! Expressions. One that is let go is given to `drop`, or held as a `Boxed`: the check goes through such a call once, but
+//! through every form of a local `Expr` that ends with its block.
 
 ghost use Rattle.std.specs.Prelude.{◌≡◌, ◌≤◌, List, length, Some, IfOk};
 ghost use Rattle.std.specs.List.{prefix_len};
-ghost use Rattle.ksql_grammar.specs.declared.tree.Expr.{Expr as Tree};
+ghost use Rattle.ksql_expressions.specs.declared.tree.Expr.{Expr as Tree};
 ghost use Rattle.ksql_grammar.specs.declared.symbol.Symbol.{Symbol as OneSymbol};
 ghost use Rattle.ksql_grammar.specs.Symbols as spec;
 ghost use Rattle.ksql_grammar.specs.Grammar.{Spells, at, expr, exprs};
 ghost use Rattle.ksql_grammar.specs.Reading.{Gives, with_rest, with_items, option_with_rest, EndsExpr, EndsExprs};
 ghost use Rattle.ksql_grammar.specs.Expressions as read;
-ghost use Rattle.ksql_grammar.specs.Nests.{Nests};
+ghost use Rattle.ksql_grammar.specs.Nests.{Nests, ReadsAs};
 
 use crate::fault::ReadError;
 use crate::node;
@@ -16,9 +17,9 @@ use crate::symbol::{
     Keyword, Symbol, and_of, behind_key, behind_sign, comparison_of, is_not, is_sign, name_of,
     or_of, product_of, sum_of, type_of,
 };
-use crate::tree::{Expr, ExprTexts, WhenText};
+use ksql_expressions::{Expr, ExprTexts, WhenText};
 use ksql_lexer::Mark;
-use ksql_types::{BinaryOp, Chars, Items, SqlType};
+use ksql_types::{BinaryOp, Boxed, Chars, Items, SqlType};
 use std::alloc::{AllocError, Global};
 
 /// A level of operators between operands.
@@ -112,9 +113,10 @@ fn behind_all(alloc: Global, prefixes: &[Symbol], arg: Expr) -> Result<Expr, All
 fn is_null(alloc: Global, arg: Expr, symbols: &[Symbol]) -> Result<(Expr, &[Symbol]), ReadError>
     ensures { Gives with_rest result (read.is_null arg symbols.now) }
 {
+    let arg = Boxed::of(alloc, arg)?;
     let (negated, rest) = negation(symbols);
     let rest = behind_key(Keyword::Null, rest).ok_or(ReadError::Unspelled)?;
-    Ok((node::is_null(alloc, negated, arg)?, rest))
+    Ok((Expr::IsNull { negated, arg }, rest))
 }
 
 #[tactic(auto, unfolding(crate::specs::Expressions::like, crate::specs::Expressions::first))]
@@ -126,6 +128,7 @@ fn like(
 ) -> Result<(Expr, &[Symbol]), ReadError>
     ensures { Gives with_rest result (read.like negated arg symbols.now) }
 {
+    let arg = Boxed::of(alloc, arg)?;
     match symbols {
         [Symbol::Text(pattern), rest @ ..] => Ok((node::like(alloc, negated, arg, pattern)?, rest)),
         _ => Err(ReadError::Unspelled),
@@ -166,13 +169,28 @@ impl<F: for<'a> Fn(Global, usize, &'a [Symbol]) -> Result<(Expr, &'a [Symbol]), 
         (self.reader)(self.alloc, self.room, symbols)
     }
 
+    /// The same, put on the heap.
+    fn boxed_inner<'a>(
+        &self,
+        symbols: &'a [Symbol],
+    ) -> Result<(Boxed<Expr>, &'a [Symbol]), ReadError>
+        requires { Nests self.now.room (F.pre self.now.reader) (F.post self.now.reader) }
+        ensures { Gives with_rest result (read.within self.now.room symbols.now) }
+    {
+        let (inner, rest) = self.inner(symbols)?;
+        Ok((Boxed::of(self.alloc, inner)?, rest))
+    }
+
     #[tactic(auto, unfolding(crate::specs::Expressions::parens))]
     fn parenthesized<'a>(&self, symbols: &'a [Symbol]) -> Result<(Expr, &'a [Symbol]), ReadError>
         requires { Nests self.now.room (F.pre self.now.reader) (F.post self.now.reader) }
         ensures { Gives with_rest result (read.parens (read.within self.now.room) symbols.now) }
     {
         let (inner, rest) = self.inner(symbols)?;
-        let rest = behind_sign(Mark::Close, rest).ok_or(ReadError::Unspelled)?;
+        let Some(rest) = behind_sign(Mark::Close, rest) else {
+            drop(inner);
+            return Err(ReadError::Unspelled);
+        };
         Ok((inner, rest))
     }
 
@@ -182,11 +200,11 @@ impl<F: for<'a> Fn(Global, usize, &'a [Symbol]) -> Result<(Expr, &'a [Symbol]), 
         ensures { Gives with_rest result (read.cast (read.within self.now.room) symbols.now) }
     {
         let rest = behind_sign(Mark::Open, symbols).ok_or(ReadError::Unspelled)?;
-        let (arg, rest) = self.inner(rest)?;
+        let (arg, rest) = self.boxed_inner(rest)?;
         let rest = behind_key(Keyword::As, rest).ok_or(ReadError::Unspelled)?;
         let (to, rest) = behind_type(rest).ok_or(ReadError::Unspelled)?;
         let rest = behind_sign(Mark::Close, rest).ok_or(ReadError::Unspelled)?;
-        Ok((node::cast(self.alloc, arg, to)?, rest))
+        Ok((Expr::Cast { arg, to }, rest))
     }
 
     /// The operand of CASE, where there is one.
@@ -194,14 +212,14 @@ impl<F: for<'a> Fn(Global, usize, &'a [Symbol]) -> Result<(Expr, &'a [Symbol]), 
     fn case_operand<'a>(
         &self,
         symbols: &'a [Symbol],
-    ) -> Result<(Option<Expr>, &'a [Symbol]), ReadError>
+    ) -> Result<(Option<Boxed<Expr>>, &'a [Symbol]), ReadError>
         requires { Nests self.now.room (F.pre self.now.reader) (F.post self.now.reader) }
         ensures { Gives with_rest result (read.operand (read.within self.now.room) symbols.now) }
     {
         if behind_key(Keyword::When, symbols).is_some() {
             return Ok((None, symbols));
         }
-        let (arg, rest) = self.inner(symbols)?;
+        let (arg, rest) = self.boxed_inner(symbols)?;
         Ok((Some(arg), rest))
     }
 
@@ -240,14 +258,14 @@ impl<F: for<'a> Fn(Global, usize, &'a [Symbol]) -> Result<(Expr, &'a [Symbol]), 
     fn otherwise<'a>(
         &self,
         symbols: &'a [Symbol],
-    ) -> Result<(Option<Expr>, &'a [Symbol]), ReadError>
+    ) -> Result<(Option<Boxed<Expr>>, &'a [Symbol]), ReadError>
         requires { Nests self.now.room (F.pre self.now.reader) (F.post self.now.reader) }
         ensures { Gives with_rest result (read.otherwise (read.within self.now.room) symbols.now) }
     {
         let Some(rest) = behind_key(Keyword::Else, symbols) else {
             return Ok((None, symbols));
         };
-        let (otherwise, rest) = self.inner(rest)?;
+        let (otherwise, rest) = self.boxed_inner(rest)?;
         Ok((Some(otherwise), rest))
     }
 
@@ -260,7 +278,7 @@ impl<F: for<'a> Fn(Global, usize, &'a [Symbol]) -> Result<(Expr, &'a [Symbol]), 
         let (whens, rest) = self.whens(rest)?;
         let (otherwise, rest) = self.otherwise(rest)?;
         let rest = behind_key(Keyword::End, rest).ok_or(ReadError::Unspelled)?;
-        Ok((node::case(self.alloc, arg, whens, otherwise)?, rest))
+        Ok((node::case(arg, whens, otherwise), rest))
     }
 
     /// What begins by a reserved word.
@@ -379,18 +397,35 @@ impl<F: for<'a> Fn(Global, usize, &'a [Symbol]) -> Result<(Expr, &'a [Symbol]), 
         Ok((behind_all(self.alloc, &symbols[..count], arg)?, rest))
     }
 
+    /// Operands of a level with its operators between them, from the left.
+    fn chain<
+        'a,
+        O: for<'n, 'b> Fn(&'n Self, &'b [Symbol]) -> Result<(Expr, &'b [Symbol]), ReadError>,
+    >(
+        &self,
+        level: Level,
+        operand: O,
+        symbols: &'a [Symbol],
+    ) -> Result<(Expr, &'a [Symbol]), ReadError>
+        requires { ReadsAs (read.operand_of (read.within self.now.room) level) (O.pre operand self) (O.post operand self) }
+        ensures { Gives with_rest result (read.chain (read.operator_at level) (read.operand_of (read.within self.now.room) level) symbols.now) }
+    {
+        let (mut left, mut rest) = operand(self, symbols)?;
+        while let Some((op, after)) = behind_operator(level, rest) {
+            let boxed = Boxed::of(self.alloc, left)?;
+            let (right, behind) = operand(self, after)?;
+            left = node::binary(self.alloc, op, boxed, right)?;
+            rest = behind;
+        }
+        Ok((left, rest))
+    }
+
     #[tactic(auto, unfolding(crate::specs::Expressions::product))]
     fn product<'a>(&self, symbols: &'a [Symbol]) -> Result<(Expr, &'a [Symbol]), ReadError>
         requires { Nests self.now.room (F.pre self.now.reader) (F.post self.now.reader) }
         ensures { Gives with_rest result (read.product (read.within self.now.room) symbols.now) }
     {
-        let (mut left, mut rest) = self.unary(symbols)?;
-        while let Some((op, after)) = behind_operator(Level::Prod, rest) {
-            let (right, behind) = self.unary(after)?;
-            left = node::binary(self.alloc, op, left, right)?;
-            rest = behind;
-        }
-        Ok((left, rest))
+        self.chain(Level::Prod, Self::unary, symbols)
     }
 
     #[tactic(auto, unfolding(crate::specs::Expressions::sum))]
@@ -398,13 +433,16 @@ impl<F: for<'a> Fn(Global, usize, &'a [Symbol]) -> Result<(Expr, &'a [Symbol]), 
         requires { Nests self.now.room (F.pre self.now.reader) (F.post self.now.reader) }
         ensures { Gives with_rest result (read.sum (read.within self.now.room) symbols.now) }
     {
-        let (mut left, mut rest) = self.product(symbols)?;
-        while let Some((op, after)) = behind_operator(Level::Sum, rest) {
-            let (right, behind) = self.product(after)?;
-            left = node::binary(self.alloc, op, left, right)?;
-            rest = behind;
-        }
-        Ok((left, rest))
+        self.chain(Level::Sum, Self::product, symbols)
+    }
+
+    /// A sum that is put on the heap.
+    fn boxed_sum<'a>(&self, symbols: &'a [Symbol]) -> Result<(Boxed<Expr>, &'a [Symbol]), ReadError>
+        requires { Nests self.now.room (F.pre self.now.reader) (F.post self.now.reader) }
+        ensures { Gives with_rest result (read.sum (read.within self.now.room) symbols.now) }
+    {
+        let (sum, rest) = self.sum(symbols)?;
+        Ok((Boxed::of(self.alloc, sum)?, rest))
     }
 
     #[tactic(auto, unfolding(crate::specs::Expressions::between))]
@@ -417,10 +455,11 @@ impl<F: for<'a> Fn(Global, usize, &'a [Symbol]) -> Result<(Expr, &'a [Symbol]), 
         requires { Nests self.now.room (F.pre self.now.reader) (F.post self.now.reader) }
         ensures { Gives with_rest result (read.between (read.within self.now.room) negated arg symbols.now) }
     {
-        let (low, rest) = self.sum(symbols)?;
+        let arg = Boxed::of(self.alloc, arg)?;
+        let (low, rest) = self.boxed_sum(symbols)?;
         let rest = behind_key(Keyword::And, rest).ok_or(ReadError::Unspelled)?;
-        let (high, rest) = self.sum(rest)?;
-        Ok((node::between(self.alloc, negated, arg, low, high)?, rest))
+        let (high, rest) = self.boxed_sum(rest)?;
+        Ok((node::between(negated, arg, low, high), rest))
     }
 
     #[tactic(auto, unfolding(crate::specs::Expressions::one_of))]
@@ -433,10 +472,11 @@ impl<F: for<'a> Fn(Global, usize, &'a [Symbol]) -> Result<(Expr, &'a [Symbol]), 
         requires { Nests self.now.room (F.pre self.now.reader) (F.post self.now.reader) }
         ensures { Gives with_rest result (read.one_of (read.within self.now.room) negated arg symbols.now) }
     {
+        let arg = Boxed::of(self.alloc, arg)?;
         let rest = behind_sign(Mark::Open, symbols).ok_or(ReadError::Unspelled)?;
         let (choices, rest) = self.expressions(rest)?;
         let rest = behind_sign(Mark::Close, rest).ok_or(ReadError::Unspelled)?;
-        Ok((node::one_of(self.alloc, negated, arg, choices)?, rest))
+        Ok((node::one_of(negated, arg, choices), rest))
     }
 
     /// BETWEEN, IN or LIKE, or nothing where NOT wasn't read.
@@ -453,7 +493,10 @@ impl<F: for<'a> Fn(Global, usize, &'a [Symbol]) -> Result<(Expr, &'a [Symbol]), 
             [Symbol::Key(Keyword::Between), rest @ ..] => self.between(negated, arg, rest),
             [Symbol::Key(Keyword::In), rest @ ..] => self.one_of(negated, arg, rest),
             [Symbol::Key(Keyword::Like), rest @ ..] => like(self.alloc, negated, arg, rest),
-            _ if negated => Err(ReadError::Unspelled),
+            _ if negated => {
+                drop(arg);
+                Err(ReadError::Unspelled)
+            }
             _ => Ok((arg, symbols)),
         }
     }
@@ -468,6 +511,7 @@ impl<F: for<'a> Fn(Global, usize, &'a [Symbol]) -> Result<(Expr, &'a [Symbol]), 
         requires { Nests self.now.room (F.pre self.now.reader) (F.post self.now.reader) }
         ensures { Gives with_rest result (read.compared (read.within self.now.room) left op symbols.now) }
     {
+        let left = Boxed::of(self.alloc, left)?;
         let (right, rest) = self.sum(symbols)?;
         Ok((node::binary(self.alloc, op, left, right)?, rest))
     }
@@ -518,13 +562,7 @@ impl<F: for<'a> Fn(Global, usize, &'a [Symbol]) -> Result<(Expr, &'a [Symbol]), 
         requires { Nests self.now.room (F.pre self.now.reader) (F.post self.now.reader) }
         ensures { Gives with_rest result (read.conjunction (read.within self.now.room) symbols.now) }
     {
-        let (mut left, mut rest) = self.negations(symbols)?;
-        while let Some((op, after)) = behind_operator(Level::Conj, rest) {
-            let (right, behind) = self.negations(after)?;
-            left = node::binary(self.alloc, op, left, right)?;
-            rest = behind;
-        }
-        Ok((left, rest))
+        self.chain(Level::Conj, Self::negations, symbols)
     }
 
     #[tactic(auto, unfolding(crate::specs::Expressions::disjunction))]
@@ -532,13 +570,7 @@ impl<F: for<'a> Fn(Global, usize, &'a [Symbol]) -> Result<(Expr, &'a [Symbol]), 
         requires { Nests self.now.room (F.pre self.now.reader) (F.post self.now.reader) }
         ensures { Gives with_rest result (read.disjunction (read.within self.now.room) symbols.now) }
     {
-        let (mut left, mut rest) = self.conjunction(symbols)?;
-        while let Some((op, after)) = behind_operator(Level::Expr, rest) {
-            let (right, behind) = self.conjunction(after)?;
-            left = node::binary(self.alloc, op, left, right)?;
-            rest = behind;
-        }
-        Ok((left, rest))
+        self.chain(Level::Expr, Self::conjunction, symbols)
     }
 }
 

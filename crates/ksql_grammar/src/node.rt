@@ -5,15 +5,19 @@ ghost use Rattle.ksql_grammar.specs.Grammar.{when_then};
 ghost use Rattle.ksql_grammar.specs.Expressions.{behind_prefix};
 
 use crate::symbol::{Keyword, Symbol};
-use crate::tree::{Expr, WhenText};
+use ksql_expressions::{Expr, WhenText};
 use ksql_lexer::Mark;
-use ksql_types::{BinaryOp, Boxed, Chars, CopyOf, Items, SqlType};
+use ksql_types::{BinaryOp, Boxed, Chars, CopyOf, Items};
 use std::alloc::{AllocError, Global};
 
-pub fn binary(alloc: Global, op: BinaryOp, left: Expr, right: Expr) -> Result<Expr, AllocError>
+pub fn binary(
+    alloc: Global,
+    op: BinaryOp,
+    left: Boxed<Expr>,
+    right: Expr,
+) -> Result<Expr, AllocError>
     ensures { IfOk result (λ e. e ≡ Expr.Binary op left right) }
 {
-    let left = Boxed::of(alloc, left)?;
     let right = Boxed::of(alloc, right)?;
     Ok(Expr::Binary { op, left, right })
 }
@@ -30,54 +34,36 @@ pub fn behind(alloc: Global, prefix: &Symbol, arg: Expr) -> Result<Expr, AllocEr
     }
 }
 
-pub fn is_null(alloc: Global, negated: bool, arg: Expr) -> Result<Expr, AllocError>
-    ensures { IfOk result (λ e. e ≡ Expr.IsNull negated arg) }
+pub fn between(negated: bool, arg: Boxed<Expr>, low: Boxed<Expr>, high: Boxed<Expr>) -> Expr
+    ensures { result ≡ Expr.Between negated arg low high }
 {
-    let arg = Boxed::of(alloc, arg)?;
-    Ok(Expr::IsNull { negated, arg })
-}
-
-pub fn between(
-    alloc: Global,
-    negated: bool,
-    arg: Expr,
-    low: Expr,
-    high: Expr,
-) -> Result<Expr, AllocError>
-    ensures { IfOk result (λ e. e ≡ Expr.Between negated arg low high) }
-{
-    let arg = Boxed::of(alloc, arg)?;
-    let low = Boxed::of(alloc, low)?;
-    let high = Boxed::of(alloc, high)?;
-    Ok(Expr::Between {
+    Expr::Between {
         negated,
         arg,
         low,
         high,
-    })
+    }
 }
 
-pub fn one_of(
-    alloc: Global,
-    negated: bool,
-    arg: Expr,
-    choices: Vec<Expr>,
-) -> Result<Expr, AllocError>
-    ensures { IfOk result (λ e. e ≡ Expr.OneOf negated arg choices.items) }
+pub fn one_of(negated: bool, arg: Boxed<Expr>, choices: Vec<Expr>) -> Expr
+    ensures { result ≡ Expr.OneOf negated arg choices.items }
 {
-    let arg = Boxed::of(alloc, arg)?;
     let choices = Items::of(choices);
-    Ok(Expr::OneOf {
+    Expr::OneOf {
         negated,
         arg,
         choices,
-    })
+    }
 }
 
-pub fn like(alloc: Global, negated: bool, arg: Expr, pattern: &Chars) -> Result<Expr, AllocError>
+pub fn like(
+    alloc: Global,
+    negated: bool,
+    arg: Boxed<Expr>,
+    pattern: &Chars,
+) -> Result<Expr, AllocError>
     ensures { IfOk result (λ e. e ≡ Expr.Like negated arg pattern.now) }
 {
-    let arg = Boxed::of(alloc, arg)?;
     let pattern = pattern.copy(alloc)?;
     Ok(Expr::Like {
         negated,
@@ -86,38 +72,15 @@ pub fn like(alloc: Global, negated: bool, arg: Expr, pattern: &Chars) -> Result<
     })
 }
 
-pub fn cast(alloc: Global, arg: Expr, to: SqlType) -> Result<Expr, AllocError>
-    ensures { IfOk result (λ e. e ≡ Expr.Cast arg to) }
+pub fn case(arg: Option<Boxed<Expr>>, whens: Vec<WhenText>, otherwise: Option<Boxed<Expr>>) -> Expr
+    ensures { result ≡ Expr.Case arg whens.items otherwise }
 {
-    let arg = Boxed::of(alloc, arg)?;
-    Ok(Expr::Cast { arg, to })
-}
-
-fn boxed(alloc: Global, arg: Option<Expr>) -> Result<Option<Boxed<Expr>>, AllocError>
-    ensures { IfOk result (λ b. b ≡ arg) }
-{
-    match arg {
-        None => Ok(None),
-        Some(arg) => Ok(Some(Boxed::of(alloc, arg)?)),
-    }
-}
-
-pub fn case(
-    alloc: Global,
-    arg: Option<Expr>,
-    whens: Vec<WhenText>,
-    otherwise: Option<Expr>,
-) -> Result<Expr, AllocError>
-    ensures { IfOk result (λ e. e ≡ Expr.Case arg whens.items otherwise) }
-{
-    let arg = boxed(alloc, arg)?;
-    let otherwise = boxed(alloc, otherwise)?;
     let whens = Items::of(whens);
-    Ok(Expr::Case {
+    Expr::Case {
         arg,
         whens,
         otherwise,
-    })
+    }
 }
 
 /// WHEN and THEN.

@@ -1,13 +1,14 @@
 //! Words of the grammar.
 
 ghost use Rattle.std.specs.Prelude.{◌≡◌};
+ghost use Rattle.ksql_expressions.specs.Words.{beside};
 ghost use Rattle.ksql_grammar.specs.Symbols as spec;
 
 use ksql_types::SqlType;
 
 /// The type that a word is.
 pub fn type_of(word: &str) -> Option<SqlType>
-    ensures { result ≡ spec.beside spec.type_words word.now }
+    ensures { result ≡ beside spec.type_words word.now }
 {
     match word {
         "INT" | "INTEGER" => Some(SqlType::Int),

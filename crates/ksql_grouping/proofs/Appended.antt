@@ -1,7 +1,7 @@
 -- The aggregates in an expression, one after the other.
 use Rattle.std.proofs.Common.{◌≡◌, Bool, true, false, if◌then◌else◌, List, [], ◌∷◌, ◌++◌, Some, None, ap, sym, ◌∙◌}
 use Rattle.std.proofs.lemmas.List.{append-nil, append_assoc}
-use Rattle.ksql_grammar.specs.declared.tree.Expr.{Expr}
+use Rattle.ksql_expressions.specs.declared.tree.Expr.{Expr}
 use Rattle.ksql_grouping.specs.Grouping.{is_aggregate_call, whole_aggregate}
 
 pub is_whole : (x : Expr) (b : Bool) → b ≡ is_aggregate_call x → b ≡ true → whole_aggregate x ≡ Some (x ∷ [])

@@ -2,12 +2,12 @@
 use Rattle.std.proofs.Common.{◌≡◌, ℕ, List, [], ◌∷◌, ◌||◌, map, Bool, true, false, if◌then◌else◌, Option, Some, None, refl, ap, ap₂, sym, ◌∙◌}
 use Rattle.std.specs.Prelude.{option_map}
 use Rattle.std.specs.List.{AllByRecursion as Each}
-use Rattle.ksql_grammar.specs.declared.tree.Expr.{Expr}
-use Rattle.ksql_grammar.specs.declared.tree.Expr.TheVariants as e
-use Rattle.ksql_grammar.specs.declared.tree.WhenText.{WhenText}
+use Rattle.ksql_expressions.specs.declared.tree.Expr.{Expr}
+use Rattle.ksql_expressions.specs.declared.tree.Expr.TheVariants as e
+use Rattle.ksql_expressions.specs.declared.tree.WhenText.{WhenText}
 use Rattle.ksql_scope.proofs.Induction.{IfThere, InWhen, induction}
-use Rattle.ksql_walks.specs.Parts.{passes, any_of, any_perhaps}
-use Rattle.ksql_walks.proofs.Passing as passed
+use Rattle.ksql_expressions.specs.Parts.{passes, any_of, any_perhaps}
+use Rattle.ksql_expressions.proofs.Passing as passed
 use Rattle.ksql_grouping.specs.declared.aggregates.Called.{Called}
 use Rattle.ksql_grouping.specs.Grouping.{is_wanted, is_called}
 use Rattle.ksql_grouping.proofs.Calls as called

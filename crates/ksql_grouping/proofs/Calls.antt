@@ -5,13 +5,13 @@ use Rattle.std.specs.List.{list_any}
 use Rattle.std.proofs.lemmas.List.Folds.{list_any-append}
 use Rattle.ksql_types.specs.declared.operator.BinaryOp.{BinaryOp}
 use Rattle.ksql_types.specs.declared.value.SqlType.{SqlType}
-use Rattle.ksql_grammar.specs.declared.tree.Expr.{Expr}
-use Rattle.ksql_grammar.specs.declared.tree.Expr.TheVariants as e
-use Rattle.ksql_grammar.specs.declared.tree.WhenText.{WhenText}
+use Rattle.ksql_expressions.specs.declared.tree.Expr.{Expr}
+use Rattle.ksql_expressions.specs.declared.tree.Expr.TheVariants as e
+use Rattle.ksql_expressions.specs.declared.tree.WhenText.{WhenText}
 use Rattle.ksql_scope.specs.Uses.{calls, calls_step, of_when, all_of, perhaps}
-use Rattle.ksql_walks.specs.Parts.{any_of, any_perhaps}
-use Rattle.ksql_scope.proofs.Folds as folds
-use Rattle.ksql_scope.proofs.Folds.{perhaps_folded}
+use Rattle.ksql_expressions.specs.Parts.{any_of, any_perhaps}
+use Rattle.ksql_expressions.proofs.Folds as folds
+use Rattle.ksql_expressions.proofs.Folds.{perhaps_folded}
 
 abbrev pub calls_one : (List ℕ → Bool) → Expr → Bool
 calls_one p x = list_any p (calls x)

@@ -3,12 +3,12 @@ use Rattle.std.proofs.Common.{◌≡◌, ℕ, List, [], ◌++◌, map, Bool, Opt
 use Rattle.std.specs.Prelude.{option_map}
 use Rattle.ksql_types.specs.declared.operator.BinaryOp.{BinaryOp}
 use Rattle.ksql_types.specs.declared.value.SqlType.{SqlType}
-use Rattle.ksql_grammar.specs.declared.tree.Expr.{Expr}
-use Rattle.ksql_grammar.specs.declared.tree.Expr.TheVariants as e
-use Rattle.ksql_grammar.specs.declared.tree.WhenText.{WhenText}
+use Rattle.ksql_expressions.specs.declared.tree.Expr.{Expr}
+use Rattle.ksql_expressions.specs.declared.tree.Expr.TheVariants as e
+use Rattle.ksql_expressions.specs.declared.tree.WhenText.{WhenText}
 use Rattle.ksql_scope.specs.Uses.{gathered, all_of, perhaps}
 use Rattle.ksql_grouping.specs.Grouping.{gives}
-use Rattle.ksql_walks.proofs.Forms as p
+use Rattle.ksql_expressions.proofs.Forms as p
 
 pub gives-decided : (decide : Expr → Option (List Expr)) (x : Expr) (v : List Expr) → decide x ≡ Some v → gives decide x ≡ v
 unfolding gives

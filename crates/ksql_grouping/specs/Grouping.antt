@@ -1,16 +1,16 @@
 -- Aggregates and groups (ksqlDB reference manual, "Aggregate functions" and "GROUP BY").
 use Rattle.std.specs.Prelude.{ℕ, ◌+◌, suc, Bool, true, false, not, ◌&&◌, ◌||◌, if◌then◌else◌, List, [], ◌∷◌, ◌++◌, length, Option, Some, None, is_some, codes, bytes_eq}
 use Rattle.std.specs.List.{list_any}
-use Rattle.ksql_grammar.specs.declared.tree.Expr.{Expr, para-Expr, out-Expr}
-use Rattle.ksql_grammar.specs.declared.tree.Expr.TheOpen.{Expr-F}
-use Rattle.ksql_grammar.specs.declared.tree.WhenText.{WhenText}
+use Rattle.ksql_expressions.specs.declared.tree.Expr.{Expr, para-Expr, out-Expr}
+use Rattle.ksql_expressions.specs.declared.tree.Expr.TheOpen.{Expr-F}
+use Rattle.ksql_expressions.specs.declared.tree.WhenText.{WhenText}
 use Rattle.ksql_types.specs.Names.{is_among}
 use Rattle.ksql_grouping.specs.declared.aggregates.Called.{Called}
 use Rattle.ksql_grouping.specs.declared.aggregates.Called.TheVariants.{Aggregate, Ordered, Unknown}
 use Rattle.ksql_scope.specs.Functions.{is_aggregate, is_unknown}
-use Rattle.ksql_grouping.specs.Same.{same_expr}
+use Rattle.ksql_expressions.specs.Same.{same_expr}
 use Rattle.ksql_scope.specs.Uses.{gathered, calls}
-use Rattle.ksql_walks.specs.Parts.{decided_or, passes}
+use Rattle.ksql_expressions.specs.Parts.{decided_or, passes}
 
 -- the aggregates that a table has no place for
 abbrev pub ordered_aggregates : List (List ℕ)

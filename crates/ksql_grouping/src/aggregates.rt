@@ -6,10 +6,9 @@ ghost use Rattle.ksql_scope.specs.Functions.{is_aggregate};
 ghost use Rattle.ksql_scope.specs.Uses.{all_of, calls, has_unknown_function, perhaps};
 ghost use Rattle.ksql_grouping.specs.Grouping as spec;
 
-use ksql_grammar::{Expr, ExprTexts, WhenTexts};
+use ksql_expressions::{Decides, Expr, ExprTexts, WhenTexts, passes};
 use ksql_scope::{aggregate_of, function_of};
 use ksql_types::{Boxed, Chars, CopyOf, is_among};
-use ksql_walks::{Decides, passes};
 use std::alloc::{AllocError, Global};
 
 /// The aggregates that a table has no place for.

@@ -2,14 +2,12 @@
 
 ghost use Rattle.std.specs.Prelude.{◌≡◌, [], IfOk};
 ghost use Rattle.std.specs.List.{list_any};
-ghost use Rattle.ksql_grouping.specs.Same.{same_expr};
+ghost use Rattle.ksql_expressions.specs.Same.{same_expr};
 ghost use Rattle.ksql_grouping.specs.Grouping as spec;
 
 use crate::aggregates::{has_aggregate, is_aggregate};
-use crate::same::same_expr;
-use ksql_grammar::{Expr, ExprTexts};
+use ksql_expressions::{Decides, Expr, ExprTexts, passes, same_expr};
 use ksql_types::Chars;
-use ksql_walks::{Decides, passes};
 use std::alloc::{AllocError, Global};
 
 /// The number of the first of some expressions that this is.

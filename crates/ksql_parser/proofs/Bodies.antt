@@ -5,15 +5,16 @@ use Rattle.ksql_lexer.specs.declared.token.Mark.TheVariants as mark
 use Rattle.ksql_grammar.specs.declared.symbol.Keyword.TheVariants as key
 use Rattle.ksql_grammar.specs.declared.symbol.Symbol.{Symbol}
 use Rattle.ksql_grammar.specs.declared.symbol.Symbol.TheVariants.{Key, Sign}
-use Rattle.ksql_grammar.specs.declared.tree.ColumnText.{ColumnText}
-use Rattle.ksql_grammar.specs.declared.tree.Property.{Property}
-use Rattle.ksql_grammar.specs.declared.tree.StatementBody.{StatementBody}
-use Rattle.ksql_grammar.specs.declared.tree.StatementBody.TheVariants.{Declared, Query}
-use Rattle.ksql_grammar.specs.Grammar as g
-use Rattle.ksql_grammar.specs.Grammar.{Spells}
+use Rattle.ksql_statements.specs.declared.tree.ColumnText.{ColumnText}
+use Rattle.ksql_statements.specs.declared.tree.Property.{Property}
+use Rattle.ksql_statements.specs.declared.tree.StatementBody.{StatementBody}
+use Rattle.ksql_statements.specs.declared.tree.StatementBody.TheVariants.{Declared, Query}
+use Rattle.ksql_parser.specs.Grammar as g
+use Rattle.ksql_parser.specs.Grammar.{Spells}
 use Rattle.ksql_grammar.specs.Expressions.{behind_key}
 use Rattle.ksql_parser.specs.Statements.{SpellsDeclared}
-use Rattle.ksql_parser.proofs.Steps.{behind, key_there}
+use Rattle.ksql_parser.proofs.Steps.{behind}
+use Rattle.ksql_grammar.proofs.Steps.{key_there}
 use Rattle.ksql_parser.proofs.Only.{both}
 use Rattle.ksql_parser.proofs.Readings.{key_read}
 

@@ -4,17 +4,18 @@ use Rattle.ksql_lexer.specs.declared.token.Mark.{Mark}
 use Rattle.ksql_lexer.specs.declared.token.Mark.TheVariants as mark
 use Rattle.ksql_grammar.specs.declared.symbol.Symbol.{Symbol}
 use Rattle.ksql_grammar.specs.declared.symbol.Symbol.TheVariants.{Word, Text, Number, Sign}
-use Rattle.ksql_grammar.specs.declared.tree.ColumnText.{ColumnText}
-use Rattle.ksql_grammar.specs.declared.tree.KeyMark.{KeyMark}
-use Rattle.ksql_grammar.specs.declared.tree.KeyMark.TheVariants as keyed
-use Rattle.ksql_grammar.specs.declared.tree.Property.{Property}
+use Rattle.ksql_statements.specs.declared.tree.ColumnText.{ColumnText}
+use Rattle.ksql_statements.specs.declared.tree.KeyMark.{KeyMark}
+use Rattle.ksql_statements.specs.declared.tree.KeyMark.TheVariants as keyed
+use Rattle.ksql_statements.specs.declared.tree.Property.{Property}
 use Rattle.ksql_grammar.specs.Symbols.{name_of, type_of}
-use Rattle.ksql_grammar.specs.Grammar as g
-use Rattle.ksql_grammar.specs.Grammar.{Spells}
+use Rattle.ksql_parser.specs.Grammar as g
+use Rattle.ksql_parser.specs.Grammar.{Spells}
 use Rattle.ksql_grammar.specs.Expressions.{behind_sign, first, list_of}
 use Rattle.ksql_grammar.proofs.Chains.{then, TakesOne}
 use Rattle.ksql_parser.specs.Statements as r
-use Rattle.ksql_parser.proofs.Steps.{If, if_some, sign_there, word_there, first_there}
+use Rattle.ksql_parser.proofs.Steps.{word_there}
+use Rattle.ksql_grammar.proofs.Steps.{If, if_some, sign_there, first_there}
 use Rattle.ksql_parser.proofs.Found.{column_found, property_found}
 use Rattle.ksql_parser.proofs.Lists.{list_found, last_only, more_only}
 

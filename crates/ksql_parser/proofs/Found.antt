@@ -5,17 +5,20 @@ use Rattle.ksql_grammar.specs.declared.symbol.Keyword.{Keyword}
 use Rattle.ksql_grammar.specs.declared.symbol.Keyword.TheVariants as key
 use Rattle.ksql_grammar.specs.declared.symbol.Symbol.{Symbol}
 use Rattle.ksql_grammar.specs.declared.symbol.Symbol.TheVariants.{Key, Word, Quoted, Text, Number, Sign}
-use Rattle.ksql_grammar.specs.declared.tree.SelectItem.TheVariants.{StarOf}
-use Rattle.ksql_grammar.specs.declared.tree.Property.{Property}
-use Rattle.ksql_grammar.specs.declared.tree.SpanText.{SpanText}
-use Rattle.ksql_grammar.specs.declared.tree.WindowText.{WindowText}
-use Rattle.ksql_grammar.specs.declared.tree.WindowText.TheVariants.{Tumbling, Hopping}
-use Rattle.ksql_grammar.specs.Symbols.{name_of, type_of, unit_of}
-use Rattle.ksql_grammar.specs.Grammar as g
-use Rattle.ksql_grammar.specs.Grammar.{Spells, table_of}
-use Rattle.ksql_grammar.specs.Expressions.{◌>>=◌, behind_key, behind_sign, first}
+use Rattle.ksql_statements.specs.declared.tree.SelectItem.TheVariants.{StarOf}
+use Rattle.ksql_statements.specs.declared.tree.Property.{Property}
+use Rattle.ksql_statements.specs.declared.tree.SpanText.{SpanText}
+use Rattle.ksql_statements.specs.declared.tree.WindowText.{WindowText}
+use Rattle.ksql_statements.specs.declared.tree.WindowText.TheVariants.{Tumbling, Hopping}
+use Rattle.ksql_grammar.specs.Symbols.{name_of, type_of}
+use Rattle.ksql_parser.specs.Grammar.{unit_of}
+use Rattle.ksql_parser.specs.Grammar as g
+use Rattle.ksql_parser.specs.Grammar.{Spells, table_of}
+use Rattle.ksql_grammar.specs.Expressions.{behind_key, behind_sign, first}
+use Rattle.ksql_expressions.specs.Options.{◌>>=◌}
 use Rattle.ksql_parser.specs.Statements as r
-use Rattle.ksql_parser.proofs.Steps.{If, if_bind, if_some, if_weaker, if_from, behind, along, First, key_found, sign_found, word_found, words_found, by_found, first_found}
+use Rattle.ksql_parser.proofs.Steps.{behind, along, First, word_found, words_found, by_found}
+use Rattle.ksql_grammar.proofs.Steps.{If, if_bind, if_some, if_weaker, if_from, key_found, sign_found, first_found}
 
 key_mark_found_at : (ts : List Symbol) (o p : Option (List Symbol)) → If o (λ us. ts ≡ Word (codes "KEY") ∷ us)
     → If p (λ us. ts ≡ Word (codes "PRIMARY") ∷ Word (codes "KEY") ∷ us) → Spells (g.key_mark (r.key_mark_at ts o p).0) ts (r.key_mark_at ts o p).1

@@ -6,16 +6,19 @@ use Rattle.ksql_lexer.specs.declared.token.Mark.TheVariants as mark
 use Rattle.ksql_grammar.specs.declared.symbol.Keyword.TheVariants as key
 use Rattle.ksql_grammar.specs.declared.symbol.Symbol.{Symbol}
 use Rattle.ksql_grammar.specs.declared.symbol.Symbol.TheVariants.{Key, Word, Quoted, Text, Number, Sign}
-use Rattle.ksql_grammar.specs.declared.tree.Expr.{Expr}
-use Rattle.ksql_grammar.specs.declared.tree.SelectItem.{SelectItem}
-use Rattle.ksql_grammar.specs.declared.tree.SelectItem.TheVariants.{Star, StarOf, One}
+use Rattle.ksql_expressions.specs.declared.tree.Expr.{Expr}
+use Rattle.ksql_statements.specs.declared.tree.SelectItem.{SelectItem}
+use Rattle.ksql_statements.specs.declared.tree.SelectItem.TheVariants.{Star, StarOf, One}
 use Rattle.ksql_grammar.specs.Symbols.{name_of, or_of, and_of, sum_of, product_of}
-use Rattle.ksql_grammar.specs.Grammar as g
-use Rattle.ksql_grammar.specs.Grammar.{Spells, at, expr}
+use Rattle.ksql_parser.specs.Grammar as g
+use Rattle.ksql_grammar.specs.Grammar.{Spells as SpellsExpr, at, expr}
+use Rattle.ksql_parser.specs.Grammar.{Spells}
 use Rattle.ksql_grammar.specs.Reading.{goes_on, EndsExpr}
-use Rattle.ksql_grammar.specs.Expressions.{◌>>=◌, Reader, behind_sign, first, is_not, is_sign}
+use Rattle.ksql_grammar.specs.Expressions.{Reader, behind_sign, first, is_not, is_sign}
+use Rattle.ksql_expressions.specs.Options.{◌>>=◌}
 use Rattle.ksql_grammar.specs.Expressions as e
 use Rattle.ksql_grammar.proofs.Takes.{takes}
+use Rattle.ksql_grammar.proofs.Found.{behind as behind_expr}
 use Rattle.ksql_grammar.proofs.Begins.{begins, name_begins}
 use Rattle.ksql_grammar.proofs.Ends.{Rest, primary_no_sign, primary_begins_unary, unary_no_not}
 use Rattle.ksql_grammar.proofs.Chains.{chain_empty, prefixed_none}
@@ -23,7 +26,8 @@ use Rattle.ksql_grammar.proofs.Only.{sign_out}
 use Rattle.ksql_grammar.proofs.Whole.{expression_only}
 use Rattle.ksql_parser.specs.Statements as r
 use Rattle.ksql_parser.specs.Statements.{ends_item, EndsItem}
-use Rattle.ksql_parser.proofs.Steps.{If, if_bind, if_some, First, first_found, first_there, sign_found, sign_there, behind, along, bind_is}
+use Rattle.ksql_parser.proofs.Steps.{First, behind, along, bind_is}
+use Rattle.ksql_grammar.proofs.Steps.{If, if_bind, if_some, first_found, first_there, sign_found, sign_there}
 use Rattle.ksql_parser.proofs.Only.{both}
 use Rattle.ksql_parser.proofs.Calls.{same_tail}
 use Rattle.ksql_parser.proofs.Joins.{StartsNoAlias, alias_only}
@@ -112,7 +116,7 @@ no_name : (s : Symbol) (name : List ℕ) (ts us : List Symbol) → s ∷ ts ≡ 
 unfolding name_at
 no_name s name ts us e h = none-some name (sym (ap name_at e) ∙ h)
 
-no_expr : (a : Expr) (ts us : List Symbol) → Spells (at expr a) (Sign mark.Star ∷ ts) us → ⊥
+no_expr : (a : Expr) (ts us : List Symbol) → SpellsExpr (at expr a) (Sign mark.Star ∷ ts) us → ⊥
 no_expr a ts us d = false≢true (begins d)
 
 -- what stands before `. *`
@@ -139,14 +143,14 @@ no_star ts us rest name h e =
     let f = if_some (r.star_of ts) (StarOfAt ts) (name, us) (star_of_at ts) h in
     no_name f.0 name (dot_star us) rest (sym f.1 ∙ e) f.2
 
-no_star_of : (a : Expr) (n : Symbol) (name : List ℕ) (ts us : List Symbol) → name_of n ≡ Some name → Spells (at expr a) (n ∷ dot_star ts) us → EndsExpr us → ⊥
+no_star_of : (a : Expr) (n : Symbol) (name : List ℕ) (ts us : List Symbol) → name_of n ≡ Some name → SpellsExpr (at expr a) (n ∷ dot_star ts) us → EndsExpr us → ⊥
 no_star_of a n name ts us h d ends =
     none-some (a, us) (sym (within_fails (length (n ∷ dot_star ts)) n name ts h) ∙ expression_only a (n ∷ dot_star ts) us d ends)
 
 pub item_star : (i : SelectItem) (ts us rest : List Symbol) → ts ≡ Sign mark.Star ∷ us → Spells (g.item i) ts rest → both i rest ≡ both Star us
 item_star i ts us rest e g.star = ap (both Star) (same_tail (Sign mark.Star) (Sign mark.Star) rest us e)
 item_star i ts us rest e (g.star_of {n} {name} h) = absurd (no_name n name (dot_star rest) us e h)
-item_star i ts us rest e (g.one {a} {us = vs} d f) = absurd (no_expr a us vs (behind (sym e) d))
+item_star i ts us rest e (g.one {a} {us = vs} d f) = absurd (no_expr a us vs (behind_expr (sym e) d))
 
 pub item_star_of : (i : SelectItem) (ts us rest : List Symbol) (name : List ℕ) → r.star_of ts ≡ both name us → EndsItem rest → Spells (g.item i) ts rest → both i rest ≡ both (StarOf name) us
 item_star_of i ts us rest name h b g.star = absurd (no_star ts us rest name h refl)
@@ -155,11 +159,11 @@ item_star_of i ts us rest name h b (g.star_of {n} {name = other} e) =
     (λ j. both (StarOf (same.0 j)) (same.1 j))
 item_star_of i ts us rest name h b (g.one {a} {n} {us = vs} d f) =
     let w = if_some (r.star_of ts) (StarOfAt ts) (name, us) (star_of_at ts) h in
-    absurd (no_star_of a w.0 name us vs w.2 (behind (sym w.1) d) (alias_ends n vs rest f b))
+    absurd (no_star_of a w.0 name us vs w.2 (behind_expr (sym w.1) d) (alias_ends n vs rest f b))
 
 -- an expression, and its alias
 abbrev pub HasOne : SelectItem → List Symbol → List Symbol → Type 0
-HasOne i ts rest = (a : Expr) × (n : Option (List ℕ)) × (us : List Symbol) × (i ≡ One a n) × Spells (at expr a) ts us × EndsExpr us × (r.alias us ≡ both n rest)
+HasOne i ts rest = (a : Expr) × (n : Option (List ℕ)) × (us : List Symbol) × (i ≡ One a n) × SpellsExpr (at expr a) ts us × EndsExpr us × (r.alias us ≡ both n rest)
 
 pub item_one : (i : SelectItem) (ts rest : List Symbol) → EndsItem rest → behind_sign mark.Star ts ≡ None → r.star_of ts ≡ None → Spells (g.item i) ts rest → HasOne i ts rest
 item_one i ts rest b h k g.star = absurd (none-some rest (sym h ∙ sign_there mark.Star rest))

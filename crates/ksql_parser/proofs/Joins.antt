@@ -8,22 +8,25 @@ use Rattle.ksql_grammar.specs.declared.symbol.Keyword.{Keyword}
 use Rattle.ksql_grammar.specs.declared.symbol.Keyword.TheVariants as key
 use Rattle.ksql_grammar.specs.declared.symbol.Symbol.{Symbol}
 use Rattle.ksql_grammar.specs.declared.symbol.Symbol.TheVariants.{Key, Word, Quoted, Text, Number, Sign}
-use Rattle.ksql_grammar.specs.declared.tree.Expr.{Expr}
-use Rattle.ksql_grammar.specs.declared.tree.Source.{Source}
-use Rattle.ksql_grammar.specs.declared.tree.JoinText.{JoinText}
-use Rattle.ksql_grammar.specs.declared.tree.JoinWord.{JoinWord}
-use Rattle.ksql_grammar.specs.declared.tree.JoinWord.TheVariants as how
+use Rattle.ksql_expressions.specs.declared.tree.Expr.{Expr}
+use Rattle.ksql_statements.specs.declared.tree.Source.{Source}
+use Rattle.ksql_statements.specs.declared.tree.JoinText.{JoinText}
+use Rattle.ksql_statements.specs.declared.tree.JoinWord.{JoinWord}
+use Rattle.ksql_statements.specs.declared.tree.JoinWord.TheVariants as how
 use Rattle.ksql_grammar.specs.Symbols.{name_of}
-use Rattle.ksql_grammar.specs.Grammar as g
-use Rattle.ksql_grammar.specs.Grammar.{Spells, at, expr}
+use Rattle.ksql_parser.specs.Grammar as g
+use Rattle.ksql_grammar.specs.Grammar.{Spells as SpellsExpr, at, expr}
+use Rattle.ksql_parser.specs.Grammar.{Spells}
 use Rattle.ksql_grammar.specs.Reading.{EndsExpr}
-use Rattle.ksql_grammar.specs.Expressions.{◌>>=◌, behind_key, first}
+use Rattle.ksql_grammar.specs.Expressions.{behind_key, first}
+use Rattle.ksql_expressions.specs.Options.{◌>>=◌}
 use Rattle.ksql_grammar.proofs.Ends.{Rest, rest_weaker}
 use Rattle.ksql_grammar.proofs.Only.{key_out, first_out}
 use Rattle.ksql_parser.specs.Queries.{behind_join}
 use Rattle.ksql_parser.specs.Statements as r
 use Rattle.ksql_parser.specs.Statements.{place_of, BeginsFrom}
-use Rattle.ksql_parser.proofs.Steps.{if_some, behind, along, key_found, key_there, first_there, bind_is}
+use Rattle.ksql_parser.proofs.Steps.{behind, along, bind_is}
+use Rattle.ksql_grammar.proofs.Steps.{if_some, key_found, key_there, first_there}
 use Rattle.ksql_parser.proofs.Only.{clause_ends, both}
 
 -- whether an alias begins there
@@ -111,7 +114,7 @@ joined_with s a k = Some (record { kind = k; source = s; on = a })
 -- what stands after the words of a join
 abbrev pub HasJoin : JoinWord → Option JoinText → List Symbol → List Symbol → Type 0
 HasJoin k j us rest = (s : Source) × (a : Expr) × (vs : List Symbol) × (j ≡ joined_with s a k)
-    × (r.source us ≡ both s (Key key.On ∷ vs)) × Spells (at expr a) vs rest × EndsExpr rest
+    × (r.source us ≡ both s (Key key.On ∷ vs)) × SpellsExpr (at expr a) vs rest × EndsExpr rest
 
 pub join_there : (j : Option JoinText) (ts rest : List Symbol) (k : JoinWord) (us : List Symbol) → Spells (g.join_words k) ts us → BeginsFrom 2 rest → Spells (g.joined j) ts rest → HasJoin k j us rest
 join_there j ts rest k us w b g.no_join = absurd (join_early k ts us w b)

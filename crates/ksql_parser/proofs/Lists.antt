@@ -3,10 +3,11 @@ use Rattle.std.proofs.Common.{◌≡◌, ℕ, zero, suc, List, [], ◌∷◌, Op
 use Rattle.ksql_lexer.specs.declared.token.Mark.TheVariants as mark
 use Rattle.ksql_grammar.specs.declared.symbol.Symbol.{Symbol}
 use Rattle.ksql_grammar.specs.declared.symbol.Symbol.TheVariants.{Sign}
-use Rattle.ksql_grammar.specs.Grammar.{Phrase, Spells}
+use Rattle.ksql_parser.specs.Grammar.{Phrase, Spells}
 use Rattle.ksql_grammar.specs.Expressions.{Reader, behind_sign, list_end, list_of}
 use Rattle.ksql_grammar.proofs.Chains.{then, end_more}
-use Rattle.ksql_parser.proofs.Steps.{If, if_bind, if_weaker, along, sign_found, sign_there}
+use Rattle.ksql_parser.proofs.Steps.{along}
+use Rattle.ksql_grammar.proofs.Steps.{If, if_bind, if_weaker, sign_found, sign_there}
 
 end_found : {A : Type 0} (o : Option (List Symbol)) (x : A × List Symbol) (others : Reader (List A)) (P : List Symbol → Type 0) (Q : List A × List Symbol → Type 0)
     → If o P → Q (x.0 ∷ [], x.1) → ((us : List Symbol) → P us → If (others us) (λ xs. Q (x.0 ∷ xs.0, xs.1))) → If (list_end x others o) Q

@@ -2,8 +2,8 @@
 use Rattle.std.proofs.Common.{◌≡◌, ◌+◌, List, [], sym, ◌∙◌, arith}
 use Rattle.std.proofs.lemmas.Option.{some_pair_parts}
 use Rattle.ksql_lexer.specs.declared.token.TokenKind.{TokenKind}
-use Rattle.ksql_grammar.specs.declared.tree.Statement.{Statement}
-use Rattle.ksql_grammar.specs.Grammar.{IsSpelledBy}
+use Rattle.ksql_statements.specs.declared.tree.Statement.{Statement}
+use Rattle.ksql_parser.specs.Grammar.{IsSpelledBy}
 use Rattle.ksql_parser.proofs.UniqueStatements.{longest, statement_read}
 
 pub one_tree : (ts : List TokenKind) (a b : Statement) → IsSpelledBy a ts → IsSpelledBy b ts → a ≡ b

@@ -7,14 +7,17 @@ use Rattle.ksql_grammar.specs.declared.symbol.Keyword.{Keyword}
 use Rattle.ksql_grammar.specs.declared.symbol.Keyword.TheVariants as key
 use Rattle.ksql_grammar.specs.declared.symbol.Symbol.{Symbol}
 use Rattle.ksql_grammar.specs.declared.symbol.Symbol.TheVariants.{Key, Word, Quoted, Text, Number, Sign}
-use Rattle.ksql_grammar.specs.declared.tree.Expr.{Expr}
-use Rattle.ksql_grammar.specs.Grammar as g
-use Rattle.ksql_grammar.specs.Grammar.{Spells, at, expr}
+use Rattle.ksql_expressions.specs.declared.tree.Expr.{Expr}
+use Rattle.ksql_parser.specs.Grammar as g
+use Rattle.ksql_grammar.specs.Grammar.{Spells as SpellsExpr, at, expr, exprs}
+use Rattle.ksql_parser.specs.Grammar.{Spells}
 use Rattle.ksql_grammar.specs.Reading.{Gives, with_rest, goes_on, is_comma, EndsExpr, EndsExprs}
 use Rattle.ksql_grammar.specs.Expressions.{behind_key}
 use Rattle.ksql_grammar.specs.declared.fault.ReadError.{ReadError}
 use Rattle.ksql_parser.specs.Statements.{place_of, BeginsFrom, behind_by}
-use Rattle.ksql_parser.proofs.Steps.{behind, along, key_there, same_read, failed, bind_is}
+use Rattle.ksql_grammar.proofs.Found.{behind}
+use Rattle.ksql_parser.proofs.Steps.{along, same_read, failed, bind_is}
+use Rattle.ksql_grammar.proofs.Steps.{key_there}
 
 -- where a clause begins, no expression goes on
 place_ends : (s : Symbol) → 1 ≤ place_of s → goes_on s ≡ false
@@ -46,11 +49,11 @@ both a ts = Some (a, ts)
 
 -- what a call for an expression gives, if one stands there
 abbrev pub OnlyAt : List Symbol → Result (Expr × Bor (List Symbol)) ReadError → Type 0
-OnlyAt us r = (a : Expr) (rest : List Symbol) → Spells (at expr a) us rest → EndsExpr rest → Gives with_rest r (both a rest)
+OnlyAt us r = (a : Expr) (rest : List Symbol) → SpellsExpr (at expr a) us rest → EndsExpr rest → Gives with_rest r (both a rest)
 
 -- a clause that is there has an expression
 abbrev pub HasExpr : Option Expr → List Symbol → List Symbol → Type 0
-HasExpr f us rest = (a : Expr) × (f ≡ Some a) × Spells (at expr a) us rest × EndsExpr rest
+HasExpr f us rest = (a : Expr) × (f ≡ Some a) × SpellsExpr (at expr a) us rest × EndsExpr rest
 
 pub clause_read : (f : Option Expr) (us rest : List Symbol) (x : Expr × Bor (List Symbol)) → HasExpr f us rest → OnlyAt us (Ok x) → both f rest ≡ both (Some x.0) x.1.now
 clause_read f us rest x h only =
@@ -114,7 +117,7 @@ group_absent ts rest es found e h g.no_group = ap (λ xs. both xs ts) (sym e)
 group_absent ts rest es found e h (g.a_group {ts = us} d) = absurd (none-some us (h ∙ by_there key.Group us))
 
 pub group_there : (ts us rest : List Symbol) (es : List Expr) → ts ≡ Key key.Group ∷ Key key.By ∷ us → BeginsFrom 5 rest → Spells (g.group es) ts rest
-    → Spells (g.exprs es) us rest × EndsExprs rest
+    → SpellsExpr (exprs es) us rest × EndsExprs rest
 unfolding tail_of
 group_there ts us rest es e b (g.a_group d) = (behind (sym (ap (λ x. tail_of (tail_of x)) e)) d, clause_ends_list 4 rest b)
 group_there ts us rest es e b g.no_group = absurd (omega (arith, late 5 (Key key.Group) (Key key.By ∷ us) rest e b))

@@ -10,7 +10,7 @@ use Rattle.ksql_grammar.specs.declared.fault.ReadError.{ReadError}
 use Rattle.ksql_grammar.specs.Reading.{Gives}
 use Rattle.ksql_grammar.specs.Expressions.{behind_key, behind_sign}
 use Rattle.ksql_grammar.proofs.Errors.{gives_err}
-use Rattle.ksql_parser.proofs.Steps.{key_there, sign_there}
+use Rattle.ksql_grammar.proofs.Steps.{key_there, sign_there}
 
 pub sign_read : (m : Mark) (ts us vs : List Symbol) → ts ≡ Sign m ∷ us → behind_sign m ts ≡ Some vs → us ≡ vs
 sign_read m ts us vs e h = same_Some us vs (sym (ap (behind_sign m) e ∙ sign_there m us) ∙ h)

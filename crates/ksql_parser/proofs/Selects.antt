@@ -5,22 +5,24 @@ use Rattle.ksql_grammar.specs.declared.symbol.Keyword.{Keyword}
 use Rattle.ksql_grammar.specs.declared.symbol.Keyword.TheVariants as key
 use Rattle.ksql_grammar.specs.declared.symbol.Symbol.{Symbol}
 use Rattle.ksql_grammar.specs.declared.symbol.Symbol.TheVariants.{Key, Word}
-use Rattle.ksql_grammar.specs.declared.tree.Expr.{Expr}
-use Rattle.ksql_grammar.specs.declared.tree.JoinText.{JoinText}
-use Rattle.ksql_grammar.specs.declared.tree.JoinWord.{JoinWord}
-use Rattle.ksql_grammar.specs.declared.tree.Select.{Select}
-use Rattle.ksql_grammar.specs.declared.tree.SelectItem.{SelectItem}
-use Rattle.ksql_grammar.specs.declared.tree.Source.{Source}
-use Rattle.ksql_grammar.specs.declared.tree.WindowText.{WindowText}
-use Rattle.ksql_grammar.specs.Grammar as g
-use Rattle.ksql_grammar.specs.Grammar.{Spells}
-use Rattle.ksql_grammar.specs.Expressions.{◌>>=◌, behind_key}
+use Rattle.ksql_expressions.specs.declared.tree.Expr.{Expr}
+use Rattle.ksql_statements.specs.declared.tree.JoinText.{JoinText}
+use Rattle.ksql_statements.specs.declared.tree.JoinWord.{JoinWord}
+use Rattle.ksql_statements.specs.declared.tree.Select.{Select}
+use Rattle.ksql_statements.specs.declared.tree.SelectItem.{SelectItem}
+use Rattle.ksql_statements.specs.declared.tree.Source.{Source}
+use Rattle.ksql_statements.specs.declared.tree.WindowText.{WindowText}
+use Rattle.ksql_parser.specs.Grammar as g
+use Rattle.ksql_parser.specs.Grammar.{Spells}
+use Rattle.ksql_grammar.specs.Expressions.{behind_key}
+use Rattle.ksql_expressions.specs.Options.{◌>>=◌}
 use Rattle.ksql_parser.specs.declared.statement.queries.Front.{Front}
 use Rattle.ksql_parser.specs.declared.statement.queries.Clauses.{Clauses}
 use Rattle.ksql_parser.specs.Queries.{SpellsFront, SpellsClauses}
 use Rattle.ksql_parser.specs.Statements as r
 use Rattle.ksql_parser.specs.Statements.{BeginsFrom, place_of}
-use Rattle.ksql_parser.proofs.Steps.{behind, key_there, word_there, bind_is}
+use Rattle.ksql_parser.proofs.Steps.{behind, word_there, bind_is}
+use Rattle.ksql_grammar.proofs.Steps.{key_there}
 use Rattle.ksql_parser.proofs.Found.{emit_found}
 use Rattle.ksql_parser.proofs.Only.{both}
 use Rattle.ksql_parser.proofs.Joins.{source_only, clause_no_alias}

@@ -6,8 +6,8 @@ use Rattle.std.proofs.lemmas.List.{append-nil}
 use Rattle.ksql_lexer.specs.declared.token.Token.{Token}
 use Rattle.ksql_lexer.specs.Script.{kinds}
 use Rattle.ksql_lexer.specs.declared.token.TokenKind.{TokenKind}
-use Rattle.ksql_grammar.specs.declared.tree.Statement.{Statement}
-use Rattle.ksql_grammar.specs.Grammar.{IsSpelledBy}
+use Rattle.ksql_statements.specs.declared.tree.Statement.{Statement}
+use Rattle.ksql_parser.specs.Grammar.{IsSpelledBy}
 use Rattle.ksql_types.specs.declared.code.Code.{Code}
 use Rattle.ksql_parser.specs.declared.fault.ParseFault.{ParseFault}
 use Rattle.ksql_parser.specs.declared.fault.ParseFault.TheVariants.{Refused, OutOfMemory}

@@ -5,14 +5,16 @@ use Rattle.ksql_grammar.specs.declared.symbol.Keyword.{Keyword}
 use Rattle.ksql_grammar.specs.declared.symbol.Keyword.TheVariants as key
 use Rattle.ksql_grammar.specs.declared.symbol.Symbol.{Symbol}
 use Rattle.ksql_grammar.specs.declared.symbol.Symbol.TheVariants.{Key, Word, Quoted}
-use Rattle.ksql_grammar.specs.declared.tree.Expr.{Expr}
-use Rattle.ksql_grammar.specs.declared.tree.JoinText.{JoinText}
-use Rattle.ksql_grammar.specs.declared.tree.JoinWord.{JoinWord}
-use Rattle.ksql_grammar.specs.declared.tree.Source.{Source}
-use Rattle.ksql_grammar.specs.declared.tree.WindowText.{WindowText}
-use Rattle.ksql_grammar.specs.Grammar as g
-use Rattle.ksql_grammar.specs.Grammar.{Spells}
-use Rattle.ksql_grammar.specs.Expressions.{◌>>=◌, Reader, behind_key}
+use Rattle.ksql_expressions.specs.declared.tree.Expr.{Expr}
+use Rattle.ksql_statements.specs.declared.tree.JoinText.{JoinText}
+use Rattle.ksql_statements.specs.declared.tree.JoinWord.{JoinWord}
+use Rattle.ksql_statements.specs.declared.tree.Source.{Source}
+use Rattle.ksql_statements.specs.declared.tree.WindowText.{WindowText}
+use Rattle.ksql_parser.specs.Grammar as g
+use Rattle.ksql_grammar.specs.Grammar.{Spells as SpellsExpr, at, expr, exprs}
+use Rattle.ksql_parser.specs.Grammar.{Spells}
+use Rattle.ksql_grammar.specs.Expressions.{Reader, behind_key}
+use Rattle.ksql_expressions.specs.Options.{◌>>=◌}
 use Rattle.ksql_grammar.specs.Expressions as reading
 use Rattle.ksql_grammar.specs.Reading.{EndsExpr, EndsExprs}
 use Rattle.ksql_grammar.proofs.Ends.{Rest, rest_weaker}
@@ -20,7 +22,8 @@ use Rattle.ksql_grammar.proofs.Only.{key_out}
 use Rattle.ksql_grammar.proofs.Whole.{expression_only, expressions_only}
 use Rattle.ksql_parser.specs.Statements as r
 use Rattle.ksql_parser.specs.Statements.{place_of, BeginsFrom, behind_by}
-use Rattle.ksql_parser.proofs.Steps.{bind_is, key_there}
+use Rattle.ksql_parser.proofs.Steps.{bind_is}
+use Rattle.ksql_grammar.proofs.Steps.{key_there}
 use Rattle.ksql_parser.proofs.Only.{clause_ends, clause_ends_list}
 use Rattle.ksql_parser.proofs.UniqueParts.{NoAlias, word_at, source_read, join_words_read}
 use Rattle.ksql_parser.proofs.UniqueWindows.{window_read}
@@ -101,11 +104,11 @@ having ts = option_at expression ts (behind_key key.Having ts)
 
 -- ---- joins
 
-pub expression_read : (a : Expr) (ts us : List Symbol) → Spells (g.at g.expr a) ts us → EndsExpr us → expression ts ≡ Some (a, us)
+pub expression_read : (a : Expr) (ts us : List Symbol) → SpellsExpr (at expr a) ts us → EndsExpr us → expression ts ≡ Some (a, us)
 unfolding expression
 expression_read a ts us d ends = expression_only a ts us d ends
 
-expressions_read : (es : List Expr) (ts us : List Symbol) → Spells (g.exprs es) ts us → EndsExprs us → expressions ts ≡ Some (es, us)
+expressions_read : (es : List Expr) (ts us : List Symbol) → SpellsExpr (exprs es) ts us → EndsExprs us → expressions ts ≡ Some (es, us)
 unfolding expressions
 expressions_read es ts us d ends = expressions_only es ts us d ends
 

@@ -7,19 +7,21 @@ use Rattle.ksql_lexer.specs.declared.token.Mark.TheVariants as mark
 use Rattle.ksql_grammar.specs.declared.symbol.Keyword.TheVariants as key
 use Rattle.ksql_grammar.specs.declared.symbol.Symbol.{Symbol}
 use Rattle.ksql_grammar.specs.declared.symbol.Symbol.TheVariants.{Key, Word, Quoted, Text, Number, Sign}
-use Rattle.ksql_grammar.specs.declared.tree.ColumnText.{ColumnText}
-use Rattle.ksql_grammar.specs.declared.tree.KeyMark.{KeyMark}
-use Rattle.ksql_grammar.specs.declared.tree.Property.{Property}
-use Rattle.ksql_grammar.specs.declared.tree.Source.{Source}
-use Rattle.ksql_grammar.specs.declared.tree.JoinWord.{JoinWord}
+use Rattle.ksql_statements.specs.declared.tree.ColumnText.{ColumnText}
+use Rattle.ksql_statements.specs.declared.tree.KeyMark.{KeyMark}
+use Rattle.ksql_statements.specs.declared.tree.Property.{Property}
+use Rattle.ksql_statements.specs.declared.tree.Source.{Source}
+use Rattle.ksql_statements.specs.declared.tree.JoinWord.{JoinWord}
 use Rattle.ksql_grammar.specs.Symbols.{name_of, type_of}
-use Rattle.ksql_grammar.specs.Grammar as g
-use Rattle.ksql_grammar.specs.Grammar.{Spells}
-use Rattle.ksql_grammar.specs.Expressions.{◌>>=◌, Reader, behind_sign, first, list_end, list_of}
+use Rattle.ksql_parser.specs.Grammar as g
+use Rattle.ksql_parser.specs.Grammar.{Spells}
+use Rattle.ksql_grammar.specs.Expressions.{Reader, behind_sign, first, list_end, list_of}
+use Rattle.ksql_expressions.specs.Options.{◌>>=◌}
 use Rattle.ksql_grammar.proofs.Ends.{Rest, rest_weaker}
 use Rattle.ksql_grammar.proofs.Only.{key_out, sign_out, first_out}
 use Rattle.ksql_parser.specs.Statements as r
-use Rattle.ksql_parser.proofs.Steps.{If, bind_is, key_there, sign_there, word_found, word_there, first_there}
+use Rattle.ksql_parser.proofs.Steps.{bind_is, word_found, word_there}
+use Rattle.ksql_grammar.proofs.Steps.{If, key_there, sign_there, first_there}
 
 -- ---- words
 

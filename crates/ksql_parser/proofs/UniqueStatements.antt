@@ -8,22 +8,23 @@ use Rattle.ksql_lexer.specs.declared.token.Mark.TheVariants as mark
 use Rattle.ksql_grammar.specs.declared.symbol.Keyword.TheVariants as key
 use Rattle.ksql_grammar.specs.declared.symbol.Symbol.{Symbol}
 use Rattle.ksql_grammar.specs.declared.symbol.Symbol.TheVariants.{Key, Word, Quoted, Sign}
-use Rattle.ksql_grammar.specs.declared.tree.Expr.{Expr}
-use Rattle.ksql_grammar.specs.declared.tree.JoinText.{JoinText}
-use Rattle.ksql_grammar.specs.declared.tree.Property.{Property}
-use Rattle.ksql_grammar.specs.declared.tree.Select.{Select}
-use Rattle.ksql_grammar.specs.declared.tree.SelectItem.{SelectItem}
-use Rattle.ksql_grammar.specs.declared.tree.SelectItem.TheVariants.{Star, StarOf, One}
-use Rattle.ksql_grammar.specs.declared.tree.Source.{Source}
-use Rattle.ksql_grammar.specs.declared.tree.Statement.{Statement}
-use Rattle.ksql_grammar.specs.declared.tree.StatementBody.{StatementBody}
-use Rattle.ksql_grammar.specs.declared.tree.StatementBody.TheVariants.{Declared, Query}
-use Rattle.ksql_grammar.specs.declared.tree.WindowText.{WindowText}
+use Rattle.ksql_expressions.specs.declared.tree.Expr.{Expr}
+use Rattle.ksql_statements.specs.declared.tree.JoinText.{JoinText}
+use Rattle.ksql_statements.specs.declared.tree.Property.{Property}
+use Rattle.ksql_statements.specs.declared.tree.Select.{Select}
+use Rattle.ksql_statements.specs.declared.tree.SelectItem.{SelectItem}
+use Rattle.ksql_statements.specs.declared.tree.SelectItem.TheVariants.{Star, StarOf, One}
+use Rattle.ksql_statements.specs.declared.tree.Source.{Source}
+use Rattle.ksql_statements.specs.declared.tree.Statement.{Statement}
+use Rattle.ksql_statements.specs.declared.tree.StatementBody.{StatementBody}
+use Rattle.ksql_statements.specs.declared.tree.StatementBody.TheVariants.{Declared, Query}
+use Rattle.ksql_statements.specs.declared.tree.WindowText.{WindowText}
 use Rattle.ksql_grammar.specs.Symbols.{name_of, or_of, and_of, sum_of, product_of}
-use Rattle.ksql_grammar.specs.Grammar as g
-use Rattle.ksql_grammar.specs.Grammar.{Spells, table_of}
+use Rattle.ksql_parser.specs.Grammar as g
+use Rattle.ksql_parser.specs.Grammar.{Spells, table_of}
 use Rattle.ksql_grammar.specs.Reading.{goes_on, EndsExpr}
-use Rattle.ksql_grammar.specs.Expressions.{◌>>=◌, Reader, behind_key, behind_sign, first, list_of, is_not, is_sign}
+use Rattle.ksql_grammar.specs.Expressions.{Reader, behind_key, behind_sign, first, list_of, is_not, is_sign}
+use Rattle.ksql_expressions.specs.Options.{◌>>=◌}
 use Rattle.ksql_grammar.specs.Expressions as reading
 use Rattle.ksql_grammar.proofs.Begins.{begins, name_begins}
 use Rattle.ksql_grammar.proofs.Chains.{prefixed_none}
@@ -31,7 +32,8 @@ use Rattle.ksql_grammar.proofs.Ends.{Rest, rest_weaker, BeginsPrimary, BeginsExp
 use Rattle.ksql_grammar.proofs.Only.{first_rest, key_out, sign_out}
 use Rattle.ksql_parser.specs.Statements as r
 use Rattle.ksql_parser.specs.Statements.{BeginsFrom, ends_item}
-use Rattle.ksql_parser.proofs.Steps.{bind_is, key_there, sign_there, first_there}
+use Rattle.ksql_parser.proofs.Steps.{bind_is}
+use Rattle.ksql_grammar.proofs.Steps.{key_there, sign_there, first_there}
 use Rattle.ksql_parser.proofs.UniqueParts.{NoAlias, list_last, list_more, columns_read, props, props_read, alias_read, source_read}
 use Rattle.ksql_parser.proofs.UniqueClauses.{list_at, expression, joined, filter, group, partition, having, expression_read, joined_read, windowed_read, filter_read, group_read, partition_read, having_read, emit_read, from_no_alias, joined_from, windowed_from, filter_from, group_from, partition_from, having_from, emit_from}
 

@@ -4,15 +4,17 @@ use Rattle.ksql_lexer.specs.declared.token.Mark.TheVariants as mark
 use Rattle.ksql_grammar.specs.declared.symbol.Keyword.TheVariants as key
 use Rattle.ksql_grammar.specs.declared.symbol.Symbol.{Symbol}
 use Rattle.ksql_grammar.specs.declared.symbol.Symbol.TheVariants.{Key, Word, Number, Sign}
-use Rattle.ksql_grammar.specs.declared.tree.SpanText.{SpanText}
-use Rattle.ksql_grammar.specs.declared.tree.WindowText.{WindowText}
-use Rattle.ksql_grammar.specs.Symbols.{unit_of}
-use Rattle.ksql_grammar.specs.Grammar as g
-use Rattle.ksql_grammar.specs.Grammar.{Spells}
-use Rattle.ksql_grammar.specs.Expressions.{◌>>=◌, behind_sign}
+use Rattle.ksql_statements.specs.declared.tree.SpanText.{SpanText}
+use Rattle.ksql_statements.specs.declared.tree.WindowText.{WindowText}
+use Rattle.ksql_parser.specs.Grammar.{unit_of}
+use Rattle.ksql_parser.specs.Grammar as g
+use Rattle.ksql_parser.specs.Grammar.{Spells}
+use Rattle.ksql_grammar.specs.Expressions.{behind_sign}
+use Rattle.ksql_expressions.specs.Options.{◌>>=◌}
 use Rattle.ksql_grammar.proofs.Only.{sign_out}
 use Rattle.ksql_parser.specs.Statements as r
-use Rattle.ksql_parser.proofs.Steps.{bind_is, key_there, sign_there, first_there}
+use Rattle.ksql_parser.proofs.Steps.{bind_is}
+use Rattle.ksql_grammar.proofs.Steps.{key_there, sign_there, first_there}
 use Rattle.ksql_parser.proofs.UniqueParts.{IsClose, word_at, words_at}
 
 span_read : {s : SpanText} {ts us : List Symbol} → Spells (g.span s) ts us → r.span ts ≡ Some (s, us)

@@ -5,17 +5,19 @@ use Rattle.ksql_lexer.specs.declared.token.Mark.TheVariants as mark
 use Rattle.ksql_grammar.specs.declared.symbol.Keyword.TheVariants as key
 use Rattle.ksql_grammar.specs.declared.symbol.Symbol.{Symbol}
 use Rattle.ksql_grammar.specs.declared.symbol.Symbol.TheVariants.{Key, Sign}
-use Rattle.ksql_grammar.specs.declared.tree.Property.{Property}
-use Rattle.ksql_grammar.specs.declared.tree.Select.{Select}
-use Rattle.ksql_grammar.specs.declared.tree.Statement.{Statement}
-use Rattle.ksql_grammar.specs.declared.tree.StatementBody.{StatementBody}
-use Rattle.ksql_grammar.specs.declared.tree.StatementBody.TheVariants.{Declared, Query}
+use Rattle.ksql_statements.specs.declared.tree.Property.{Property}
+use Rattle.ksql_statements.specs.declared.tree.Select.{Select}
+use Rattle.ksql_statements.specs.declared.tree.Statement.{Statement}
+use Rattle.ksql_statements.specs.declared.tree.StatementBody.{StatementBody}
+use Rattle.ksql_statements.specs.declared.tree.StatementBody.TheVariants.{Declared, Query}
 use Rattle.ksql_grammar.specs.Symbols.{name_of}
-use Rattle.ksql_grammar.specs.Grammar as g
-use Rattle.ksql_grammar.specs.Grammar.{Spells, table_of}
-use Rattle.ksql_grammar.specs.Expressions.{◌>>=◌, behind_sign, first}
+use Rattle.ksql_parser.specs.Grammar as g
+use Rattle.ksql_parser.specs.Grammar.{Spells, table_of}
+use Rattle.ksql_grammar.specs.Expressions.{behind_sign, first}
+use Rattle.ksql_expressions.specs.Options.{◌>>=◌}
 use Rattle.ksql_parser.specs.Statements as r
-use Rattle.ksql_parser.proofs.Steps.{behind, key_there, sign_there, first_there, bind_is}
+use Rattle.ksql_parser.proofs.Steps.{behind, bind_is}
+use Rattle.ksql_grammar.proofs.Steps.{key_there, sign_there, first_there}
 use Rattle.ksql_parser.proofs.Found.{Head}
 use Rattle.ksql_parser.proofs.Only.{both}
 use Rattle.ksql_parser.proofs.Calls.{same_tail}

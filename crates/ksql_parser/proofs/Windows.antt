@@ -4,17 +4,18 @@ use Rattle.ksql_lexer.specs.declared.token.Mark.TheVariants as mark
 use Rattle.ksql_grammar.specs.declared.symbol.Keyword.TheVariants as key
 use Rattle.ksql_grammar.specs.declared.symbol.Symbol.{Symbol}
 use Rattle.ksql_grammar.specs.declared.symbol.Symbol.TheVariants.{Key, Word, Number, Sign}
-use Rattle.ksql_grammar.specs.declared.tree.SpanText.{SpanText}
-use Rattle.ksql_grammar.specs.declared.tree.WindowText.{WindowText}
-use Rattle.ksql_grammar.specs.declared.tree.WindowText.TheVariants.{Tumbling, Hopping}
-use Rattle.ksql_grammar.specs.Symbols.{unit_of}
-use Rattle.ksql_grammar.specs.Grammar as g
-use Rattle.ksql_grammar.specs.Grammar.{Spells}
+use Rattle.ksql_statements.specs.declared.tree.SpanText.{SpanText}
+use Rattle.ksql_statements.specs.declared.tree.WindowText.{WindowText}
+use Rattle.ksql_statements.specs.declared.tree.WindowText.TheVariants.{Tumbling, Hopping}
+use Rattle.ksql_parser.specs.Grammar.{unit_of}
+use Rattle.ksql_parser.specs.Grammar as g
+use Rattle.ksql_parser.specs.Grammar.{Spells}
 use Rattle.ksql_grammar.specs.Expressions.{behind_key, behind_sign, first}
 use Rattle.ksql_grammar.proofs.Chains.{then}
 use Rattle.ksql_parser.specs.Statements as r
 use Rattle.ksql_parser.specs.Statements.{BeginsFrom}
-use Rattle.ksql_parser.proofs.Steps.{If, key_found, key_there, sign_there, word_there, first_there}
+use Rattle.ksql_parser.proofs.Steps.{word_there}
+use Rattle.ksql_grammar.proofs.Steps.{If, key_found, key_there, sign_there, first_there}
 
 span_only : (s : SpanText) (ts us : List Symbol) → Spells (g.span s) ts us → r.span ts ≡ Some (s, us)
 unfolding r.span

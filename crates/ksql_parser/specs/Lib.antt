@@ -1,3 +1,4 @@
+pub mod Grammar
 pub mod Limits
 pub mod Queries
 pub mod Script

@@ -4,7 +4,7 @@ use Rattle.ksql_grammar.specs.declared.symbol.Keyword.{Keyword}
 use Rattle.ksql_grammar.specs.declared.symbol.Keyword.TheVariants as key
 use Rattle.ksql_grammar.specs.declared.symbol.Symbol.{Symbol}
 use Rattle.ksql_grammar.specs.declared.symbol.Symbol.TheVariants.{Key}
-use Rattle.ksql_grammar.specs.Grammar.{Spells, items, source, joined, windowed, filter, group, partition, having}
+use Rattle.ksql_parser.specs.Grammar.{Spells, items, source, joined, windowed, filter, group, partition, having}
 use Rattle.ksql_grammar.specs.Expressions.{behind_key}
 use Rattle.ksql_parser.specs.Statements.{behind_or_here}
 use Rattle.ksql_parser.specs.declared.statement.queries.Front.{Front}

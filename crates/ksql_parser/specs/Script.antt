@@ -9,8 +9,8 @@ use Rattle.ksql_lexer.specs.Script.{AreTokens, is_semicolon, kinds}
 use Rattle.ksql_types.specs.declared.code.Code.{Code}
 use Rattle.ksql_parser.specs.declared.fault.ParseFault.{ParseFault}
 use Rattle.ksql_parser.specs.declared.fault.ParseFault.TheVariants.{Refused, OutOfMemory}
-use Rattle.ksql_grammar.specs.declared.tree.Statement.{Statement}
-use Rattle.ksql_grammar.specs.Grammar.{IsSpelledBy}
+use Rattle.ksql_statements.specs.declared.tree.Statement.{Statement}
+use Rattle.ksql_parser.specs.Grammar.{IsSpelledBy}
 use Rattle.ksql_parser.specs.Limits.{rules, RefusesFirst, NoneRefuses}
 
 -- the tokens are those of a text that isn't too long

@@ -6,23 +6,25 @@ use Rattle.ksql_grammar.specs.declared.symbol.Keyword.{Keyword}
 use Rattle.ksql_grammar.specs.declared.symbol.Keyword.TheVariants as key
 use Rattle.ksql_grammar.specs.declared.symbol.Symbol.{Symbol}
 use Rattle.ksql_grammar.specs.declared.symbol.Symbol.TheVariants.{Key, Word, Text, Number, Sign}
-use Rattle.ksql_grammar.specs.declared.tree.ColumnText.{ColumnText}
-use Rattle.ksql_grammar.specs.declared.tree.KeyMark.{KeyMark}
-use Rattle.ksql_grammar.specs.declared.tree.KeyMark.TheVariants as keyed
-use Rattle.ksql_grammar.specs.declared.tree.Property.{Property}
-use Rattle.ksql_grammar.specs.declared.tree.PropertyValue.{PropertyValue}
-use Rattle.ksql_grammar.specs.declared.tree.PropertyValue.TheVariants as value
-use Rattle.ksql_grammar.specs.declared.tree.Source.{Source}
-use Rattle.ksql_grammar.specs.declared.tree.JoinWord.{JoinWord}
-use Rattle.ksql_grammar.specs.declared.tree.JoinWord.TheVariants as how
-use Rattle.ksql_grammar.specs.declared.tree.WindowText.{WindowText}
-use Rattle.ksql_grammar.specs.declared.tree.WindowText.TheVariants.{Tumbling, Hopping}
-use Rattle.ksql_grammar.specs.declared.tree.SpanText.{SpanText}
-use Rattle.ksql_grammar.specs.Symbols.{name_of, type_of, unit_of}
-use Rattle.ksql_grammar.specs.declared.tree.StatementBody.{StatementBody}
-use Rattle.ksql_grammar.specs.declared.tree.StatementBody.TheVariants.{Declared, Query}
-use Rattle.ksql_grammar.specs.Grammar.{Spells, table_of, columns, props, with_props, select}
-use Rattle.ksql_grammar.specs.Expressions.{◌>>=◌, Reader, behind_key, behind_sign, first}
+use Rattle.ksql_statements.specs.declared.tree.ColumnText.{ColumnText}
+use Rattle.ksql_statements.specs.declared.tree.KeyMark.{KeyMark}
+use Rattle.ksql_statements.specs.declared.tree.KeyMark.TheVariants as keyed
+use Rattle.ksql_statements.specs.declared.tree.Property.{Property}
+use Rattle.ksql_statements.specs.declared.tree.PropertyValue.{PropertyValue}
+use Rattle.ksql_statements.specs.declared.tree.PropertyValue.TheVariants as value
+use Rattle.ksql_statements.specs.declared.tree.Source.{Source}
+use Rattle.ksql_statements.specs.declared.tree.JoinWord.{JoinWord}
+use Rattle.ksql_statements.specs.declared.tree.JoinWord.TheVariants as how
+use Rattle.ksql_statements.specs.declared.tree.WindowText.{WindowText}
+use Rattle.ksql_statements.specs.declared.tree.WindowText.TheVariants.{Tumbling, Hopping}
+use Rattle.ksql_statements.specs.declared.tree.SpanText.{SpanText}
+use Rattle.ksql_grammar.specs.Symbols.{name_of, type_of}
+use Rattle.ksql_parser.specs.Grammar.{unit_of}
+use Rattle.ksql_statements.specs.declared.tree.StatementBody.{StatementBody}
+use Rattle.ksql_statements.specs.declared.tree.StatementBody.TheVariants.{Declared, Query}
+use Rattle.ksql_parser.specs.Grammar.{Spells, table_of, columns, props, with_props, select}
+use Rattle.ksql_grammar.specs.Expressions.{Reader, behind_key, behind_sign, first}
+use Rattle.ksql_expressions.specs.Options.{◌>>=◌}
 
 -- a value and the symbols after it, both lent
 abbrev pub lent : {A : Type 0} → Bor A × Bor (List Symbol) → A × List Symbol

@@ -9,10 +9,5 @@ mod symbols;
 mod words;
 
 pub use fault::ParseFault;
-pub use ksql_grammar::{
-    ColumnText, ColumnTexts, Expr, ExprTexts, JoinText, JoinWord, KeyMark, Properties, Property,
-    PropertyValue, Select, SelectItem, SelectItems, Source, SpanText, Statement, StatementBody,
-    Unit, WhenText, WhenTexts, WindowText,
-};
 pub use ksql_types::Code;
 pub use parsing::{one_list, one_tree, parse};

@@ -1,9 +1,9 @@
 ghost use Rattle.std.specs.Prelude.{◌≡◌, ◌<◌, ◌^◌, ◌++◌, ℕ, List, [], ◌∷◌, Ok, Err, filter, length, position};
 ghost use Rattle.ksql_lexer.specs.declared.token.TokenKind.{TokenKind as Kind};
-ghost use Rattle.ksql_grammar.specs.declared.tree.Statement.{Statement as Tree};
+ghost use Rattle.ksql_statements.specs.declared.tree.Statement.{Statement as Tree};
 ghost use Rattle.ksql_types.specs.declared.code.Code.{Code as OneCode};
 ghost use Rattle.ksql_lexer.specs.Script.{is_semicolon, kinds};
-ghost use Rattle.ksql_grammar.specs.Grammar.{IsSpelledBy};
+ghost use Rattle.ksql_parser.specs.Grammar.{IsSpelledBy};
 ghost use Rattle.ksql_parser.specs.Script.{AreOfText, is_filled, statements, AreTrees, FirstRefused, IsParsed, Answers};
 ghost use Rattle.ksql_parser.specs.Settled.{SettlesOne, Settles};
 ghost use Rattle.ksql_parser.specs.Words.{AreWritten};
@@ -12,8 +12,9 @@ use crate::fault::ParseFault;
 use crate::limits::{has_too_large, has_too_many, has_unsupported, is_too_deep};
 use crate::statement::read_statement;
 use crate::symbols::symbols_of;
-use ksql_grammar::{ReadError, Statement};
+use ksql_grammar::ReadError;
 use ksql_lexer::{Mark, Token, TokenKind};
+use ksql_statements::Statement;
 use ksql_types::Code;
 use std::alloc::Global;
 

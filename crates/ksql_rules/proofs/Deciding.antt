@@ -2,8 +2,8 @@
 use Rattle.std.proofs.Common.{◌≡◌, Bool, true, false, ◌&&◌, List, [], ◌∷◌, Option, Some, None, IsTrue, refl, sym, subst}
 use Rattle.std.specs.Prelude.{◌↔◌}
 use Rattle.std.specs.List.{list_all}
-use Rattle.ksql_grammar.specs.declared.tree.Expr.{Expr}
-use Rattle.ksql_grammar.specs.declared.tree.Select.{Select}
+use Rattle.ksql_expressions.specs.declared.tree.Expr.{Expr}
+use Rattle.ksql_statements.specs.declared.tree.Select.{Select}
 use Rattle.ksql_scope.specs.declared.scope.Scope.{Scope}
 use Rattle.ksql_scope.specs.Possible.{is_some_in}
 use Rattle.ksql_scope.specs.Typing.{CanBeTrue, CanAgree, HasValue}

@@ -5,19 +5,19 @@ use Rattle.std.specs.List.{flat_map, AllByRecursion as Each}
 use Rattle.std.proofs.lemmas.List.Elements.{All-nil, All-cons, All-head, All-tail, All-append}
 use Rattle.ksql_types.specs.declared.relation.Column.{Column}
 use Rattle.ksql_types.specs.declared.operator.BinaryOp.TheVariants as op
-use Rattle.ksql_grammar.specs.declared.tree.Expr.{Expr, out-Expr, roll-Expr, roll-out-Expr}
-use Rattle.ksql_grammar.specs.declared.tree.Expr.TheOpen.{Expr-F}
-use Rattle.ksql_grammar.specs.declared.tree.Expr.TheVariants.{rolls-Binary}
-use Rattle.ksql_grammar.specs.declared.tree.Expr.TheVariants as e
-use Rattle.ksql_grammar.specs.declared.tree.SelectItem.{SelectItem}
-use Rattle.ksql_grammar.specs.declared.tree.SelectItem.TheVariants.{Star, StarOf, One}
-use Rattle.ksql_grammar.specs.declared.tree.WhenText.{WhenText}
+use Rattle.ksql_expressions.specs.declared.tree.Expr.{Expr, out-Expr, roll-Expr, roll-out-Expr}
+use Rattle.ksql_expressions.specs.declared.tree.Expr.TheOpen.{Expr-F}
+use Rattle.ksql_expressions.specs.declared.tree.Expr.TheVariants.{rolls-Binary}
+use Rattle.ksql_expressions.specs.declared.tree.Expr.TheVariants as e
+use Rattle.ksql_statements.specs.declared.tree.SelectItem.{SelectItem}
+use Rattle.ksql_statements.specs.declared.tree.SelectItem.TheVariants.{Star, StarOf, One}
+use Rattle.ksql_expressions.specs.declared.tree.WhenText.{WhenText}
 use Rattle.ksql_types.specs.Columns.{columns}
 use Rattle.ksql_scope.specs.declared.scope.Scope.{Scope}
 use Rattle.ksql_scope.specs.declared.scope.ScopeColumn.{ScopeColumn}
 use Rattle.ksql_scope.specs.Scope.{is_known_as}
 use Rattle.ksql_scope.specs.Uses.{is_small, IsSmall, small_step, are_small, are_whens_small, is_small_perhaps}
-use Rattle.ksql_scope.proofs.Folds as f
+use Rattle.ksql_expressions.proofs.Folds as f
 use Rattle.ksql_scope.proofs.Induction.{IfThere, InWhen, Steps, induction}
 use Rattle.ksql_clauses.specs.declared.items.Named.{Named}
 use Rattle.ksql_clauses.specs.declared.sources.Known.{Known}

@@ -8,9 +8,9 @@ use Rattle.std.proofs.lemmas.List.Elements.{All-nil, All-cons, All-head, All-tai
 use Rattle.ksql_types.specs.Catalog.{find_named, has_name}
 use Rattle.ksql_types.specs.declared.relation.Column.{Column}
 use Rattle.ksql_types.specs.declared.relation.Relation.{Relation}
-use Rattle.ksql_grammar.specs.declared.tree.JoinText.{JoinText}
-use Rattle.ksql_grammar.specs.declared.tree.Select.{Select}
-use Rattle.ksql_grammar.specs.declared.tree.Source.{Source}
+use Rattle.ksql_statements.specs.declared.tree.JoinText.{JoinText}
+use Rattle.ksql_statements.specs.declared.tree.Select.{Select}
+use Rattle.ksql_statements.specs.declared.tree.Source.{Source}
 use Rattle.ksql_types.specs.Columns.{columns}
 use Rattle.ksql_clauses.specs.declared.sources.Known.{Known}
 use Rattle.ksql_clauses.specs.Items.{HasShortNames}

@@ -6,18 +6,18 @@ use Rattle.ksql_types.specs.declared.relation.Format.{Format}
 use Rattle.ksql_types.specs.declared.relation.Format.TheVariants.{Json, Delimited}
 use Rattle.ksql_types.specs.declared.relation.Relation.{Relation}
 use Rattle.ksql_types.specs.declared.value.SqlType.{SqlType}
-use Rattle.ksql_grammar.specs.declared.tree.ColumnText.{ColumnText}
-use Rattle.ksql_grammar.specs.declared.tree.Expr.{Expr}
-use Rattle.ksql_grammar.specs.declared.tree.KeyMark.{KeyMark}
-use Rattle.ksql_grammar.specs.declared.tree.KeyMark.TheVariants.{Plain, Key, PrimaryKey}
-use Rattle.ksql_grammar.specs.declared.tree.Property.{Property}
-use Rattle.ksql_grammar.specs.declared.tree.Select.{Select}
-use Rattle.ksql_grammar.specs.declared.tree.SelectItem.{SelectItem}
-use Rattle.ksql_grammar.specs.declared.tree.SelectItem.TheVariants.{StarOf}
-use Rattle.ksql_grammar.specs.declared.tree.Statement.{Statement}
-use Rattle.ksql_grammar.specs.declared.tree.StatementBody.{StatementBody}
-use Rattle.ksql_grammar.specs.declared.tree.StatementBody.TheVariants.{Declared, Query}
-use Rattle.ksql_grammar.specs.declared.tree.WindowText.{WindowText}
+use Rattle.ksql_statements.specs.declared.tree.ColumnText.{ColumnText}
+use Rattle.ksql_expressions.specs.declared.tree.Expr.{Expr}
+use Rattle.ksql_statements.specs.declared.tree.KeyMark.{KeyMark}
+use Rattle.ksql_statements.specs.declared.tree.KeyMark.TheVariants.{Plain, Key, PrimaryKey}
+use Rattle.ksql_statements.specs.declared.tree.Property.{Property}
+use Rattle.ksql_statements.specs.declared.tree.Select.{Select}
+use Rattle.ksql_statements.specs.declared.tree.SelectItem.{SelectItem}
+use Rattle.ksql_statements.specs.declared.tree.SelectItem.TheVariants.{StarOf}
+use Rattle.ksql_statements.specs.declared.tree.Statement.{Statement}
+use Rattle.ksql_statements.specs.declared.tree.StatementBody.{StatementBody}
+use Rattle.ksql_statements.specs.declared.tree.StatementBody.TheVariants.{Declared, Query}
+use Rattle.ksql_statements.specs.declared.tree.WindowText.{WindowText}
 use Rattle.ksql_types.specs.declared.code.Code.{Code}
 use Rattle.ksql_types.specs.declared.code.Code.TheVariants as code
 use Rattle.ksql_types.specs.Names.{are_column_names, is_topic_name}

@@ -1,8 +1,8 @@
 -- What is decided of a query's expressions by the sets of their types.
 use Rattle.std.specs.Prelude.{Bool, true, Option, Some, None}
 use Rattle.std.specs.List.{list_all}
-use Rattle.ksql_grammar.specs.declared.tree.Expr.{Expr}
-use Rattle.ksql_grammar.specs.declared.tree.Select.{Select}
+use Rattle.ksql_expressions.specs.declared.tree.Expr.{Expr}
+use Rattle.ksql_statements.specs.declared.tree.Select.{Select}
 use Rattle.ksql_scope.specs.declared.possible.Types.{Types}
 use Rattle.ksql_scope.specs.declared.scope.Scope.{Scope}
 use Rattle.ksql_scope.specs.Decisions as decided

@@ -1,7 +1,7 @@
 -- What is found out of a query once.
 use Rattle.std.specs.Prelude.{◌≡◌, ℕ, ◌-◌, ◌^◌, ◌≤◌, List, length, map, is_some}
 use Rattle.std.specs.List.{list_any, list_all}
-use Rattle.ksql_grammar.specs.declared.tree.Expr.{Expr}
+use Rattle.ksql_expressions.specs.declared.tree.Expr.{Expr}
 use Rattle.ksql_scope.specs.declared.scope.Scope.{Scope}
 use Rattle.ksql_scope.specs.Possible.{is_some_in}
 use Rattle.ksql_scope.specs.Uses.{has_unknown_name, has_ambiguous_name}

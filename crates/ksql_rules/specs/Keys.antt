@@ -4,20 +4,20 @@ use Rattle.std.specs.List.{list_any, list_all, flat_map}
 use Rattle.ksql_types.specs.declared.operator.BinaryOp.{BinaryOp}
 use Rattle.ksql_types.specs.declared.operator.BinaryOp.TheVariants as op
 use Rattle.ksql_types.specs.declared.relation.Column.{Column}
-use Rattle.ksql_grammar.specs.declared.tree.Expr.{Expr, out-Expr}
-use Rattle.ksql_grammar.specs.declared.tree.Expr.TheVariants as e
-use Rattle.ksql_grammar.specs.declared.tree.Expr.TheOpen.{Expr-F}
-use Rattle.ksql_grammar.specs.declared.tree.JoinWord.{JoinWord}
-use Rattle.ksql_grammar.specs.declared.tree.JoinWord.TheVariants.{Inner, Left, Full}
-use Rattle.ksql_grammar.specs.declared.tree.Select.{Select}
-use Rattle.ksql_grammar.specs.declared.tree.WhenText.{WhenText}
+use Rattle.ksql_expressions.specs.declared.tree.Expr.{Expr, out-Expr}
+use Rattle.ksql_expressions.specs.declared.tree.Expr.TheVariants as e
+use Rattle.ksql_expressions.specs.declared.tree.Expr.TheOpen.{Expr-F}
+use Rattle.ksql_statements.specs.declared.tree.JoinWord.{JoinWord}
+use Rattle.ksql_statements.specs.declared.tree.JoinWord.TheVariants.{Inner, Left, Full}
+use Rattle.ksql_statements.specs.declared.tree.Select.{Select}
+use Rattle.ksql_expressions.specs.declared.tree.WhenText.{WhenText}
 use Rattle.ksql_scope.specs.declared.scope.Scope.{Scope}
 use Rattle.ksql_scope.specs.declared.scope.ScopeColumn.{ScopeColumn}
 use Rattle.ksql_clauses.specs.declared.items.Named.{Named}
 use Rattle.ksql_clauses.specs.declared.sources.Known.{Known}
 use Rattle.ksql_clauses.specs.Items.{result_columns}
 use Rattle.ksql_clauses.specs.Resolved.{resolved}
-use Rattle.ksql_grouping.specs.Same.{same_expr}
+use Rattle.ksql_expressions.specs.Same.{same_expr}
 use Rattle.ksql_scope.specs.Scope.{is_known_as, row_time}
 use Rattle.ksql_clauses.specs.Sources.{is_stream, joined_streams, join_word, from_scope}
 use Rattle.ksql_scope.specs.Uses.{Use, names}

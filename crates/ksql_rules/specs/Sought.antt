@@ -1,9 +1,9 @@
 -- Names that are looked for in an expression.
 use Rattle.std.specs.Prelude.{ℕ, Bool, true, false, not, List, Option, Some, None}
 use Rattle.std.specs.List.{list_any}
-use Rattle.ksql_grammar.specs.declared.tree.Expr.{Expr, out-Expr}
-use Rattle.ksql_grammar.specs.declared.tree.Expr.TheOpen.{Expr-F}
-use Rattle.ksql_grammar.specs.declared.tree.WhenText.{WhenText}
+use Rattle.ksql_expressions.specs.declared.tree.Expr.{Expr, out-Expr}
+use Rattle.ksql_expressions.specs.declared.tree.Expr.TheOpen.{Expr-F}
+use Rattle.ksql_expressions.specs.declared.tree.WhenText.{WhenText}
 use Rattle.ksql_scope.specs.Uses.{Use, names}
 use Rattle.ksql_rules.specs.declared.left_names.Sought.{Sought}
 use Rattle.ksql_rules.specs.declared.left_names.Sought.TheVariants.{Any, Other}

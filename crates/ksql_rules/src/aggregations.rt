@@ -13,7 +13,7 @@ use crate::findings::Findings;
 use crate::queries::{is_grouped, is_stream_join, joins_itself, reads_windowed};
 use crate::truth::either;
 use ksql_clauses::{Named, joined_streams, reads_stream, resolved};
-use ksql_grammar::Expr;
+use ksql_expressions::Expr;
 use ksql_grouping::{
     has_aggregate, has_bare_column, has_nested_aggregate, has_ordered_aggregate,
     has_unknown_function,

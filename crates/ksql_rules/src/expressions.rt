@@ -4,7 +4,8 @@ ghost use Rattle.std.specs.Prelude.{◌≡◌, ◌++◌, IfOk, map};
 ghost use Rattle.std.specs.List.{flat_map};
 ghost use Rattle.ksql_clauses.specs.Sources as sources;
 
-use ksql_grammar::{Expr, Select, SelectItem};
+use ksql_expressions::Expr;
+use ksql_statements::{Select, SelectItem};
 use std::alloc::{AllocError, Global};
 
 fn with_part<'a>(

@@ -10,9 +10,9 @@ ghost use Rattle.ksql_rules.specs.Keys as spec;
 
 use crate::left_names::{Sought, has_name};
 use ksql_clauses::{Known, Named, is_stream, resolved};
-use ksql_grammar::{Expr, JoinWord, Select};
-use ksql_grouping::same_expr;
+use ksql_expressions::{Expr, same_expr};
 use ksql_scope::Scope;
+use ksql_statements::{JoinWord, Select};
 use ksql_types::{BinaryOp, Chars, Column, CopyOf};
 use std::alloc::{AllocError, Global};
 

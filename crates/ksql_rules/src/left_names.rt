@@ -5,10 +5,9 @@ ghost use Rattle.ksql_rules.specs.Keys as keys;
 ghost use Rattle.ksql_rules.specs.Sought as spec;
 
 use ksql_clauses::{Known, first_known_as, is_row_time};
-use ksql_grammar::Expr;
+use ksql_expressions::{Decides, Expr, passes};
 use ksql_scope::Scope;
 use ksql_types::Chars;
-use ksql_walks::{Decides, passes};
 
 /// Which names are looked for in an expression.
 #[derive(Clone, Copy)]

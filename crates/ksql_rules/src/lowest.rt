@@ -6,7 +6,7 @@ ghost use Rattle.ksql_rules.specs.Limits.{IsRelationWithin, IsWithinLimits};
 ghost use Rattle.ksql_rules.specs.Lowest.{BreaksFirst, BreaksNone, IsAccepted, IsRefused};
 
 use crate::broken::{Body, body_of, breaks};
-use ksql_grammar::Statement;
+use ksql_statements::Statement;
 use ksql_types::{Catalog, Code};
 use std::alloc::{AllocError, Global};
 

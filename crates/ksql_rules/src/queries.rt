@@ -14,7 +14,7 @@ use ksql_clauses::{
     Known, Named, are_bad, format_in, have_one_alias, is_alias, is_bad, is_full, is_join,
     is_too_large, is_windowed, joined_streams, reads_stream,
 };
-use ksql_grammar::{Property, Select, SelectItem, WindowText};
+use ksql_statements::{Property, Select, SelectItem, WindowText};
 use ksql_types::{Chars, Format, are_column_names};
 use std::alloc::{AllocError, Global};
 

@@ -13,8 +13,9 @@ use crate::findings::{Findings, types_of};
 use crate::keys::on_sides;
 use crate::truth::both;
 use ksql_clauses::Named;
-use ksql_grammar::{Expr, Select};
+use ksql_expressions::Expr;
 use ksql_scope::{Scope, can_agree, can_be_true, has_value};
+use ksql_statements::Select;
 use std::alloc::{AllocError, Global};
 
 /// Whether a part, where it is there, has a type that fits BOOLEAN.

@@ -3,9 +3,9 @@ use Rattle.std.proofs.Common.{◌≡◌, ℕ, Bool, true, false, not, ◌&&◌, 
 use Rattle.std.specs.List.{list_all, AllByRecursion as Each}
 use Rattle.ksql_types.specs.declared.value.SqlType.{SqlType}
 use Rattle.ksql_types.specs.declared.value.SqlType.TheVariants as sql
-use Rattle.ksql_grammar.specs.declared.tree.Expr.{Expr}
-use Rattle.ksql_grammar.specs.declared.tree.Expr.TheVariants as e
-use Rattle.ksql_grammar.specs.declared.tree.WhenText.{WhenText}
+use Rattle.ksql_expressions.specs.declared.tree.Expr.{Expr}
+use Rattle.ksql_expressions.specs.declared.tree.Expr.TheVariants as e
+use Rattle.ksql_expressions.specs.declared.tree.WhenText.{WhenText}
 use Rattle.ksql_expr.specs.declared.typed.AggFun.{AggFun}
 use Rattle.ksql_expr.specs.declared.typed.AggFun.TheVariants as agg
 use Rattle.ksql_expr.specs.declared.typed.Fun.{Fun}
@@ -18,7 +18,7 @@ use Rattle.ksql_scope.specs.Scope.{Meaning, meanings, inside, seen}
 use Rattle.ksql_scope.specs.Typing as h
 use Rattle.ksql_scope.specs.Typing.{Has, digits_type, with_otherwise}
 use Rattle.ksql_scope.proofs.Equations as q
-use Rattle.ksql_scope.proofs.Folds.{perhaps_folded}
+use Rattle.ksql_expressions.proofs.Folds.{perhaps_folded}
 use Rattle.ksql_scope.proofs.Induction.{IfThere, InWhen, Steps, induction}
 use Rattle.ksql_scope.proofs.Possibly.{PerhapsHas}
 use Rattle.ksql_scope.proofs.Sets.{AllHave, has-collect, is-same, some-in, each-in, found-is, both-true, all-front, joint-is, fun-is}

@@ -10,7 +10,7 @@ use Rattle.ksql_scope.specs.Uses.{names, meanings_of, all_of, in_aggregate}
 use Rattle.ksql_scope.specs.Uses as uses
 use Rattle.ksql_scope.proofs.Disjoint.{no-aggregate, is-aggregate, unknown-none}
 use Rattle.ksql_scope.proofs.Equations as q
-use Rattle.ksql_scope.proofs.Folds.{perhaps_folded}
+use Rattle.ksql_expressions.proofs.Folds.{perhaps_folded}
 use Rattle.ksql_scope.proofs.NameFlags.{counted, none-either, counted-inside}
 
 -- no name is counted

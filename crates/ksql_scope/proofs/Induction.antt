@@ -3,11 +3,11 @@ use Rattle.std.proofs.Common.{ℕ, Bool, List, [], ◌∷◌, map, Option, Some,
 use Rattle.std.specs.List.{AllByRecursion as Each}
 use Rattle.ksql_types.specs.declared.operator.BinaryOp.{BinaryOp}
 use Rattle.ksql_types.specs.declared.value.SqlType.{SqlType}
-use Rattle.ksql_grammar.specs.declared.tree.Expr.{Expr, ind-Expr, map-Expr, roll-Expr}
-use Rattle.ksql_grammar.specs.declared.tree.Expr.TheVariants as e
-use Rattle.ksql_grammar.specs.declared.tree.Expr.TheVariants.{rolls-Digits, rolls-Text, rolls-Truth, rolls-Null, rolls-Name, rolls-Sign, rolls-Binary, rolls-Not, rolls-IsNull, rolls-Between, rolls-OneOf, rolls-Like, rolls-Cast, rolls-Case, rolls-Call}
-use Rattle.ksql_grammar.specs.declared.tree.Expr.TheOpen.{Expr-F}
-use Rattle.ksql_grammar.specs.declared.tree.WhenText.{WhenText, roll-WhenText}
+use Rattle.ksql_expressions.specs.declared.tree.Expr.{Expr, ind-Expr, map-Expr, roll-Expr}
+use Rattle.ksql_expressions.specs.declared.tree.Expr.TheVariants as e
+use Rattle.ksql_expressions.specs.declared.tree.Expr.TheVariants.{rolls-Digits, rolls-Text, rolls-Truth, rolls-Null, rolls-Name, rolls-Sign, rolls-Binary, rolls-Not, rolls-IsNull, rolls-Between, rolls-OneOf, rolls-Like, rolls-Cast, rolls-Case, rolls-Call}
+use Rattle.ksql_expressions.specs.declared.tree.Expr.TheOpen.{Expr-F}
+use Rattle.ksql_expressions.specs.declared.tree.WhenText.{WhenText, roll-WhenText}
 
 -- a part that may be left out
 abbrev pub IfThere : {A : Type 0} → (A → Type 0) → Option A → Type 0

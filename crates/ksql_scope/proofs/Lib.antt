@@ -1,7 +1,6 @@
 pub mod Deciding
 pub mod Disjoint
 pub mod Equations
-pub mod Folds
 pub mod Having
 pub mod Induction
 pub mod NameFlags

@@ -13,7 +13,7 @@ use Rattle.ksql_scope.specs.Typing as h
 use Rattle.ksql_scope.specs.Typing.{Has, Typing, one, perhaps, each, whens, digits_type, with_otherwise}
 use Rattle.ksql_scope.proofs.Disjoint.{no-aggregate, unknown-none}
 use Rattle.ksql_scope.proofs.Equations as q
-use Rattle.ksql_scope.proofs.Folds.{perhaps_folded}
+use Rattle.ksql_expressions.proofs.Folds.{perhaps_folded}
 use Rattle.ksql_scope.proofs.Sets.{AllHave, has-collect, some-from, each-from, found-from, same-self, and-true, all-behind, joint-from, fun-from}
 
 abbrev pub PerhapsHas : Option Types → Option (Option SqlType) → Type 0

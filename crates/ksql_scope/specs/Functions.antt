@@ -1,6 +1,6 @@
 -- The functions by their names (ksqlDB reference manual, "Scalar functions" and "Aggregate functions").
 use Rattle.std.specs.Prelude.{ℕ, Bool, not, ◌||◌, List, [], ◌∷◌, Option, is_some, codes}
-use Rattle.ksql_grammar.specs.Symbols.{beside}
+use Rattle.ksql_expressions.specs.Words.{beside}
 use Rattle.ksql_expr.specs.declared.typed.Fun.{Fun}
 use Rattle.ksql_expr.specs.declared.typed.Fun.TheVariants as fun
 use Rattle.ksql_expr.specs.declared.typed.AggFun.{AggFun}

@@ -4,8 +4,8 @@ use Rattle.std.specs.List.{list_any, list_all}
 use Rattle.ksql_types.specs.declared.operator.BinaryOp.{BinaryOp}
 use Rattle.ksql_types.specs.declared.value.SqlType.{SqlType}
 use Rattle.ksql_types.specs.declared.value.SqlType.TheVariants as sql
-use Rattle.ksql_grammar.specs.declared.tree.Expr.{Expr, fold-Expr}
-use Rattle.ksql_grammar.specs.declared.tree.Expr.TheOpen.{Expr-F, WhenText-F}
+use Rattle.ksql_expressions.specs.declared.tree.Expr.{Expr, fold-Expr}
+use Rattle.ksql_expressions.specs.declared.tree.Expr.TheOpen.{Expr-F, WhenText-F}
 use Rattle.ksql_expr.specs.declared.typed.AggFun.{AggFun}
 use Rattle.ksql_expr.specs.declared.typed.AggFun.TheVariants.{Count}
 use Rattle.ksql_expr.specs.declared.typed.Fun.{Fun}

@@ -4,9 +4,9 @@ use Rattle.std.specs.Prelude.{◌≡◌, ℕ, Bool, true, false, nat_le, if◌th
 use Rattle.ksql_types.specs.declared.operator.BinaryOp.{BinaryOp}
 use Rattle.ksql_types.specs.declared.value.SqlType.{SqlType}
 use Rattle.ksql_types.specs.declared.value.SqlType.TheVariants as sql
-use Rattle.ksql_grammar.specs.declared.tree.Expr.{Expr}
-use Rattle.ksql_grammar.specs.declared.tree.Expr.TheVariants as e
-use Rattle.ksql_grammar.specs.declared.tree.WhenText.{WhenText}
+use Rattle.ksql_expressions.specs.declared.tree.Expr.{Expr}
+use Rattle.ksql_expressions.specs.declared.tree.Expr.TheVariants as e
+use Rattle.ksql_expressions.specs.declared.tree.WhenText.{WhenText}
 use Rattle.ksql_expr.specs.declared.typed.AggFun.{AggFun}
 use Rattle.ksql_expr.specs.declared.typed.AggFun.TheVariants.{Count}
 use Rattle.ksql_expr.specs.declared.typed.Fun.{Fun}

@@ -1,9 +1,9 @@
 -- What stands in an expression: names, functions and literals.
 use Rattle.std.specs.Prelude.{ℕ, Bool, true, false, ◌&&◌, ◌==◌, nat_lt, nat_le, if◌then◌else◌, List, [], ◌∷◌, ◌++◌, length, map, Option, Some, None, IsTrue}
 use Rattle.std.specs.List.{list_any, list_all, flat_map}
-use Rattle.ksql_grammar.specs.declared.tree.Expr.{Expr, fold-Expr}
-use Rattle.ksql_grammar.specs.declared.tree.Expr.TheOpen.{Expr-F, WhenText-F}
-use Rattle.ksql_grammar.specs.declared.tree.WhenText.{WhenText}
+use Rattle.ksql_expressions.specs.declared.tree.Expr.{Expr, fold-Expr}
+use Rattle.ksql_expressions.specs.declared.tree.Expr.TheOpen.{Expr-F, WhenText-F}
+use Rattle.ksql_expressions.specs.declared.tree.WhenText.{WhenText}
 use Rattle.ksql_scope.specs.declared.scope.Scope.{Scope}
 use Rattle.ksql_scope.specs.Functions.{is_aggregate, is_unknown}
 use Rattle.ksql_scope.specs.Scope.{Meaning, meanings, inside}

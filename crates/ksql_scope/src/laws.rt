@@ -2,7 +2,7 @@
 
 ghost use Rattle.std.specs.Prelude.{◌↔◌, IsTrue, Option};
 ghost use Rattle.ksql_types.specs.declared.value.SqlType.{SqlType as OneType};
-ghost use Rattle.ksql_grammar.specs.declared.tree.Expr.{Expr as OneExpr};
+ghost use Rattle.ksql_expressions.specs.declared.tree.Expr.{Expr as OneExpr};
 ghost use Rattle.ksql_scope.specs.declared.scope.Scope.{Scope as OneScope};
 ghost use Rattle.ksql_scope.specs.Possible.{has, possible};
 ghost use Rattle.ksql_scope.specs.Typing.{HasType};

@@ -6,10 +6,12 @@ use Rattle.ksql_grammar.specs.declared.symbol.Keyword.{Keyword}
 use Rattle.ksql_grammar.specs.declared.symbol.Keyword.TheVariants as key
 use Rattle.ksql_grammar.specs.declared.symbol.Symbol.{Symbol}
 use Rattle.ksql_grammar.specs.declared.symbol.Symbol.TheVariants.{Key, Sign}
-use Rattle.ksql_grammar.specs.Grammar.{Phrase, Spells}
+use Rattle.ksql_grammar.specs.Grammar.{Phrase as PhraseExpr, Spells as SpellsExpr}
+use Rattle.ksql_parser.specs.Grammar.{Phrase, Spells}
 use Rattle.ksql_grammar.specs.Expressions.{behind_key, behind_sign}
 use Rattle.ksql_parser.specs.Statements.{behind_by}
-use Rattle.ksql_parser.proofs.Steps.{if_some, key_found, key_there, sign_found, sign_there, by_found}
+use Rattle.ksql_parser.proofs.Steps.{by_found}
+use Rattle.ksql_grammar.proofs.Steps.{if_some, key_found, key_there, sign_found, sign_there}
 
 -- S ends at this place, and at no other after which stands what C says; or at none of those
 pub data Settled (S C : List Symbol → Type 0) : Type 0 where
@@ -23,6 +25,10 @@ Always us = Unit {0}
 -- a phrase is spelled up to there
 abbrev pub Spelt : {A : Type 0} → (A → Phrase) → List Symbol → List Symbol → Type 0
 Spelt {A} phrase ts us = (a : A) × Spells (phrase a) ts us
+
+-- a phrase of expressions is
+abbrev pub SpeltExpr : {A : Type 0} → (A → PhraseExpr) → List Symbol → List Symbol → Type 0
+SpeltExpr {A} phrase ts us = (a : A) × SpellsExpr (phrase a) ts us
 
 -- where a reader says it
 pub settled_read : {A : Type 0} {C : List Symbol → Type 0} (read : Option (A × List Symbol)) (P : A → List Symbol → Type 0)

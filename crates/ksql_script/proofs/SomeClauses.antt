@@ -4,47 +4,48 @@ use Rattle.std.proofs.lemmas.Option.{some_pair_parts}
 use Rattle.ksql_grammar.specs.declared.symbol.Keyword.TheVariants as key
 use Rattle.ksql_grammar.specs.declared.symbol.Symbol.{Symbol}
 use Rattle.ksql_grammar.specs.declared.symbol.Symbol.TheVariants.{Key}
-use Rattle.ksql_grammar.specs.declared.tree.Expr.{Expr}
-use Rattle.ksql_grammar.specs.declared.tree.JoinWord.{JoinWord}
-use Rattle.ksql_grammar.specs.Grammar as g
-use Rattle.ksql_grammar.specs.Grammar.{Phrase, Spells, at, expr}
+use Rattle.ksql_expressions.specs.declared.tree.Expr.{Expr}
+use Rattle.ksql_statements.specs.declared.tree.JoinWord.{JoinWord}
+use Rattle.ksql_parser.specs.Grammar as g
+use Rattle.ksql_grammar.specs.Grammar.{Spells as SpellsExpr, at, expr, exprs}
+use Rattle.ksql_parser.specs.Grammar.{Phrase, Spells}
 use Rattle.ksql_grammar.specs.Reading.{EndsExpr, EndsExprs}
 use Rattle.ksql_grammar.specs.Expressions.{behind_key}
 use Rattle.ksql_grammar.specs.Expressions as reading
 use Rattle.ksql_grammar.proofs.Ends.{Rest}
-use Rattle.ksql_grammar.proofs.Steps.{if_some as read_some}
 use Rattle.ksql_grammar.proofs.Found.{Reads, within_found, exprs_found}
 use Rattle.ksql_grammar.proofs.Whole.{expression_only, expressions_only}
 use Rattle.ksql_parser.specs.Statements as r
 use Rattle.ksql_parser.specs.Statements.{BeginsFrom, behind_by}
 use Rattle.ksql_parser.specs.Queries.{SpellsClauses}
-use Rattle.ksql_parser.proofs.Steps.{if_some, behind, along}
+use Rattle.ksql_parser.proofs.Steps.{behind, along}
+use Rattle.ksql_grammar.proofs.Steps.{if_some}
 use Rattle.ksql_parser.proofs.Found.{source_found, join_words_found, windowed_found, emit_found}
 use Rattle.ksql_parser.proofs.Only.{both, HasExpr, filter_absent, filter_there, having_absent, having_there, partition_absent, partition_there, group_absent, group_there}
 use Rattle.ksql_parser.proofs.UniqueParts.{NoAlias, source_read}
 use Rattle.ksql_parser.proofs.UniqueClauses.{windowed_read, emit_read, group_from, partition_from, having_from}
 use Rattle.ksql_parser.proofs.Joins.{join_absent, join_there}
-use Rattle.ksql_script.proofs.Endings.{Settled, ends, Always, Spelt, settled_read, settled_given, settled_as, settled_then, key_here, by_here, some_key}
+use Rattle.ksql_script.proofs.Endings.{Settled, ends, Always, Spelt, SpeltExpr, settled_read, settled_given, settled_as, settled_then, key_here, by_here, some_key}
 
 -- ---- expressions
 
-pub some_expr : (ts : List Symbol) → Settled (Spelt (at expr) ts) EndsExpr
+pub some_expr : (ts : List Symbol) → Settled (SpeltExpr (at expr) ts) EndsExpr
 some_expr ts =
-    settled_read (reading.within (suc (length ts)) ts) (λ a us. Spells (at expr a) ts us)
-    (λ x e. read_some (reading.within (suc (length ts)) ts) (Reads expr ts) x (within_found (suc (length ts)) ts) e)
+    settled_read (reading.within (suc (length ts)) ts) (λ a us. SpellsExpr (at expr a) ts us)
+    (λ x e. if_some (reading.within (suc (length ts)) ts) (Reads expr ts) x (within_found (suc (length ts)) ts) e)
     (λ a us d c. expression_only a ts us d c)
 
-some_exprs : (ts : List Symbol) → Settled (Spelt g.exprs ts) EndsExprs
+some_exprs : (ts : List Symbol) → Settled (SpeltExpr exprs ts) EndsExprs
 some_exprs ts =
     let inner = reading.within (suc (length ts)) in
-    settled_read (reading.exprs inner ts) (λ es us. Spells (g.exprs es) ts us)
-    (λ x e. read_some (reading.exprs inner ts) (λ x. Spells (g.exprs x.0) ts x.1) x (exprs_found inner (within_found (suc (length ts))) ts) e)
+    settled_read (reading.exprs inner ts) (λ es us. SpellsExpr (exprs es) ts us)
+    (λ x e. if_some (reading.exprs inner ts) (λ x. SpellsExpr (exprs x.0) ts x.1) x (exprs_found inner (within_found (suc (length ts))) ts) e)
     (λ es us d c. expressions_only es ts us d c)
 
 -- ---- a clause that may be left out: after its words an expression
 
 module _ (p : Option Expr → Phrase) (n : ℕ) (ts : List Symbol) (absent : Spells (p None) ts ts) where
-  clause_at : (o : Option (List Symbol)) → ((us : List Symbol) → o ≡ Some us → (a : Expr) (vs : List Symbol) → Spells (at expr a) us vs → Spells (p (Some a)) ts vs)
+  clause_at : (o : Option (List Symbol)) → ((us : List Symbol) → o ≡ Some us → (a : Expr) (vs : List Symbol) → SpellsExpr (at expr a) us vs → Spells (p (Some a)) ts vs)
       → (None ≡ o → (f : Option Expr) (vs : List Symbol) → Spells (p f) ts vs → both f vs ≡ both None ts)
       → ((us : List Symbol) → o ≡ Some us → (f : Option Expr) (vs : List Symbol) → BeginsFrom n vs → Spells (p f) ts vs → HasExpr f us vs)
       → Settled (Spelt p ts) (BeginsFrom n)
@@ -98,8 +99,8 @@ some_source ts =
     (λ s us d c. source_read d c)
 
 -- ON and an expression
-on_expr : (ts : List Symbol) → Settled (λ vs. (us : List Symbol) × (ts ≡ Key key.On ∷ us) × Spelt (at expr) us vs) EndsExpr
-on_expr ts = settled_then (Spelt (at expr)) (some_key {C = Always} key.On ts) some_expr (λ vs ws s c. tt)
+on_expr : (ts : List Symbol) → Settled (λ vs. (us : List Symbol) × (ts ≡ Key key.On ∷ us) × SpeltExpr (at expr) us vs) EndsExpr
+on_expr ts = settled_then (SpeltExpr (at expr)) (some_key {C = Always} key.On ts) some_expr (λ vs ws s c. tt)
 
 pub some_joined : (ts : List Symbol) → Settled (Spelt g.joined ts) (BeginsFrom 2)
 some_joined ts = join_at (r.join_words ts) refl
@@ -109,7 +110,7 @@ some_joined ts = join_at (r.join_words ts) refl
     join_at (Some x) e =
         let words = if_some (r.join_words ts) (λ x. Spells (g.join_words x.0) ts x.1) x (join_words_found ts) e in
         settled_as
-        (settled_then (λ us ws. (vs : List Symbol) × (us ≡ Key key.On ∷ vs) × Spelt (at expr) vs ws) (settled_given {C = Always} (r.source x.1)) on_expr (λ vs ws s c. tt))
+        (settled_then (λ us ws. (vs : List Symbol) × (us ≡ Key key.On ∷ vs) × SpeltExpr (at expr) vs ws) (settled_given {C = Always} (r.source x.1)) on_expr (λ vs ws s c. tt))
         (λ us p.
         let source = if_some (r.source x.1) (λ y. Spells (g.source y.0) x.1 y.1) (p.1.0, p.0) (source_found x.1) p.1.1 in
         (Some (record { kind = x.0; source = p.1.0; on = p.2.2.0 }), g.a_join words (along source p.2.1) p.2.2.1))

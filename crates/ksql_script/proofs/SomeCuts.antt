@@ -5,7 +5,6 @@ use Rattle.std.specs.Str.Iter.{HasSubslice}
 use Rattle.std.proofs.lemmas.Bool.{cases_eq, and_from}
 use Rattle.ksql_lexer.specs.Piece.{Lacks}
 use Rattle.ksql_lexer.specs.Place.{IsRun, IsBetween, NoneBetween, IsUpToEnd}
-use Rattle.ksql_lexer.proofs.Runs.{head_same, tail_same}
 use Rattle.ksql_lexer.proofs.Cuts.{run_at}
 
 -- its run
@@ -23,8 +22,8 @@ uncut_nil : (q : ℕ) → IsUncut q []
 uncut_nil q inside rest e = omega (arith, ap length e, length-append inside (q ∷ rest))
 
 uncut_more : (q b : ℕ) (bs : List ℕ) → b ≢ q → IsUncut q bs → IsUncut q (b ∷ bs)
-uncut_more q b bs other none [] rest e = other (head_same b q bs rest e)
-uncut_more q b bs other none (x ∷ inside) rest e = none inside rest (tail_same b x bs (inside ++ q ∷ rest) e)
+uncut_more q b bs other none [] rest e = other (cc)
+uncut_more q b bs other none (x ∷ inside) rest e = none inside rest (cc)
 
 some_cut : (q : ℕ) (bs : List ℕ) → IsCut q bs ⊎ IsUncut q bs
 some_cut q [] = inr (uncut_nil q)
@@ -44,9 +43,9 @@ some_between q (b ∷ bs) =
     ⊎_elim
     (λ e. ⊎_elim
     (λ cut. inl (cut.0, cut.1, record { whole = λ i. e i ∷ cut.2 i; lacks = cut.3 }))
-    (λ none. inr (λ inside rest f. none inside rest (tail_same b q bs (inside ++ q ∷ rest) f)))
+    (λ none. inr (λ inside rest f. none inside rest (cc)))
     (some_cut q bs))
-    (λ other. inr (λ inside rest f. other (head_same b q bs (inside ++ q ∷ rest) f)))
+    (λ other. inr (λ inside rest f. other (cc)))
     (cases_eq b q)
 
 -- after two bytes, where they are its first
@@ -61,11 +60,8 @@ some_begin x y [] = inr (λ rest e. cc)
 some_begin x y (b ∷ []) = inr (λ rest e. cc)
 some_begin x y (b ∷ c ∷ text) =
     ⊎_elim
-    (λ e. ⊎_elim
-    (λ f. inl (text, λ i. e i ∷ f i ∷ text))
-    (λ other. inr (λ rest g. other (head_same c y text rest (tail_same b x (c ∷ text) (y ∷ rest) g))))
-    (cases_eq c y))
-    (λ other. inr (λ rest g. other (head_same b x (c ∷ text) (y ∷ rest) g)))
+    (λ e. ⊎_elim (λ f. inl (text, λ i. e i ∷ f i ∷ text)) (λ other. inr (λ rest g. other (cc))) (cases_eq c y))
+    (λ other. inr (λ rest g. other (cc)))
     (cases_eq b x)
 
 -- at its first `*/`, where it has one
@@ -81,7 +77,7 @@ no_end_more b bs other none has = at has.0 has.2
   where
     at : (front : List ℕ) → b ∷ bs ≡ front ++ (codes "*/" ++ has.1) → ⊥
     at [] e = other has.1 e
-    at (x ∷ front) e = none (front, has.1, tail_same b x bs (front ++ (codes "*/" ++ has.1)) e)
+    at (x ∷ front) e = none (front, has.1, cc)
 
 no_end_front : (b : ℕ) (inside rest : List ℕ) → BeginsNotBy 42 47 (b ∷ (inside ++ rest)) → BeginsNotBy 42 47 (b ∷ inside)
 no_end_front b inside rest other behind e = other (behind ++ rest) (ap (λ l. l ++ rest) e)

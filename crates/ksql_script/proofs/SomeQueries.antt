@@ -5,15 +5,16 @@ use Rattle.ksql_lexer.specs.declared.token.Mark.TheVariants as mark
 use Rattle.ksql_grammar.specs.declared.symbol.Keyword.TheVariants as key
 use Rattle.ksql_grammar.specs.declared.symbol.Symbol.{Symbol}
 use Rattle.ksql_grammar.specs.declared.symbol.Symbol.TheVariants.{Key, Sign}
-use Rattle.ksql_grammar.specs.declared.tree.SelectItem.{SelectItem}
-use Rattle.ksql_grammar.specs.declared.tree.SelectItem.TheVariants.{Star, StarOf, One}
-use Rattle.ksql_grammar.specs.Grammar as g
-use Rattle.ksql_grammar.specs.Grammar.{Spells}
+use Rattle.ksql_statements.specs.declared.tree.SelectItem.{SelectItem}
+use Rattle.ksql_statements.specs.declared.tree.SelectItem.TheVariants.{Star, StarOf, One}
+use Rattle.ksql_parser.specs.Grammar as g
+use Rattle.ksql_parser.specs.Grammar.{Spells}
 use Rattle.ksql_grammar.specs.Expressions.{behind_sign}
 use Rattle.ksql_parser.specs.Statements as r
 use Rattle.ksql_parser.specs.Statements.{BeginsFrom, EndsItem}
 use Rattle.ksql_parser.specs.Queries.{SpellsFront, SpellsClauses}
-use Rattle.ksql_parser.proofs.Steps.{if_some, behind, along, sign_there}
+use Rattle.ksql_parser.proofs.Steps.{behind, along}
+use Rattle.ksql_grammar.proofs.Steps.{if_some, sign_there}
 use Rattle.ksql_parser.proofs.Calls.{same_tail}
 use Rattle.ksql_parser.proofs.Found.{star_of_found, alias_found, emit_found}
 use Rattle.ksql_parser.proofs.Items.{item_star, item_star_of, item_one, item_takes}

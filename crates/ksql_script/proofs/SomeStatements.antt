@@ -5,13 +5,14 @@ use Rattle.ksql_lexer.specs.declared.token.Mark.TheVariants as mark
 use Rattle.ksql_grammar.specs.declared.symbol.Keyword.TheVariants as key
 use Rattle.ksql_grammar.specs.declared.symbol.Symbol.{Symbol}
 use Rattle.ksql_grammar.specs.declared.symbol.Symbol.TheVariants.{Key, Sign}
-use Rattle.ksql_grammar.specs.declared.tree.StatementBody.{StatementBody}
-use Rattle.ksql_grammar.specs.declared.tree.StatementBody.TheVariants.{Declared, Query}
-use Rattle.ksql_grammar.specs.Grammar as g
-use Rattle.ksql_grammar.specs.Grammar.{Spells}
+use Rattle.ksql_statements.specs.declared.tree.StatementBody.{StatementBody}
+use Rattle.ksql_statements.specs.declared.tree.StatementBody.TheVariants.{Declared, Query}
+use Rattle.ksql_parser.specs.Grammar as g
+use Rattle.ksql_parser.specs.Grammar.{Spells}
 use Rattle.ksql_grammar.specs.Expressions.{behind_key, behind_sign, list_of}
 use Rattle.ksql_parser.specs.Statements as r
-use Rattle.ksql_parser.proofs.Steps.{if_some, behind, along}
+use Rattle.ksql_parser.proofs.Steps.{behind, along}
+use Rattle.ksql_grammar.proofs.Steps.{if_some}
 use Rattle.ksql_parser.proofs.Found.{Head, head_found}
 use Rattle.ksql_parser.proofs.Declared.{Signed, columns_found, columns_only, properties_found, properties_only}
 use Rattle.ksql_parser.proofs.Bodies.{props_parts, with_there, with_absent, declared_parts}

@@ -7,4 +7,4 @@ mod reading;
 
 pub use fault::ScriptFault;
 pub use laws::{one_script, some_script};
-pub use reading::program_of_script;
+pub use reading::{program_of_script, trees_of_script};

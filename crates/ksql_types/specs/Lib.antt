@@ -1,5 +1,6 @@
 pub mod formers
 pub mod Catalog
+pub mod Chars
 pub mod Columns
 pub mod Key
 pub mod Lane

@@ -2,13 +2,13 @@
 use Rattle.std.proofs.Common.{◌≡◌, ℕ, Bool, List, map, Option, ap}
 use Rattle.ksql_types.specs.declared.operator.BinaryOp.{BinaryOp}
 use Rattle.ksql_types.specs.declared.value.SqlType.{SqlType}
-use Rattle.ksql_grammar.specs.declared.tree.Expr.{Expr}
-use Rattle.ksql_grammar.specs.declared.tree.Expr.TheVariants as e
-use Rattle.ksql_grammar.specs.declared.tree.Expr.TheOpen.{Expr-F}
-use Rattle.ksql_grammar.specs.declared.tree.WhenText.{WhenText}
+use Rattle.ksql_expressions.specs.declared.tree.Expr.{Expr}
+use Rattle.ksql_expressions.specs.declared.tree.Expr.TheVariants as e
+use Rattle.ksql_expressions.specs.declared.tree.Expr.TheOpen.{Expr-F}
+use Rattle.ksql_expressions.specs.declared.tree.WhenText.{WhenText}
 use Rattle.ksql_scope.specs.declared.scope.Scope.{Scope}
-use Rattle.ksql_scope.proofs.Folds as f
-use Rattle.ksql_scope.proofs.Folds.{perhaps_folded}
+use Rattle.ksql_expressions.proofs.Folds as f
+use Rattle.ksql_expressions.proofs.Folds.{perhaps_folded}
 use Rattle.ksql_typing.specs.Made.{made, Tree, WhenTree, tree_step, when_step}
 
 -- ---- the folds of WHENs

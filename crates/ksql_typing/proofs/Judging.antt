@@ -8,9 +8,9 @@ use Rattle.ksql_types.specs.declared.operator.BinaryOp.{BinaryOp}
 use Rattle.ksql_types.specs.declared.value.SqlType.{SqlType}
 use Rattle.ksql_types.specs.declared.value.SqlType.TheVariants as sql
 use Rattle.ksql_types.specs.declared.value.Value.TheVariants as value
-use Rattle.ksql_grammar.specs.declared.tree.Expr.{Expr}
-use Rattle.ksql_grammar.specs.declared.tree.Expr.TheVariants as e
-use Rattle.ksql_grammar.specs.declared.tree.WhenText.{WhenText}
+use Rattle.ksql_expressions.specs.declared.tree.Expr.{Expr}
+use Rattle.ksql_expressions.specs.declared.tree.Expr.TheVariants as e
+use Rattle.ksql_expressions.specs.declared.tree.WhenText.{WhenText}
 use Rattle.ksql_expr.specs.declared.typed.Typed.{Typed}
 use Rattle.ksql_expr.specs.declared.typed.TypedWhen.{TypedWhen}
 use Rattle.ksql_scope.specs.declared.scope.Scope.{Scope}
@@ -23,7 +23,7 @@ use Rattle.ksql_scope.specs.Typing.{digits_type}
 use Rattle.ksql_scope.specs.Uses.{Use, names, meanings_of, all_of, in_aggregate}
 use Rattle.ksql_scope.specs.Uses as uses
 use Rattle.ksql_scope.proofs.Equations as q
-use Rattle.ksql_scope.proofs.Folds.{perhaps_folded}
+use Rattle.ksql_expressions.proofs.Folds.{perhaps_folded}
 use Rattle.ksql_scope.proofs.NameFlags.{counted, counted-inside}
 use Rattle.ksql_typing.specs.declared.judged.Judged.{Judged}
 use Rattle.ksql_typing.specs.Judged as j

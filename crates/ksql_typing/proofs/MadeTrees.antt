@@ -5,9 +5,9 @@ use Rattle.std.specs.List.{AllByRecursion as Each}
 use Rattle.ksql_types.specs.declared.value.SqlType.{SqlType}
 use Rattle.ksql_types.specs.declared.value.SqlType.TheVariants as sql
 use Rattle.ksql_types.specs.declared.value.Value.TheVariants as value
-use Rattle.ksql_grammar.specs.declared.tree.Expr.{Expr}
-use Rattle.ksql_grammar.specs.declared.tree.Expr.TheVariants as ex
-use Rattle.ksql_grammar.specs.declared.tree.WhenText.{WhenText}
+use Rattle.ksql_expressions.specs.declared.tree.Expr.{Expr}
+use Rattle.ksql_expressions.specs.declared.tree.Expr.TheVariants as ex
+use Rattle.ksql_expressions.specs.declared.tree.WhenText.{WhenText}
 use Rattle.ksql_expr.specs.declared.typed.AggFun.{AggFun}
 use Rattle.ksql_expr.specs.declared.typed.AggFun.TheVariants as agg
 use Rattle.ksql_expr.specs.declared.typed.Fun.{Fun}
@@ -21,7 +21,7 @@ use Rattle.ksql_expr.specs.Typing.{HasTypes, of, truth, types, results}
 use Rattle.ksql_scope.specs.declared.scope.Scope.{Scope}
 use Rattle.ksql_scope.specs.Functions.{function_of, aggregate_of}
 use Rattle.ksql_scope.specs.Scope.{Meaning, meanings, inside, seen}
-use Rattle.ksql_scope.proofs.Folds.{perhaps_folded}
+use Rattle.ksql_expressions.proofs.Folds.{perhaps_folded}
 use Rattle.ksql_scope.proofs.Induction.{IfThere, InWhen, Steps, induction}
 use Rattle.ksql_typing.specs.Judged.{after}
 use Rattle.ksql_typing.specs.Made as m

@@ -4,8 +4,8 @@ use Rattle.std.specs.Prelude.{option_map}
 use Rattle.std.specs.List.{list_any}
 use Rattle.ksql_types.specs.declared.value.SqlType.TheVariants as sql
 use Rattle.ksql_types.specs.declared.value.Value.TheVariants as value
-use Rattle.ksql_grammar.specs.declared.tree.Expr.{Expr}
-use Rattle.ksql_grammar.specs.declared.tree.Expr.TheVariants as ex
+use Rattle.ksql_expressions.specs.declared.tree.Expr.{Expr}
+use Rattle.ksql_expressions.specs.declared.tree.Expr.TheVariants as ex
 use Rattle.ksql_expr.specs.declared.typed.AggFun.TheVariants.{CountAll, Count}
 use Rattle.ksql_expr.specs.declared.typed.Typed.{Typed}
 use Rattle.ksql_expr.specs.declared.typed.TypedWhen.{TypedWhen}
@@ -21,7 +21,7 @@ use Rattle.ksql_scope.specs.Uses.{calls, all_of}
 use Rattle.ksql_scope.specs.Uses as uses
 use Rattle.ksql_scope.proofs.Disjoint.{no-aggregate}
 use Rattle.ksql_scope.proofs.Equations as q
-use Rattle.ksql_scope.proofs.Folds.{perhaps_folded}
+use Rattle.ksql_expressions.proofs.Folds.{perhaps_folded}
 use Rattle.ksql_scope.proofs.NameFlags.{none-of}
 use Rattle.ksql_typing.specs.Judged.{after}
 use Rattle.ksql_typing.specs.Made as m

@@ -1,6 +1,6 @@
 -- Why an expression has no typed tree: the first of these that applies.
 use Rattle.std.specs.Prelude.{◌≡◌, true, false, Result, Err}
-use Rattle.ksql_grammar.specs.declared.tree.Expr.{Expr}
+use Rattle.ksql_expressions.specs.declared.tree.Expr.{Expr}
 use Rattle.ksql_expr.specs.declared.typed.Typed.{Typed}
 use Rattle.ksql_scope.specs.declared.scope.Scope.{Scope}
 use Rattle.ksql_scope.specs.Typing.{HasSomeType}

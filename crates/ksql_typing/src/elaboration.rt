@@ -12,7 +12,7 @@ use crate::fault::TypeFault;
 use crate::judge::judge;
 use crate::judged::Judged;
 use ksql_expr::Typed;
-use ksql_grammar::Expr;
+use ksql_expressions::Expr;
 use ksql_scope::{Scope, Types, has_some_type};
 use std::alloc::Global;
 
@@ -37,7 +37,7 @@ fn answer(judged: Judged) -> Result<Typed, TypeFault>
 {
     let fault = refusal(judged.types, judged.unknown, judged.ambiguous);
     match judged.tree {
-        Some(tree) => Ok(tree),
+        Some(tree) => Ok(tree.into_inner()),
         None => Err(fault),
     }
 }

@@ -14,27 +14,34 @@ use ksql_expr::{
 use ksql_types::{BinaryOp, Boxed, Chars, CopyOf, Items, SqlType, Value};
 use std::alloc::{AllocError, Global};
 
+/// A typed tree on the heap, where there is one.
+pub type HeldTree = Option<Boxed<Typed>>;
+
 /// A form, where it has a type.
-fn with_type(ty: Option<Option<SqlType>>, node: TypedNode) -> Option<Typed>
-    ensures { result ≡ spec.with_type ty node }
+fn with_type(
+    alloc: Global,
+    ty: Option<Option<SqlType>>,
+    node: TypedNode,
+) -> Result<HeldTree, AllocError>
+    ensures { IfOk result (λ made. made ≡ spec.with_type ty node) }
 {
-    match ty {
-        Some(ty) => Some(Typed { ty, node }),
-        None => None,
-    }
+    let Some(ty) = ty else {
+        drop(node);
+        return Ok(None);
+    };
+    Ok(Some(Boxed::of(alloc, Typed { ty, node })?))
 }
 
 /// A truth value of a form, where its parts fit.
-fn truth_where(holds: bool, node: TypedNode) -> Option<Typed>
-    ensures { result ≡ spec.truth_where holds node }
+fn truth_where(alloc: Global, holds: bool, node: TypedNode) -> Result<HeldTree, AllocError>
+    ensures { IfOk result (λ made. made ≡ spec.truth_where holds node) }
 {
-    if !holds {
-        return None;
-    }
-    Some(Typed {
-        ty: Some(SqlType::Bool),
-        node,
-    })
+    let ty = if holds {
+        Some(Some(SqlType::Bool))
+    } else {
+        None
+    };
+    with_type(alloc, ty, node)
 }
 
 pub fn digits(number: u64) -> Typed
@@ -53,13 +60,13 @@ pub fn digits(number: u64) -> Typed
     }
 }
 
-pub fn text(alloc: Global, content: &Chars) -> Result<Option<Typed>, AllocError>
-    ensures { IfOk result (λ made. made ≡ spec.literal_tree (Value.Txt content.now)) }
+pub fn text(alloc: Global, content: &Chars) -> Result<Typed, AllocError>
+    ensures { IfOk result (λ made. spec.literal_tree (Value.Txt content.now) ≡ Some made) }
 {
-    Ok(Some(Typed {
+    Ok(Typed {
         ty: Some(SqlType::Text),
         node: TypedNode::Literal(Value::Txt(content.copy(alloc)?)),
-    }))
+    })
 }
 
 pub fn truth(truth: bool) -> Typed
@@ -80,135 +87,116 @@ pub fn null() -> Typed
     }
 }
 
-pub fn sign(alloc: Global, minus: bool, arg: Typed) -> Result<Option<Typed>, AllocError>
+pub fn sign(alloc: Global, minus: bool, arg: Boxed<Typed>) -> Result<HeldTree, AllocError>
     ensures { IfOk result (λ made. made ≡ spec.sign_tree minus arg) }
 {
-    let ty = found(sign_type(arg.ty));
-    let arg = Boxed::of(alloc, arg)?;
-    Ok(with_type(ty, TypedNode::Sign { minus, arg }))
+    let ty = found(sign_type(arg.get().ty));
+    with_type(alloc, ty, TypedNode::Sign { minus, arg })
 }
 
 pub fn binary(
     alloc: Global,
     op: BinaryOp,
-    left: Typed,
-    right: Typed,
-) -> Result<Option<Typed>, AllocError>
+    left: Boxed<Typed>,
+    right: Boxed<Typed>,
+) -> Result<HeldTree, AllocError>
     ensures { IfOk result (λ made. made ≡ spec.binary_tree op left right) }
 {
-    let ty = found(binary_type(op, left.ty, right.ty));
-    let left = Boxed::of(alloc, left)?;
-    let right = Boxed::of(alloc, right)?;
-    Ok(with_type(ty, TypedNode::Binary { op, left, right }))
+    let ty = found(binary_type(op, left.get().ty, right.get().ty));
+    with_type(alloc, ty, TypedNode::Binary { op, left, right })
 }
 
-pub fn not(alloc: Global, arg: Typed) -> Result<Option<Typed>, AllocError>
+pub fn not(alloc: Global, arg: Boxed<Typed>) -> Result<HeldTree, AllocError>
     ensures { IfOk result (λ made. made ≡ spec.not_tree arg) }
 {
-    let holds = fits(SqlType::Bool, arg.ty);
-    Ok(truth_where(holds, TypedNode::Not(Boxed::of(alloc, arg)?)))
+    let holds = fits(SqlType::Bool, arg.get().ty);
+    truth_where(alloc, holds, TypedNode::Not(arg))
 }
 
-pub fn is_null(alloc: Global, negated: bool, arg: Typed) -> Result<Option<Typed>, AllocError>
+pub fn is_null(alloc: Global, negated: bool, arg: Boxed<Typed>) -> Result<HeldTree, AllocError>
     ensures { IfOk result (λ made. made ≡ spec.is_null_tree negated arg) }
 {
-    let arg = Boxed::of(alloc, arg)?;
-    Ok(truth_where(true, TypedNode::IsNull { negated, arg }))
+    truth_where(alloc, true, TypedNode::IsNull { negated, arg })
 }
 
 pub fn between(
     alloc: Global,
     negated: bool,
-    arg: Typed,
-    low: Typed,
-    high: Typed,
-) -> Result<Option<Typed>, AllocError>
+    arg: Boxed<Typed>,
+    low: Boxed<Typed>,
+    high: Boxed<Typed>,
+) -> Result<HeldTree, AllocError>
     ensures { IfOk result (λ made. made ≡ spec.between_tree negated arg low high) }
 {
-    let holds = is_between_typed(arg.ty, low.ty, high.ty);
-    let arg = Boxed::of(alloc, arg)?;
-    let low = Boxed::of(alloc, low)?;
-    let high = Boxed::of(alloc, high)?;
-    Ok(truth_where(
-        holds,
-        TypedNode::Between {
-            negated,
-            arg,
-            low,
-            high,
-        },
-    ))
+    let holds = is_between_typed(arg.get().ty, low.get().ty, high.get().ty);
+    let node = TypedNode::Between {
+        negated,
+        arg,
+        low,
+        high,
+    };
+    truth_where(alloc, holds, node)
 }
 
 pub fn one_of(
     alloc: Global,
     negated: bool,
-    arg: Typed,
+    arg: Boxed<Typed>,
     choices: Vec<Typed>,
-) -> Result<Option<Typed>, AllocError>
+) -> Result<HeldTree, AllocError>
     ensures { IfOk result (λ made. made ≡ spec.one_of_tree negated arg choices.items) }
 {
-    let holds = is_in_typed(arg.ty, &types_of(alloc, &choices)?);
-    let arg = Boxed::of(alloc, arg)?;
+    let holds = is_in_typed(arg.get().ty, &types_of(alloc, &choices)?);
     let choices = Items::of(choices);
-    Ok(truth_where(
-        holds,
-        TypedNode::OneOf {
-            negated,
-            arg,
-            choices,
-        },
-    ))
+    let node = TypedNode::OneOf {
+        negated,
+        arg,
+        choices,
+    };
+    truth_where(alloc, holds, node)
 }
 
 pub fn like(
     alloc: Global,
     negated: bool,
-    arg: Typed,
+    arg: Boxed<Typed>,
     pattern: &Chars,
-) -> Result<Option<Typed>, AllocError>
+) -> Result<HeldTree, AllocError>
     ensures { IfOk result (λ made. made ≡ spec.like_tree negated pattern.now arg) }
 {
-    let holds = fits(SqlType::Text, arg.ty);
-    let arg = Boxed::of(alloc, arg)?;
+    let holds = fits(SqlType::Text, arg.get().ty);
     let pattern = pattern.copy(alloc)?;
-    Ok(truth_where(
-        holds,
-        TypedNode::Like {
-            negated,
-            arg,
-            pattern,
-        },
-    ))
+    let node = TypedNode::Like {
+        negated,
+        arg,
+        pattern,
+    };
+    truth_where(alloc, holds, node)
 }
 
-pub fn cast(alloc: Global, arg: Typed, to: SqlType) -> Result<Option<Typed>, AllocError>
+pub fn cast(alloc: Global, arg: Boxed<Typed>, to: SqlType) -> Result<HeldTree, AllocError>
     ensures { IfOk result (λ made. made ≡ spec.cast_tree to arg) }
 {
-    if !can_cast(arg.ty, to) {
+    if !can_cast(arg.get().ty, to) {
         return Ok(None);
     }
-    let arg = Boxed::of(alloc, arg)?;
-    Ok(Some(Typed {
-        ty: Some(to),
-        node: TypedNode::Cast { arg, to },
-    }))
+    with_type(alloc, Some(Some(to)), TypedNode::Cast { arg, to })
 }
 
-pub fn call(alloc: Global, fun: Fun, args: Vec<Typed>) -> Result<Option<Typed>, AllocError>
+pub fn call(alloc: Global, fun: Fun, args: Vec<Typed>) -> Result<HeldTree, AllocError>
     ensures { IfOk result (λ made. made ≡ spec.call_tree fun args.items) }
 {
     let ty = fun_type(fun, &types_of(alloc, &args)?);
     let args = Items::of(args);
-    Ok(with_type(ty, TypedNode::Call { fun, args }))
+    with_type(alloc, ty, TypedNode::Call { fun, args })
 }
 
-pub fn aggregate(alloc: Global, fun: AggFun, arg: Typed) -> Result<Option<Typed>, AllocError>
+pub fn aggregate(alloc: Global, fun: AggFun, arg: Typed) -> Result<HeldTree, AllocError>
     ensures { IfOk result (λ made. made ≡ spec.aggregate_tree fun arg) }
 {
     let ty = agg_type(fun, Some(arg.ty));
     let arg = Some(Boxed::of(alloc, arg)?);
-    Ok(with_type(ty, TypedNode::Aggregate { fun, arg }))
+    with_type(alloc, ty, TypedNode::Aggregate { fun, arg })
 }
 
 pub fn count_all() -> Typed
@@ -225,31 +213,27 @@ pub fn count_all() -> Typed
 
 pub fn case(
     alloc: Global,
-    arg: Option<Typed>,
+    arg: HeldTree,
     whens: Vec<TypedWhen>,
-    otherwise: Option<Typed>,
-) -> Result<Option<Typed>, AllocError>
+    otherwise: HeldTree,
+) -> Result<HeldTree, AllocError>
     ensures { IfOk result (λ made. made ≡ spec.case_tree arg whens.items otherwise) }
 {
     let ty = type_of_case(alloc, &arg, &whens, &otherwise)?;
-    let arg = boxed(alloc, arg)?;
-    let otherwise = boxed(alloc, otherwise)?;
     let whens = Items::of(whens);
-    Ok(with_type(
-        ty,
-        TypedNode::Case {
-            arg,
-            whens,
-            otherwise,
-        },
-    ))
+    let node = TypedNode::Case {
+        arg,
+        whens,
+        otherwise,
+    };
+    with_type(alloc, ty, node)
 }
 
 fn type_of_case(
     alloc: Global,
-    arg: &Option<Typed>,
+    arg: &HeldTree,
     whens: &[TypedWhen],
-    otherwise: &Option<Typed>,
+    otherwise: &HeldTree,
 ) -> Result<Option<Option<SqlType>>, AllocError>
     ensures { IfOk result (λ ty. ty ≡ spec.type_of_case arg.now whens.now otherwise.now) }
 {
@@ -267,21 +251,12 @@ fn found(ty: Option<SqlType>) -> Option<Option<SqlType>>
     }
 }
 
-fn type_of(part: &Option<Typed>) -> Option<Option<SqlType>>
+fn type_of(part: &HeldTree) -> Option<Option<SqlType>>
     ensures { result ≡ option_map (λ e. e.ty) part.now }
 {
     match part {
-        Some(part) => Some(part.ty),
+        Some(part) => Some(part.get().ty),
         None => None,
-    }
-}
-
-fn boxed(alloc: Global, part: Option<Typed>) -> Result<Option<Boxed<Typed>>, AllocError>
-    ensures { IfOk result (λ there. there ≡ part) }
-{
-    match part {
-        Some(part) => Ok(Some(Boxed::of(alloc, part)?)),
-        None => Ok(None),
     }
 }
 

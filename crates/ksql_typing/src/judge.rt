@@ -9,7 +9,7 @@ ghost use Rattle.ksql_typing.specs.Judged.{AreOf, AreOfWhens, judged, judged_whe
 
 use crate::found::{self, Found};
 use crate::judged::{self, Judged, Parts, Perhaps, WhenParts};
-use ksql_grammar::{Expr, WhenText};
+use ksql_expressions::{Expr, WhenText};
 use ksql_scope::{Scope, aggregate_of};
 use ksql_types::{BinaryOp, Boxed};
 use std::alloc::{AllocError, Global};
@@ -27,11 +27,11 @@ pub fn judge(
     ensures { IfOk result (λ j. j ≡ judged expr.now (seen windowed scope.now)) }
 {
     match expr {
-        Expr::Digits(number) => Ok(judged::digits(*number)),
+        Expr::Digits(number) => judged::digits(alloc, *number),
         Expr::Text(content) => judged::text(alloc, content),
-        Expr::Truth(truth) => Ok(judged::truth(*truth)),
-        Expr::Null => Ok(judged::null()),
-        Expr::Name { qualifier, name } => Ok(judged::name(scope, windowed, qualifier, name)),
+        Expr::Truth(truth) => judged::truth(alloc, *truth),
+        Expr::Null => judged::null(alloc),
+        Expr::Name { qualifier, name } => judged::name(alloc, scope, windowed, qualifier, name),
         Expr::Sign { minus, arg } => {
             found::sign(alloc, *minus, judge(alloc, scope, windowed, arg.get()))
         }

@@ -14,19 +14,19 @@ ghost use Rattle.ksql_expr.specs.Typing.{of};
 ghost use Rattle.ksql_typing.specs.Standing.{digits_value};
 ghost use Rattle.ksql_typing.specs.Made as made;
 
-use crate::form;
+use crate::form::{self, HeldTree};
 use ksql_expr::{AggFun, Typed, TypedNode, TypedWhen};
 use ksql_scope::{
     Scope, Sense, Types, aggregate_of, function_of, has_some_type, possible, sense_of,
 };
-use ksql_types::{BinaryOp, Chars, SqlType};
+use ksql_types::{BinaryOp, Boxed, Chars, SqlType};
 use std::alloc::{AllocError, Global};
 
 /// What is found out of an expression: its typed tree, where it has one, the types that it can have, and whether a name
 /// in it stands for nothing or for several things.
 #[derive(Drop)]
 pub struct Judged {
-    pub tree: Option<Typed>,
+    pub tree: HeldTree,
     pub types: Types,
     pub unknown: bool,
     pub ambiguous: bool,
@@ -54,7 +54,7 @@ pub struct WhenParts {
 /// What is found out of a part that may be left out: its tree, or that it is left out, where it is so or has a tree.
 #[derive(Drop)]
 pub struct Perhaps {
-    pub tree: Option<Option<Typed>>,
+    pub tree: Option<HeldTree>,
     pub types: Option<Types>,
     pub unknown: bool,
     pub ambiguous: bool,
@@ -153,16 +153,13 @@ impl WhenParts {
     }
 }
 
-fn with_tree(
-    trees: Option<Vec<Typed>>,
-    tree: Option<Typed>,
-) -> Result<Option<Vec<Typed>>, AllocError>
+fn with_tree(trees: Option<Vec<Typed>>, tree: HeldTree) -> Result<Option<Vec<Typed>>, AllocError>
     ensures { IfOk result (λ all. option_map (λ v. v.items) all
         ≡ after (option_map (λ v. v.items) trees) (λ xs. after tree (λ x. Some (xs ++ x ∷ [])))) }
 {
     match (trees, tree) {
         (Some(mut trees), Some(tree)) => {
-            trees.push(tree)?;
+            trees.push(tree.into_inner())?;
             Ok(Some(trees))
         }
         _ => Ok(None),
@@ -171,14 +168,16 @@ fn with_tree(
 
 fn with_when_tree(
     trees: Option<Vec<TypedWhen>>,
-    cond: Option<Typed>,
-    result_tree: Option<Typed>,
+    cond: HeldTree,
+    result_tree: HeldTree,
 ) -> Result<Option<Vec<TypedWhen>>, AllocError>
     ensures { IfOk result (λ all. option_map (λ v. v.items) all
         ≡ after (option_map (λ v. v.items) trees) (λ ws. after cond (λ x. after result_tree (λ y. Some (ws ++ made.typed_when x y ∷ []))))) }
 {
     match (trees, cond, result_tree) {
         (Some(mut trees), Some(cond), Some(result)) => {
+            let cond = cond.into_inner();
+            let result = result.into_inner();
             trees.push(TypedWhen { cond, result })?;
             Ok(Some(trees))
         }
@@ -186,83 +185,89 @@ fn with_when_tree(
     }
 }
 
-fn sure(tree: Option<Typed>, ty: SqlType) -> Judged
-    ensures { result ≡ spec.sure tree ty }
+fn sure(alloc: Global, tree: Typed, ty: SqlType) -> Result<Judged, AllocError>
+    ensures { IfOk result (λ j. j ≡ spec.sure (Some tree) ty) }
 {
-    Judged {
-        tree,
+    Ok(Judged {
+        tree: Some(Boxed::of(alloc, tree)?),
         types: possible::where_found(true, Some(ty)),
         unknown: false,
         ambiguous: false,
-    }
+    })
 }
 
 #[inline(never)]
-pub fn digits(number: u64) -> Judged
+pub fn digits(alloc: Global, number: u64) -> Result<Judged, AllocError>
     requires { number ≤ 9223372036854775807 }
-    ensures { result ≡ spec.sure (made.literal_tree (digits_value number)) (digits_type number) }
+    ensures { IfOk result (λ j. j ≡ spec.sure (made.literal_tree (digits_value number)) (digits_type number)) }
 {
     let ty = if number <= 2147483647 {
         SqlType::Int
     } else {
         SqlType::Big
     };
-    sure(Some(form::digits(number)), ty)
+    sure(alloc, form::digits(number), ty)
 }
 
 #[inline(never)]
 pub fn text(alloc: Global, content: &Chars) -> Result<Judged, AllocError>
     ensures { IfOk result (λ j. j ≡ spec.sure (made.literal_tree (value.Txt content.now)) SqlType.Text) }
 {
-    Ok(sure(form::text(alloc, content)?, SqlType::Text))
+    sure(alloc, form::text(alloc, content)?, SqlType::Text)
 }
 
 #[inline(never)]
-pub fn truth(truth: bool) -> Judged
-    ensures { result ≡ spec.sure (made.literal_tree (value.Bool truth)) SqlType.Bool }
+pub fn truth(alloc: Global, truth: bool) -> Result<Judged, AllocError>
+    ensures { IfOk result (λ j. j ≡ spec.sure (made.literal_tree (value.Bool truth)) SqlType.Bool) }
 {
-    sure(Some(form::truth(truth)), SqlType::Bool)
+    sure(alloc, form::truth(truth), SqlType::Bool)
 }
 
 #[inline(never)]
-pub fn null() -> Judged
-    ensures { result ≡ spec.null }
+pub fn null(alloc: Global) -> Result<Judged, AllocError>
+    ensures { IfOk result (λ j. j ≡ spec.null) }
 {
-    Judged {
-        tree: Some(form::null()),
+    Ok(Judged {
+        tree: Some(Boxed::of(alloc, form::null())?),
         types: possible::where_found(true, None),
         unknown: false,
         ambiguous: false,
-    }
+    })
 }
 
 /// A name in a scope, in which the bounds of windows can be named where `windowed` is true.
 #[inline(never)]
-pub fn name(scope: &Scope, windowed: bool, qualifier: &Option<Chars>, name: &Chars) -> Judged
+pub fn name(
+    alloc: Global,
+    scope: &Scope,
+    windowed: bool,
+    qualifier: &Option<Chars>,
+    name: &Chars,
+) -> Result<Judged, AllocError>
     requires { length scope.now.columns ≤ 2 ^ 32 - 2 }
-    ensures { result ≡ spec.named (sense (meanings (seen windowed scope.now) qualifier.now name.now)) }
+    ensures { IfOk result (λ j. j ≡ spec.named (sense (meanings (seen windowed scope.now) qualifier.now name.now))) }
 {
-    named(sense_of(scope, windowed, qualifier, name))
+    named(alloc, sense_of(scope, windowed, qualifier, name))
 }
 
-fn named(sense: Sense) -> Judged
-    ensures { result ≡ spec.named (view sense) }
+fn named(alloc: Global, sense: Sense) -> Result<Judged, AllocError>
+    ensures { IfOk result (λ j. j ≡ spec.named (view sense)) }
 {
     match sense {
-        Sense::Nothing => lost(true, false),
-        Sense::Several => lost(false, true),
+        Sense::Nothing => Ok(lost(true, false)),
+        Sense::Several => Ok(lost(false, true)),
         Sense::One {
             column: Some(column),
             ty,
-        } => column_of(TypedNode::Column(column), ty),
-        Sense::One { column: None, ty } => column_of(TypedNode::RowTime, ty),
+        } => column_of(alloc, TypedNode::Column(column), ty),
+        Sense::One { column: None, ty } => column_of(alloc, TypedNode::RowTime, ty),
     }
 }
 
-fn column_of(node: TypedNode, ty: SqlType) -> Judged
-    ensures { result ≡ spec.sure (Some (of (Some ty) node)) ty }
+fn column_of(alloc: Global, node: TypedNode, ty: SqlType) -> Result<Judged, AllocError>
+    ensures { IfOk result (λ j. j ≡ spec.sure (Some (of (Some ty) node)) ty) }
 {
-    sure(Some(Typed { ty: Some(ty), node }), ty)
+    sure(alloc, Typed { ty: Some(ty), node }, ty)
 }
 
 fn lost(unknown: bool, ambiguous: bool) -> Judged
@@ -282,7 +287,7 @@ fn either(one: bool, other: bool) -> bool
     one || other
 }
 
-fn sign_tree(alloc: Global, minus: bool, arg: Option<Typed>) -> Result<Option<Typed>, AllocError>
+fn sign_tree(alloc: Global, minus: bool, arg: HeldTree) -> Result<HeldTree, AllocError>
     ensures { IfOk result (λ tree. tree ≡ after arg (made.sign_tree minus)) }
 {
     match arg {
@@ -305,9 +310,9 @@ pub fn sign(alloc: Global, minus: bool, arg: Judged) -> Result<Judged, AllocErro
 fn binary_tree(
     alloc: Global,
     op: BinaryOp,
-    left: Option<Typed>,
-    right: Option<Typed>,
-) -> Result<Option<Typed>, AllocError>
+    left: HeldTree,
+    right: HeldTree,
+) -> Result<HeldTree, AllocError>
     ensures { IfOk result (λ tree. tree ≡ after left (λ x. after right (made.binary_tree op x))) }
 {
     match (left, right) {
@@ -332,7 +337,7 @@ pub fn binary(
     })
 }
 
-fn negation_tree(alloc: Global, arg: Option<Typed>) -> Result<Option<Typed>, AllocError>
+fn negation_tree(alloc: Global, arg: HeldTree) -> Result<HeldTree, AllocError>
     ensures { IfOk result (λ tree. tree ≡ after arg made.not_tree) }
 {
     match arg {
@@ -352,11 +357,7 @@ pub fn negation(alloc: Global, arg: Judged) -> Result<Judged, AllocError>
     })
 }
 
-fn is_null_tree(
-    alloc: Global,
-    negated: bool,
-    arg: Option<Typed>,
-) -> Result<Option<Typed>, AllocError>
+fn is_null_tree(alloc: Global, negated: bool, arg: HeldTree) -> Result<HeldTree, AllocError>
     ensures { IfOk result (λ tree. tree ≡ after arg (made.is_null_tree negated)) }
 {
     match arg {
@@ -379,10 +380,10 @@ pub fn is_null(alloc: Global, negated: bool, arg: Judged) -> Result<Judged, Allo
 fn between_tree(
     alloc: Global,
     negated: bool,
-    arg: Option<Typed>,
-    low: Option<Typed>,
-    high: Option<Typed>,
-) -> Result<Option<Typed>, AllocError>
+    arg: HeldTree,
+    low: HeldTree,
+    high: HeldTree,
+) -> Result<HeldTree, AllocError>
     ensures { IfOk result (λ tree. tree ≡ after arg (λ x. after low (λ y. after high (made.between_tree negated x y)))) }
 {
     let Some(arg) = arg else {
@@ -417,9 +418,9 @@ pub fn between(
 fn one_of_tree(
     alloc: Global,
     negated: bool,
-    arg: Option<Typed>,
+    arg: HeldTree,
     choices: Option<Vec<Typed>>,
-) -> Result<Option<Typed>, AllocError>
+) -> Result<HeldTree, AllocError>
     ensures { IfOk result (λ tree. tree ≡ after arg (λ x. after (option_map (λ v. v.items) choices) (made.one_of_tree negated x))) }
 {
     match (arg, choices) {
@@ -447,9 +448,9 @@ pub fn one_of(
 fn like_tree(
     alloc: Global,
     negated: bool,
-    arg: Option<Typed>,
+    arg: HeldTree,
     pattern: &Chars,
-) -> Result<Option<Typed>, AllocError>
+) -> Result<HeldTree, AllocError>
     ensures { IfOk result (λ tree. tree ≡ after arg (made.like_tree negated pattern.now)) }
 {
     match arg {
@@ -474,7 +475,7 @@ pub fn like(
     })
 }
 
-fn cast_tree(alloc: Global, arg: Option<Typed>, to: SqlType) -> Result<Option<Typed>, AllocError>
+fn cast_tree(alloc: Global, arg: HeldTree, to: SqlType) -> Result<HeldTree, AllocError>
     ensures { IfOk result (λ tree. tree ≡ after arg (made.cast_tree to)) }
 {
     match arg {
@@ -510,10 +511,10 @@ fn types_of_case(
 
 fn case_tree(
     alloc: Global,
-    arg: Option<Option<Typed>>,
+    arg: Option<HeldTree>,
     whens: Option<Vec<TypedWhen>>,
-    otherwise: Option<Option<Typed>>,
-) -> Result<Option<Typed>, AllocError>
+    otherwise: Option<HeldTree>,
+) -> Result<HeldTree, AllocError>
     ensures { IfOk result (λ tree. tree ≡ after arg (λ x. after (option_map (λ v. v.items) whens) (λ ws. after otherwise (made.case_tree x ws)))) }
 {
     let Some(arg) = arg else {
@@ -579,12 +580,12 @@ fn agg_call_tree(
     fun: AggFun,
     star: bool,
     mut args: Vec<Typed>,
-) -> Result<Option<Typed>, AllocError>
+) -> Result<HeldTree, AllocError>
     ensures { IfOk result (λ tree. tree ≡ made.agg_call_tree fun star args.items) }
 {
     if star {
         if fun == AggFun::Count && args.is_empty() {
-            return Ok(Some(form::count_all()));
+            return Ok(Some(Boxed::of(alloc, form::count_all())?));
         }
         return Ok(None);
     }
@@ -602,7 +603,7 @@ fn call_tree(
     name: &str,
     star: bool,
     args: Vec<Typed>,
-) -> Result<Option<Typed>, AllocError>
+) -> Result<HeldTree, AllocError>
     ensures { IfOk result (λ tree. tree ≡ made.named_tree (functions.aggregate_of name.now) (functions.function_of name.now) star args.items) }
 {
     if let Some(fun) = aggregate_of(name) {
@@ -624,7 +625,7 @@ fn tree_of_call(
     name: &str,
     star: bool,
     args: Option<Vec<Typed>>,
-) -> Result<Option<Typed>, AllocError>
+) -> Result<HeldTree, AllocError>
     ensures { IfOk result (λ tree. tree ≡ after (option_map (λ v. v.items) args)
         (made.named_tree (functions.aggregate_of name.now) (functions.function_of name.now) star)) }
 {

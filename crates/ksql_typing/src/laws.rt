@@ -2,7 +2,7 @@
 
 ghost use Rattle.std.specs.Prelude.{◌≡◌, ◌↔◌, false, IsTrue, Option, Some};
 ghost use Rattle.ksql_types.specs.declared.value.SqlType.{SqlType as OneType};
-ghost use Rattle.ksql_grammar.specs.declared.tree.Expr.{Expr as OneExpr};
+ghost use Rattle.ksql_expressions.specs.declared.tree.Expr.{Expr as OneExpr};
 ghost use Rattle.ksql_expr.specs.declared.typed.Typed.{Typed as OneTyped};
 ghost use Rattle.ksql_scope.specs.declared.scope.Scope.{Scope as OneScope};
 ghost use Rattle.ksql_scope.specs.Decisions as decided;

@@ -70,7 +70,7 @@ fn chars(alloc: Global, text: &str) -> Result<Chars, AllocError>
     requires { length text.now ≤ 65536 }
     ensures { IfOk result (λ chars. chars ≡ text.now) }
 {
-    Chars::of(String::from_str(alloc, text)?)
+    Chars::copy_of(alloc, text)
 }
 
 #[tactic(auto, unfolding(crate::specs::Reading::truth_at))]

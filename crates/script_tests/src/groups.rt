@@ -1,5 +1,5 @@
 use crate::texts::chars;
-use ksql_grammar::{Expr, WhenText};
+use ksql_expressions::{Expr, WhenText};
 use ksql_grouping::{
     has_aggregate, has_bare_column, has_nested_aggregate, has_ordered_aggregate,
     has_unknown_function,

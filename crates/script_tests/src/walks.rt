@@ -1,6 +1,5 @@
-use ksql_grammar::Expr;
+use ksql_expressions::{Decides, Expr, Replaces, becomes, passes};
 use ksql_types::Boxed;
-use ksql_walks::{Decides, Replaces, becomes, passes};
 use std::alloc::{AllocError, Global};
 use std::test::Fail;
 
@@ -11,7 +10,7 @@ struct Nulls {
 
 impl Replaces for Nulls {
     ghost use Rattle.std.specs.Prelude.{Some, None, if◌then◌else◌};
-    ghost use Rattle.ksql_grammar.specs.declared.tree.Expr.TheVariants.{Null};
+    ghost use Rattle.ksql_expressions.specs.declared.tree.Expr.TheVariants.{Null};
 
     ghost decide = { λ nulls _. if nulls.all then Some Null else None };
 

@@ -140,6 +140,6 @@ pub(crate) fn text_value(alloc: Global, text: &str) -> Result<Option<Value>, All
     if text.len() > LONGEST_VALUE {
         return Ok(None);
     }
-    let text = Chars::of(String::from_str(alloc, text)?)?;
+    let text = Chars::copy_of(alloc, text)?;
     Ok(Some(Value::Txt(text)))
 }

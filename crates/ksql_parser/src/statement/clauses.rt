@@ -3,19 +3,18 @@
 ghost use Rattle.std.specs.Prelude.{◌≡◌, List, Option, Some, IfOk};
 ghost use Rattle.std.specs.Option.{option_copied};
 ghost use Rattle.ksql_grammar.specs.declared.symbol.Symbol.{Symbol as OneSymbol};
-ghost use Rattle.ksql_grammar.specs.declared.tree.Expr.{Expr as Tree};
-ghost use Rattle.ksql_grammar.specs.declared.tree.JoinText.{JoinText as OneJoin};
-ghost use Rattle.ksql_grammar.specs.Grammar.{Spells, joined, filter, group, partition, having};
+ghost use Rattle.ksql_expressions.specs.declared.tree.Expr.{Expr as Tree};
+ghost use Rattle.ksql_statements.specs.declared.tree.JoinText.{JoinText as OneJoin};
+ghost use Rattle.ksql_parser.specs.Grammar.{Spells, joined, filter, group, partition, having};
 ghost use Rattle.ksql_grammar.specs.Reading.{Gives, with_rest, option_with_rest};
 ghost use Rattle.ksql_parser.specs.Queries as query;
 ghost use Rattle.ksql_parser.specs.Statements.{BeginsFrom};
 ghost use Rattle.ksql_parser.specs.Statements as part;
 
 use crate::statement::step::{alias, behind_by, behind_word, key, name};
-use ksql_grammar::{
-    Expr, ExprTexts, JoinText, JoinWord, Keyword, ReadError, Source, Symbol, behind_key,
-    read_expression, read_expressions,
-};
+use ksql_expressions::{Expr, ExprTexts};
+use ksql_grammar::{Keyword, ReadError, Symbol, behind_key, read_expression, read_expressions};
+use ksql_statements::{JoinText, JoinWord, Source};
 use ksql_types::{CopyOf, Items};
 use std::alloc::Global;
 

@@ -5,18 +5,16 @@ ghost use Rattle.ksql_lexer.specs.declared.token.Mark.TheVariants as mark;
 ghost use Rattle.ksql_grammar.specs.declared.symbol.Symbol.{Symbol as OneSymbol};
 ghost use Rattle.ksql_grammar.specs.declared.symbol.Symbol.TheVariants.{Key, Sign};
 ghost use Rattle.ksql_grammar.specs.declared.symbol.Keyword.TheVariants as key;
-ghost use Rattle.ksql_grammar.specs.declared.tree.ColumnText.{ColumnText as OneColumn};
-ghost use Rattle.ksql_grammar.specs.declared.tree.Property.{Property as OneProperty};
-ghost use Rattle.ksql_grammar.specs.Grammar.{Spells, columns, prop_list, props, with_props};
+ghost use Rattle.ksql_statements.specs.declared.tree.ColumnText.{ColumnText as OneColumn};
+ghost use Rattle.ksql_statements.specs.declared.tree.Property.{Property as OneProperty};
+ghost use Rattle.ksql_parser.specs.Grammar.{Spells, columns, prop_list, props, with_props};
 ghost use Rattle.ksql_grammar.specs.Reading.{Gives, with_rest};
 ghost use Rattle.ksql_parser.specs.Statements as part;
 
 use crate::statement::step::{behind_word, behind_words, name, sign, sql_type};
-use ksql_grammar::{
-    ColumnText, ColumnTexts, KeyMark, Keyword, Properties, Property, PropertyValue, ReadError,
-    Symbol, behind_key, behind_sign,
-};
+use ksql_grammar::{Keyword, ReadError, Symbol, behind_key, behind_sign};
 use ksql_lexer::Mark;
+use ksql_statements::{ColumnText, ColumnTexts, KeyMark, Properties, Property, PropertyValue};
 use ksql_types::{CopyOf, Items};
 use std::alloc::Global;
 

@@ -4,9 +4,9 @@ ghost use Rattle.std.specs.Prelude.{◌≡◌, List, [], ◌∷◌, Some, IfOk, 
 ghost use Rattle.ksql_grammar.specs.declared.symbol.Keyword.TheVariants as key;
 ghost use Rattle.ksql_grammar.specs.declared.symbol.Symbol.{Symbol as OneSymbol};
 ghost use Rattle.ksql_grammar.specs.declared.symbol.Symbol.TheVariants.{Key};
-ghost use Rattle.ksql_grammar.specs.declared.tree.Select.{Select as OneSelect};
-ghost use Rattle.ksql_grammar.specs.declared.tree.SelectItem.{SelectItem as OneItem};
-ghost use Rattle.ksql_grammar.specs.Grammar.{Spells, select, items, item};
+ghost use Rattle.ksql_statements.specs.declared.tree.Select.{Select as OneSelect};
+ghost use Rattle.ksql_statements.specs.declared.tree.SelectItem.{SelectItem as OneItem};
+ghost use Rattle.ksql_parser.specs.Grammar.{Spells, select, items, item};
 ghost use Rattle.ksql_grammar.specs.Reading.{Gives, with_rest};
 ghost use Rattle.ksql_parser.specs.declared.statement.queries.Clauses.{Clauses as OneClauses};
 ghost use Rattle.ksql_parser.specs.declared.statement.queries.Front.{Front as OneFront};
@@ -19,11 +19,10 @@ use crate::statement::clauses::{
 };
 use crate::statement::step::{alias, behind_name, key};
 use crate::statement::windows::read_window;
-use ksql_grammar::{
-    Expr, ExprTexts, JoinText, Keyword, ReadError, Select, SelectItem, SelectItems, Source, Symbol,
-    WindowText, behind_sign, read_expression,
-};
+use ksql_expressions::{Expr, ExprTexts};
+use ksql_grammar::{Keyword, ReadError, Symbol, behind_sign, read_expression};
 use ksql_lexer::Mark;
+use ksql_statements::{JoinText, Select, SelectItem, SelectItems, Source, WindowText};
 use ksql_types::{Chars, CopyOf, Items};
 use std::alloc::Global;
 

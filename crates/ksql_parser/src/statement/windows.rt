@@ -2,20 +2,20 @@
 
 ghost use Rattle.std.specs.Prelude.{◌≡◌};
 ghost use Rattle.std.specs.Option.{option_copied};
-ghost use Rattle.ksql_grammar.specs.Symbols as spec;
+ghost use Rattle.ksql_expressions.specs.Words.{beside};
 ghost use Rattle.ksql_grammar.specs.Reading.{Gives, with_rest};
 ghost use Rattle.ksql_grammar.specs.Expressions as read;
+ghost use Rattle.ksql_parser.specs.Grammar as spec;
 ghost use Rattle.ksql_parser.specs.Statements as part;
 
 use crate::statement::step::{behind_word, behind_words, key, sign, word};
-use ksql_grammar::{
-    Keyword, ReadError, SpanText, Symbol, Unit, WindowText, behind_key, behind_sign,
-};
+use ksql_grammar::{Keyword, ReadError, Symbol, behind_key, behind_sign};
 use ksql_lexer::Mark;
+use ksql_statements::{SpanText, Unit, WindowText};
 
 /// The unit of time that a word is.
 fn unit_named(word: &str) -> Option<Unit>
-    ensures { result ≡ spec.beside spec.unit_words word.now }
+    ensures { result ≡ beside spec.unit_words word.now }
 {
     match word {
         "DAY" | "DAYS" => Some(Unit::Day),

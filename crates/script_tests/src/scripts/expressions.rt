@@ -1,9 +1,10 @@
 use crate::texts::chars;
+use ksql_expressions::Expr;
 use ksql_grammar::{
-    ColumnText, ColumnTexts, Expr, KeyMark, Keyword, Symbol, behind_key, behind_sign, name_of,
-    read_expression, read_expressions, type_of,
+    Keyword, Symbol, behind_key, behind_sign, name_of, read_expression, read_expressions, type_of,
 };
 use ksql_lexer::Mark;
+use ksql_statements::{ColumnText, ColumnTexts, KeyMark};
 use ksql_types::{CopyOf, Items, SqlType};
 use std::alloc::Global;
 use std::test::Fail;

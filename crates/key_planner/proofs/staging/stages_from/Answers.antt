@@ -8,8 +8,8 @@ use Rattle.key_planner.specs.Cuts.{closed, opened, with_node}
 use Rattle.key_planner.proofs.Parts.{stages-Select}
 use Rattle.key_planner.proofs.staging.stages_from.Goals as goal
 
-pub returns-in-Select : goal.returns-in-Select
-returns-in-Select c =
+pub returns-in_ok-selected-in-Select : goal.returns-in_ok-selected-in-Select
+returns-in_ok-selected-in-Select c =
     let items = c.args.program.now.items in
     let arg = c.in-Select.arg in
     let x : Node = node.Select c.in-Select.keys c.in-Select.values in

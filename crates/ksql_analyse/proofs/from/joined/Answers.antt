@@ -5,7 +5,7 @@ use Rattle.ksql_clauses.specs.Sources.{from_scope}
 use Rattle.ksql_rules.specs.Keys.{join_key}
 use Rattle.ksql_analyse.specs.Readable.{IsReadable}
 use Rattle.ksql_analyse.specs.Typable.{IsTypable}
-use Rattle.ksql_analyse.proofs.Moving.{moved-two}
+use Rattle.ksql_analyse.proofs.lists.Moving.{moved-two}
 use Rattle.ksql_analyse.proofs.from.joined.Goals as goal
 
 pub tree_of-requires-clause-typable : goal.tree_of-requires-clause-typable

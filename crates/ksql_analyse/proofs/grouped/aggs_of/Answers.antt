@@ -4,7 +4,7 @@ use Rattle.ksql_expr.specs.declared.typed.Typed.{Typed}
 use Rattle.ksql_typing.proofs.OneTyping.{one-tree}
 use Rattle.ksql_analyse.specs.Judgement.{agg_form}
 use Rattle.ksql_analyse.specs.Typable.{IsAggregable, IsAggregateNode}
-use Rattle.ksql_analyse.proofs.Pushing.{agg-next}
+use Rattle.ksql_analyse.proofs.lists.Pushing.{agg-next}
 use Rattle.ksql_analyse.proofs.grouped.aggs_of.Goals as goal
 
 pub loop-expr-init : goal.loop-expr-init

@@ -1,8 +1,8 @@
 use Rattle.std.proofs.Common.{◌≡◌, ◌<◌, ◌^◌, true, is_some, List, subst, sym}
 use Rattle.std.specs.Prelude.{codes, unwrap_or}
-use Rattle.ksql_grammar.specs.declared.tree.Property.{Property}
+use Rattle.ksql_statements.specs.declared.tree.Property.{Property}
 use Rattle.ksql_clauses.specs.Properties.{partitions_in, topic_in, value_of}
-use Rattle.ksql_analyse.proofs.ItemNeeds.{few-declared, few-partitions, few-read, kept, readable, short-names, topic-there, typable}
+use Rattle.ksql_analyse.proofs.accepted.ItemNeeds.{few-declared, few-partitions, few-read, kept, readable, short-names, topic-there, typable}
 use Rattle.ksql_analyse.proofs.item.item_of.Goals as goal
 
 pub declared_relation-requires : goal.declared_relation-requires

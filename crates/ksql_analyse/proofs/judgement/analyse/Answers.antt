@@ -2,14 +2,14 @@ use Rattle.std.proofs.Common.{◌+◌, [], ap, sym, ◌∙◌, subst}
 use Rattle.std.proofs.lemmas.Result.{err_from_is_err_and}
 use Rattle.std.specs.Prelude.{Ok, Err}
 use Rattle.std.proofs.lemmas.List.Elements.{All-get_or}
-use Rattle.ksql_grammar.specs.declared.tree.Statement.{Statement}
+use Rattle.ksql_statements.specs.declared.tree.Statement.{Statement}
 use Rattle.ksql_rules.specs.Limits.{IsWithinLimits}
 use Rattle.ksql_analyse.specs.Few.{HasFewCalls}
-use Rattle.ksql_analyse.proofs.Behind.{Done, none-done, one-next, one-more, judged-whole, fault-judged}
-use Rattle.ksql_analyse.proofs.FewCalls.{parsed-few}
-use Rattle.ksql_analyse.proofs.Parsed.{parsed-within}
-use Rattle.ksql_analyse.proofs.SoundPrograms.{judgement-sound}
-use Rattle.ksql_analyse.proofs.Unique.{program-answered, refusal-answered}
+use Rattle.ksql_analyse.proofs.unique.Behind.{Done, none-done, one-next, one-more, judged-whole, fault-judged}
+use Rattle.ksql_analyse.proofs.parsed.FewCalls.{parsed-few}
+use Rattle.ksql_analyse.proofs.parsed.Parsed.{parsed-within}
+use Rattle.ksql_analyse.proofs.sound.SoundPrograms.{judgement-sound}
+use Rattle.ksql_analyse.proofs.unique.Unique.{program-answered, refusal-answered}
 use Rattle.ksql_analyse.proofs.judgement.analyse.Goals as goal
 
 pub loop-index-init : goal.loop-index-init

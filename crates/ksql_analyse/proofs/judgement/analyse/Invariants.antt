@@ -1,4 +1,4 @@
-use Rattle.ksql_analyse.proofs.Behind.{Done}
+use Rattle.ksql_analyse.proofs.unique.Behind.{Done}
 use Rattle.ksql_analyse.proofs.judgement.analyse.Given as goal
 
 abbrev pub invariant-loop-index : goal.invariant-loop-index

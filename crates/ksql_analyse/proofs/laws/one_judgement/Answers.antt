@@ -1,4 +1,4 @@
-use Rattle.ksql_analyse.proofs.Unique.{unique-program, unique-refusal, not-both}
+use Rattle.ksql_analyse.proofs.unique.Unique.{unique-program, unique-refusal, not-both}
 use Rattle.ksql_analyse.proofs.laws.one_judgement.Goals as goal
 
 pub returns : goal.returns

@@ -1,4 +1,4 @@
-use Rattle.ksql_analyse.proofs.SomeJudgement.{program-or-refusal}
+use Rattle.ksql_analyse.proofs.some.SomeJudgement.{program-or-refusal}
 use Rattle.ksql_analyse.proofs.laws.some_judgement.Goals as goal
 
 pub returns : goal.returns

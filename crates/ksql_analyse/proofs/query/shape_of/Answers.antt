@@ -3,7 +3,7 @@ use Rattle.ksql_clauses.specs.declared.items.Named.{Named}
 use Rattle.ksql_scope.specs.declared.scope.Scope.{Scope}
 use Rattle.ksql_clauses.specs.Sources.{item_scope}
 use Rattle.ksql_analyse.specs.Typable.{IsValued}
-use Rattle.ksql_analyse.proofs.ValuedTrees.{keys-lent, values-lent}
+use Rattle.ksql_analyse.proofs.forms.ValuedTrees.{keys-lent, values-lent}
 use Rattle.ksql_analyse.proofs.query.shape_of.Goals as goal
 
 pub plain_shape-requires-clause-valued_keys : goal.plain_shape-requires-clause-valued_keys

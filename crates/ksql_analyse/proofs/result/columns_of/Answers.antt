@@ -1,7 +1,7 @@
 use Rattle.std.proofs.Common.{◌≤◌, ◌∙◌, map, length, sym, ap, arith, Some}
 use Rattle.std.proofs.lemmas.List.{length-map}
 use Rattle.std.proofs.lemmas.Simd.{map-map}
-use Rattle.ksql_analyse.proofs.Pushing.{all-taken}
+use Rattle.ksql_analyse.proofs.lists.Pushing.{all-taken}
 use Rattle.ksql_analyse.proofs.result.columns_of.Goals as goal
 
 pub returns : goal.returns

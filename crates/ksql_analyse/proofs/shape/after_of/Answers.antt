@@ -1,7 +1,7 @@
 use Rattle.std.proofs.Common.{◌∙◌, ap, map, subst, sym}
 use Rattle.ksql_trees.specs.Grouped.{after}
 use Rattle.ksql_analyse.specs.Typable.{AreColumnTrees}
-use Rattle.ksql_analyse.proofs.ValuedTrees.{trees-after}
+use Rattle.ksql_analyse.proofs.forms.ValuedTrees.{trees-after}
 use Rattle.ksql_analyse.proofs.shape.after_of.Goals as goal
 
 pub returns-clause-having : goal.returns-clause-having

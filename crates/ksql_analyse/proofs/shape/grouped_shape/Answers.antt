@@ -1,13 +1,13 @@
 use Rattle.std.proofs.Common.{◌≡◌, ◌∙◌, ◌+◌, ◌^◌, ◌≤◌, All, List, Option, length, ap, ap₂, arith, map, subst, sym}
-use Rattle.ksql_grammar.specs.declared.tree.Expr.{Expr}
+use Rattle.ksql_expressions.specs.declared.tree.Expr.{Expr}
 use Rattle.ksql_scope.specs.declared.scope.Scope.{Scope}
 use Rattle.ksql_clauses.specs.Sources.{there}
 use Rattle.ksql_rules.specs.Breaks.{key_columns}
 use Rattle.ksql_analyse.specs.Judgement.{AreAggs, AreTypedTrees, exprs, grouped_columns}
 use Rattle.ksql_analyse.specs.Typable.{AreColumnTrees, IsAggregable, IsTypable, IsValued}
-use Rattle.ksql_analyse.proofs.GroupedShapes.{columns-few, grouped-made}
-use Rattle.ksql_analyse.proofs.Moving.{moved-two}
-use Rattle.ksql_analyse.proofs.ValuedTrees.{trees-counted}
+use Rattle.ksql_analyse.proofs.accepted.GroupedShapes.{columns-few, grouped-made}
+use Rattle.ksql_analyse.proofs.lists.Moving.{moved-two}
+use Rattle.ksql_analyse.proofs.forms.ValuedTrees.{trees-counted}
 use Rattle.ksql_analyse.proofs.shape.grouped_shape.Goals as goal
 
 pub trees_of-requires-clause-valued : goal.trees_of-requires-clause-valued

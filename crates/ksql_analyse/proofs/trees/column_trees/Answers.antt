@@ -4,8 +4,8 @@ use denote.Bor.{Bor}
 use Rattle.ksql_clauses.specs.declared.items.Named.{Named}
 use Rattle.ksql_analyse.specs.Judgement.{AreTypedTrees, exprs}
 use Rattle.ksql_analyse.specs.Typable.{IsValued}
-use Rattle.ksql_analyse.proofs.Pushing.{all-taken, column-trees-next}
-use Rattle.ksql_analyse.proofs.ValuedTrees.{own-trees}
+use Rattle.ksql_analyse.proofs.lists.Pushing.{all-taken, column-trees-next}
+use Rattle.ksql_analyse.proofs.forms.ValuedTrees.{own-trees}
 use Rattle.ksql_analyse.proofs.trees.column_trees.Goals as goal
 
 pub tree_of-requires-clause-typable : goal.tree_of-requires-clause-typable

@@ -1,10 +1,10 @@
 use Rattle.std.proofs.Common.{List, arith, subst, sym}
 use Rattle.std.proofs.lemmas.List.Elements.{All-get_or}
-use Rattle.ksql_grammar.specs.declared.tree.Expr.{Expr}
+use Rattle.ksql_expressions.specs.declared.tree.Expr.{Expr}
 use Rattle.ksql_analyse.specs.Judgement.{AreTypedTrees}
 use Rattle.ksql_analyse.specs.Typable.{IsValued}
-use Rattle.ksql_analyse.proofs.Pushing.{all-taken, trees-next}
-use Rattle.ksql_analyse.proofs.ValuedTrees.{trees-valued}
+use Rattle.ksql_analyse.proofs.lists.Pushing.{all-taken, trees-next}
+use Rattle.ksql_analyse.proofs.forms.ValuedTrees.{trees-valued}
 use Rattle.ksql_analyse.proofs.trees.trees_of.Goals as goal
 
 pub tree_of-requires-clause-typable : goal.tree_of-requires-clause-typable

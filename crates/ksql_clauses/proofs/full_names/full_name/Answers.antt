@@ -1,11 +1,11 @@
 use Rattle.std.proofs.Common.{◌≡◌, if◌then◌else◌, Bool, Option, Some, None, ap, sym, ◌∙◌}
 use Rattle.std.specs.Prelude.{find}
-use Rattle.ksql_grammar.specs.declared.tree.Expr.{Expr}
-use Rattle.ksql_grammar.specs.declared.tree.Expr.TheVariants as e
+use Rattle.ksql_expressions.specs.declared.tree.Expr.{Expr}
+use Rattle.ksql_expressions.specs.declared.tree.Expr.TheVariants as e
 use Rattle.ksql_scope.specs.declared.scope.ScopeColumn.{ScopeColumn}
 use Rattle.ksql_clauses.specs.Resolved.{full_name, is_row_time}
 use Rattle.ksql_scope.specs.Scope.{is_known_as}
-use Rattle.ksql_walks.proofs.Becoming.{moved}
+use Rattle.ksql_expressions.proofs.Becoming.{moved}
 use Rattle.ksql_clauses.proofs.Resolving.{written_by, written-found}
 use Rattle.ksql_clauses.proofs.full_names.full_name.Goals as goal
 

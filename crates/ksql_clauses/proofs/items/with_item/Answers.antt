@@ -1,5 +1,5 @@
 use Rattle.std.proofs.Common.{◌≡◌, ◌++◌, ◌∷◌, [], Some, None, ap, sym, ◌∙◌}
-use Rattle.ksql_grammar.specs.declared.tree.SelectItem.TheVariants.{One}
+use Rattle.ksql_statements.specs.declared.tree.SelectItem.TheVariants.{One}
 use Rattle.ksql_clauses.specs.Items.{named, named_from, all_stars, stars_of}
 use Rattle.ksql_clauses.specs.Resolved.{resolved}
 use Rattle.ksql_clauses.proofs.Naming.{appended, from-Star, from-StarOf, from-alias}

@@ -1,7 +1,9 @@
-use Rattle.std.proofs.Common.{rules}
+use Rattle.std.proofs.Common.{rules, List, IfSome, subst, sym}
+use Rattle.ksql_types.specs.declared.relation.Relation.{Relation}
 use Rattle.ksql_cli.specs.Command.{topic_file}
 use Rattle.ksql_cli.specs.Run.{declared_of}
-use Rattle.ksql_cli.proofs.TopicLaws.{all_caused, all_due, all_found, all_joined, declared_first, rest_feedable, rest_of}
+use Rattle.ksql_cli.specs.Steps.{AreTopicsDue}
+use Rattle.ksql_cli.proofs.TopicLaws.{all_caused, all_due, all_found, all_joined, declared_first, declared_later, rest_feedable, rest_of}
 use Rattle.ksql_cli.proofs.topics.+read_topics.Goals as goal
 
 pub read_topics-requires-in-Ok : goal.read_topics-requires-in-Ok
@@ -47,3 +49,11 @@ returns-in-Ok-clause-reads g t c =
     (g.F.Folder.failed c.args.folder.now) (g.F.Folder.failed c.with_topic.new.folder) (g.F.Folder.failed c.read_topics-in-Ok.new.folder)
     (declared_first c.args.items.now c.first-item.result c.in-Declared.relation c.in-len1-up.len_at_least c.first-item.is c.in-Declared.is)
     c.in-Ok.ensures.same_files c.in-Ok.ensures.found c.in-Ok.ensures.grows c.read_topics-in-Ok.ensures.reads
+
+pub returns-in_default-first-clause-reads : goal.returns-in_default-first-clause-reads
+returns-in_default-first-clause-reads g t c =
+    subst
+    (λ (rs : List Relation). IfSome (g.F.Folder.files c.args.folder.now)
+    (λ all. AreTopicsDue c.args.dir.now all c.args.reading.room rs (g.F.Folder.failed c.args.folder.now) (g.F.Folder.failed c.read_topics.new.folder)))
+    (sym (declared_later c.args.items.now c.first-item.result c.in_default-first.field-0 c.in-len1-up.len_at_least c.first-item.is c.in_default-first.is))
+    c.read_topics.ensures.reads

@@ -1,6 +1,6 @@
 use Rattle.std.proofs.Common.{◌≡◌, drop}
 use Rattle.std.specs.List.{list_any}
-use Rattle.ksql_grouping.specs.Same.{same_expr}
+use Rattle.ksql_expressions.specs.Same.{same_expr}
 use Rattle.ksql_grouping.proofs.columns.is_found.Given as goal
 
 -- what is left decides

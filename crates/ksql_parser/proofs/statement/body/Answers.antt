@@ -4,7 +4,7 @@ use Rattle.ksql_lexer.specs.declared.token.Mark.TheVariants as mark
 use Rattle.ksql_grammar.specs.declared.symbol.Symbol.TheVariants.{Sign}
 use Rattle.ksql_grammar.specs.Expressions.{behind_sign}
 use Rattle.ksql_parser.specs.Statements.{SpellsDeclared, SpellsQuery, SpellsBody}
-use Rattle.ksql_parser.proofs.Steps.{if_some, sign_found}
+use Rattle.ksql_grammar.proofs.Steps.{if_some, sign_found}
 use Rattle.ksql_parser.proofs.Wholes.{declared_body, query_body, body_declared, body_query}
 use Rattle.ksql_parser.proofs.statement.body.Goals as goal
 

@@ -3,10 +3,11 @@ use Rattle.std.proofs.lemmas.Result.{err_from_is_err_and}
 use Rattle.ksql_lexer.specs.declared.token.Mark.TheVariants as mark
 use Rattle.ksql_grammar.specs.declared.symbol.Keyword.TheVariants as key
 use Rattle.ksql_grammar.specs.declared.symbol.Symbol.TheVariants.{Key, Sign}
-use Rattle.ksql_grammar.specs.declared.tree.StatementBody.TheVariants.{Declared}
+use Rattle.ksql_statements.specs.declared.tree.StatementBody.TheVariants.{Declared}
 use Rattle.ksql_grammar.specs.Reading.{with_rest}
 use Rattle.ksql_grammar.specs.Expressions.{behind_key, behind_sign}
-use Rattle.ksql_parser.proofs.Steps.{behind, along, if_some, key_found, sign_found, failed, same_read}
+use Rattle.ksql_parser.proofs.Steps.{behind, along, failed, same_read}
+use Rattle.ksql_grammar.proofs.Steps.{if_some, key_found, sign_found}
 use Rattle.ksql_parser.proofs.Readings.{sign_read, key_read, sign_unread, key_unread}
 use Rattle.ksql_parser.proofs.Bodies.{declared_parts}
 use Rattle.ksql_parser.proofs.statement.declared.Goals as goal

@@ -3,11 +3,12 @@ use Rattle.std.proofs.lemmas.Bool.{false≢true, eq-eqb, eqb-true}
 use Rattle.std.proofs.lemmas.List.{nil_from_length}
 use Rattle.std.proofs.lemmas.Result.{err_from_is_err_and}
 use Rattle.ksql_grammar.specs.declared.symbol.Symbol.{Symbol}
-use Rattle.ksql_grammar.specs.declared.tree.Statement.{Statement}
-use Rattle.ksql_grammar.specs.declared.tree.StatementBody.{StatementBody}
+use Rattle.ksql_statements.specs.declared.tree.Statement.{Statement}
+use Rattle.ksql_statements.specs.declared.tree.StatementBody.{StatementBody}
 use Rattle.ksql_grammar.specs.Reading.{with_rest}
 use Rattle.ksql_parser.specs.Statements as r
-use Rattle.ksql_parser.proofs.Steps.{failed, if_some, same_read}
+use Rattle.ksql_parser.proofs.Steps.{failed, same_read}
+use Rattle.ksql_grammar.proofs.Steps.{if_some}
 use Rattle.ksql_parser.proofs.Found.{Head, head_found}
 use Rattle.ksql_parser.proofs.Calls.{failed_at, same_at}
 use Rattle.ksql_parser.proofs.Wholes.{body_of, statement_found, statement_read}

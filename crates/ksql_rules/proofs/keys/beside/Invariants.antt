@@ -1,5 +1,5 @@
 use Rattle.std.proofs.Common.{◌≡◌, ◌++◌, Some, map, drop}
-use Rattle.ksql_grammar.specs.declared.tree.Expr.TheVariants as e
+use Rattle.ksql_expressions.specs.declared.tree.Expr.TheVariants as e
 use Rattle.ksql_rules.specs.Keys.{beside, key_exprs}
 use Rattle.ksql_rules.proofs.keys.beside.Given as goal
 

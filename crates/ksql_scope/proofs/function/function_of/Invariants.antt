@@ -1,5 +1,5 @@
 use Rattle.std.proofs.Common.{◌≡◌, length, map}
-use Rattle.ksql_grammar.specs.Symbols.{beside}
+use Rattle.ksql_expressions.specs.Words.{beside}
 use Rattle.ksql_scope.specs.Functions.{function_of}
 use Rattle.ksql_scope.proofs.function.function_of.Given as goal
 

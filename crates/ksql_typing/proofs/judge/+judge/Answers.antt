@@ -1,7 +1,7 @@
 use Rattle.std.proofs.Common.{◌≡◌, ◌<◌, ◌&&◌, true, nat_le, IfOk, length, map, take, not, ap, ap₂, sym, ◌∙◌, subst, arith}
 use Rattle.std.proofs.lemmas.Bool.Decides.{nat_tests}
 use Rattle.std.specs.List.{sum_by}
-use Rattle.ksql_grammar.specs.declared.tree.Expr.TheVariants as ex
+use Rattle.ksql_expressions.specs.declared.tree.Expr.TheVariants as ex
 use Rattle.ksql_scope.specs.Functions.{is_aggregate}
 use Rattle.ksql_scope.specs.Scope.{seen}
 use Rattle.ksql_scope.specs.Uses.{is_small, are_small, are_whens_small}
@@ -21,7 +21,7 @@ judge-digits-requires t c =
 pub judge-returns-in-Digits : goal.judge-returns-in-Digits
 judge-returns-in-Digits t c =
     let s = seen c.args.windowed c.args.scope.now in
-    c.digits.ensures ∙ of_form c.args.expr.now (ex.Digits c.in-Digits.number) s c.in-Digits.is (judged-Digits c.in-Digits.number s)
+    moved c.digits.result (of_form c.args.expr.now (ex.Digits c.in-Digits.number) s c.in-Digits.is (judged-Digits c.in-Digits.number s)) c.digits.ensures
 
 pub judge-returns-in-Text : goal.judge-returns-in-Text
 judge-returns-in-Text t c =
@@ -31,17 +31,17 @@ judge-returns-in-Text t c =
 pub judge-returns-in-Truth : goal.judge-returns-in-Truth
 judge-returns-in-Truth t c =
     let s = seen c.args.windowed c.args.scope.now in
-    c.truth.ensures ∙ of_form c.args.expr.now (ex.Truth c.in-Truth.truth) s c.in-Truth.is (judged-Truth c.in-Truth.truth s)
+    moved c.truth.result (of_form c.args.expr.now (ex.Truth c.in-Truth.truth) s c.in-Truth.is (judged-Truth c.in-Truth.truth s)) c.truth.ensures
 
 pub judge-returns-in-Null : goal.judge-returns-in-Null
 judge-returns-in-Null t c =
     let s = seen c.args.windowed c.args.scope.now in
-    c.null.ensures ∙ of_form c.args.expr.now ex.Null s c.in-Null.is (judged-Null s)
+    moved c.null.result (of_form c.args.expr.now ex.Null s c.in-Null.is (judged-Null s)) c.null.ensures
 
 pub judge-returns-in-Name : goal.judge-returns-in-Name
 judge-returns-in-Name t c =
     let s = seen c.args.windowed c.args.scope.now in
-    c.name.ensures ∙ of_form c.args.expr.now (ex.Name c.in-Name.qualifier c.in-Name.name) s c.in-Name.is (judged-Name c.in-Name.qualifier c.in-Name.name s)
+    moved c.name.result (of_form c.args.expr.now (ex.Name c.in-Name.qualifier c.in-Name.name) s c.in-Name.is (judged-Name c.in-Name.qualifier c.in-Name.name s)) c.name.ensures
 
 pub judge-judge-requires : goal.judge-judge-requires
 judge-judge-requires t c =

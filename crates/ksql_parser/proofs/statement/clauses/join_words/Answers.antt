@@ -1,6 +1,6 @@
 use Rattle.std.proofs.Common.{sym}
 use Rattle.ksql_grammar.specs.declared.symbol.Keyword.TheVariants as key
-use Rattle.ksql_grammar.specs.declared.tree.JoinWord.TheVariants as how
+use Rattle.ksql_statements.specs.declared.tree.JoinWord.TheVariants as how
 use Rattle.ksql_parser.specs.Queries.{behind_join}
 use Rattle.ksql_parser.proofs.Joins.{left_at, full_at, inner_words, words_none, words_some}
 use Rattle.ksql_parser.proofs.statement.clauses.join_words.Goals as goal

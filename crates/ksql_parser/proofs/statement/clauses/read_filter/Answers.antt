@@ -2,9 +2,10 @@ use Rattle.std.proofs.Common.{◌≡◌, List, [], ◌∷◌, sym}
 use Rattle.std.proofs.lemmas.Result.{err_from_is_err_and}
 use Rattle.ksql_grammar.specs.declared.symbol.Keyword.TheVariants as key
 use Rattle.ksql_grammar.specs.declared.symbol.Symbol.TheVariants.{Key}
-use Rattle.ksql_grammar.specs.Grammar.{no_filter, a_filter}
+use Rattle.ksql_parser.specs.Grammar.{no_filter, a_filter}
 use Rattle.ksql_grammar.specs.Expressions.{behind_key}
-use Rattle.ksql_parser.proofs.Steps.{behind, copied_of, key_found}
+use Rattle.ksql_parser.proofs.Steps.{behind, copied_of}
+use Rattle.ksql_grammar.proofs.Steps.{key_found}
 use Rattle.ksql_parser.proofs.Only.{filter_absent, filter_there, clause_read, clause_failed}
 use Rattle.ksql_parser.proofs.statement.clauses.read_filter.Goals as goal
 

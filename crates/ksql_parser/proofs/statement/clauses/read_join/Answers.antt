@@ -4,16 +4,18 @@ use Rattle.std.proofs.lemmas.Result.{err_from_is_err_and}
 use Rattle.ksql_grammar.specs.declared.symbol.Keyword.TheVariants as key
 use Rattle.ksql_grammar.specs.declared.symbol.Symbol.{Symbol}
 use Rattle.ksql_grammar.specs.declared.symbol.Symbol.TheVariants.{Key}
-use Rattle.ksql_grammar.specs.declared.tree.Expr.{Expr}
-use Rattle.ksql_grammar.specs.declared.tree.JoinText.{JoinText}
-use Rattle.ksql_grammar.specs.declared.tree.JoinWord.{JoinWord}
-use Rattle.ksql_grammar.specs.declared.tree.Source.{Source}
-use Rattle.ksql_grammar.specs.Grammar as g
-use Rattle.ksql_grammar.specs.Grammar.{Spells, no_join, a_join}
+use Rattle.ksql_expressions.specs.declared.tree.Expr.{Expr}
+use Rattle.ksql_statements.specs.declared.tree.JoinText.{JoinText}
+use Rattle.ksql_statements.specs.declared.tree.JoinWord.{JoinWord}
+use Rattle.ksql_statements.specs.declared.tree.Source.{Source}
+use Rattle.ksql_parser.specs.Grammar as g
+use Rattle.ksql_parser.specs.Grammar.{Spells, no_join, a_join}
 use Rattle.ksql_grammar.specs.Reading.{with_rest}
 use Rattle.ksql_grammar.specs.Expressions.{behind_key}
 use Rattle.ksql_parser.specs.Statements as r
-use Rattle.ksql_parser.proofs.Steps.{behind, along, failed, if_some, key_found, same_read}
+use Rattle.ksql_grammar.proofs.Found.{behind}
+use Rattle.ksql_parser.proofs.Steps.{along, failed, same_read}
+use Rattle.ksql_grammar.proofs.Steps.{if_some, key_found}
 use Rattle.ksql_parser.proofs.Found.{join_words_found, source_found}
 use Rattle.ksql_parser.proofs.Calls.{failed_at, same_at}
 use Rattle.ksql_parser.proofs.Joins.{join_absent, join_there, join_read}

@@ -2,7 +2,7 @@ use Rattle.std.proofs.Common.{◌≡◌, List, [], ◌∷◌, sym}
 use Rattle.std.proofs.lemmas.Result.{err_from_is_err_and}
 use Rattle.ksql_grammar.specs.declared.symbol.Keyword.TheVariants as key
 use Rattle.ksql_grammar.specs.declared.symbol.Symbol.TheVariants.{Key}
-use Rattle.ksql_grammar.specs.Grammar.{no_partition, a_partition}
+use Rattle.ksql_parser.specs.Grammar.{no_partition, a_partition}
 use Rattle.ksql_parser.specs.Statements.{behind_by}
 use Rattle.ksql_parser.proofs.Steps.{behind, copied_of, by_found}
 use Rattle.ksql_parser.proofs.Only.{partition_absent, partition_there, clause_read, clause_failed}

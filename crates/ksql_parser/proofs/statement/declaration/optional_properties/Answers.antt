@@ -2,9 +2,10 @@ use Rattle.std.proofs.Common.{◌≡◌, ◌∷◌, refl, rules}
 use Rattle.std.proofs.lemmas.Result.{IfOk-weaker}
 use Rattle.ksql_grammar.specs.declared.symbol.Keyword.TheVariants as key
 use Rattle.ksql_grammar.specs.declared.symbol.Symbol.TheVariants.{Key}
-use Rattle.ksql_grammar.specs.Grammar.{Spells, props, with_props, some_props}
+use Rattle.ksql_parser.specs.Grammar.{Spells, props, with_props, some_props}
 use Rattle.ksql_grammar.specs.Expressions.{behind_key}
-use Rattle.ksql_parser.proofs.Steps.{behind, copied_of, key_found}
+use Rattle.ksql_parser.proofs.Steps.{behind, copied_of}
+use Rattle.ksql_grammar.proofs.Steps.{key_found}
 use Rattle.ksql_parser.proofs.Bodies.{no_with, with_there, with_absent}
 use Rattle.ksql_parser.proofs.statement.declaration.optional_properties.Goals as goal
 

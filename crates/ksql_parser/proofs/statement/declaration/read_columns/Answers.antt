@@ -2,15 +2,15 @@ use Rattle.std.proofs.Common.{◌∷◌, suc, refl, sym, ap, ◌∙◌, length, 
 use Rattle.std.proofs.lemmas.Result.{err_from_is_err_and}
 use Rattle.ksql_lexer.specs.declared.token.Mark.TheVariants.{Comma, Close}
 use Rattle.ksql_grammar.specs.declared.symbol.Symbol.TheVariants.{Sign}
-use Rattle.ksql_grammar.specs.Grammar as g
-use Rattle.ksql_grammar.specs.Grammar.{Spells}
+use Rattle.ksql_parser.specs.Grammar as g
+use Rattle.ksql_parser.specs.Grammar.{Spells}
 use Rattle.ksql_grammar.specs.Reading.{with_rest}
 use Rattle.ksql_grammar.specs.Expressions.{behind_sign, list_of}
 use Rattle.ksql_grammar.proofs.Chains.{with_front, list_fails, list_last, list_goes}
 use Rattle.ksql_grammar.proofs.Errors.{gives_err}
 use Rattle.ksql_grammar.proofs.Whole.{sign_fewer}
 use Rattle.ksql_parser.specs.Statements.{column}
-use Rattle.ksql_parser.proofs.Steps.{if_some}
+use Rattle.ksql_grammar.proofs.Steps.{if_some}
 use Rattle.ksql_parser.proofs.Declared.{column_takes, columns_found, columns_only}
 use Rattle.ksql_parser.proofs.statement.declaration.read_columns.Goals as goal
 

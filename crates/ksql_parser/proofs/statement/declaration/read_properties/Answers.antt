@@ -2,10 +2,11 @@ use Rattle.std.proofs.Common.{◌≡◌, ◌∷◌, Some, sym}
 use Rattle.std.proofs.lemmas.Result.{err_from_is_err_and}
 use Rattle.ksql_lexer.specs.declared.token.Mark.TheVariants as mark
 use Rattle.ksql_grammar.specs.declared.symbol.Symbol.TheVariants.{Sign}
-use Rattle.ksql_grammar.specs.Grammar.{all_props}
+use Rattle.ksql_parser.specs.Grammar.{all_props}
 use Rattle.ksql_grammar.specs.Reading.{with_rest}
 use Rattle.ksql_grammar.specs.Expressions.{behind_sign}
-use Rattle.ksql_parser.proofs.Steps.{behind, along, if_some, sign_found, failed, same_read}
+use Rattle.ksql_parser.proofs.Steps.{behind, along, failed, same_read}
+use Rattle.ksql_grammar.proofs.Steps.{if_some, sign_found}
 use Rattle.ksql_parser.proofs.Readings.{sign_read, sign_unread}
 use Rattle.ksql_parser.proofs.Bodies.{props_parts}
 use Rattle.ksql_parser.proofs.statement.declaration.read_properties.Goals as goal

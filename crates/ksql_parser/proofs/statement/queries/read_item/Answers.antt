@@ -4,15 +4,16 @@ use Rattle.std.proofs.lemmas.Result.{err_from_is_err_and}
 use Rattle.ksql_lexer.specs.declared.token.Mark.TheVariants as mark
 use Rattle.ksql_grammar.specs.declared.symbol.Symbol.{Symbol}
 use Rattle.ksql_grammar.specs.declared.symbol.Symbol.TheVariants.{Sign}
-use Rattle.ksql_grammar.specs.declared.tree.Expr.{Expr}
-use Rattle.ksql_grammar.specs.declared.tree.SelectItem.{SelectItem}
-use Rattle.ksql_grammar.specs.declared.tree.SelectItem.TheVariants.{StarOf, One}
-use Rattle.ksql_grammar.specs.Grammar as g
-use Rattle.ksql_grammar.specs.Grammar.{Spells, star, one}
+use Rattle.ksql_expressions.specs.declared.tree.Expr.{Expr}
+use Rattle.ksql_statements.specs.declared.tree.SelectItem.{SelectItem}
+use Rattle.ksql_statements.specs.declared.tree.SelectItem.TheVariants.{StarOf, One}
+use Rattle.ksql_parser.specs.Grammar as g
+use Rattle.ksql_parser.specs.Grammar.{Spells, star, one}
 use Rattle.ksql_grammar.specs.Reading.{with_rest}
 use Rattle.ksql_grammar.specs.Expressions.{behind_sign}
 use Rattle.ksql_parser.specs.Statements as r
-use Rattle.ksql_parser.proofs.Steps.{behind, copied_of, failed, if_some, same_read, sign_found}
+use Rattle.ksql_parser.proofs.Steps.{behind, copied_of, failed, same_read}
+use Rattle.ksql_grammar.proofs.Steps.{if_some, sign_found}
 use Rattle.ksql_parser.proofs.Found.{alias_found, star_of_found}
 use Rattle.ksql_parser.proofs.Only.{both}
 use Rattle.ksql_parser.proofs.Calls.{failed_at, same_at}

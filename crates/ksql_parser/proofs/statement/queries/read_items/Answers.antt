@@ -4,12 +4,13 @@ use Rattle.ksql_lexer.specs.declared.token.Mark.TheVariants as mark
 use Rattle.ksql_grammar.specs.declared.symbol.Keyword.TheVariants as key
 use Rattle.ksql_grammar.specs.declared.symbol.Symbol.{Symbol}
 use Rattle.ksql_grammar.specs.declared.symbol.Symbol.TheVariants.{Key, Sign}
-use Rattle.ksql_grammar.specs.declared.tree.SelectItem.{SelectItem}
-use Rattle.ksql_grammar.specs.Grammar.{Spells, items, last_item}
+use Rattle.ksql_statements.specs.declared.tree.SelectItem.{SelectItem}
+use Rattle.ksql_parser.specs.Grammar.{Spells, items, last_item}
 use Rattle.ksql_grammar.specs.Reading.{with_rest}
 use Rattle.ksql_grammar.specs.Expressions.{behind_sign}
 use Rattle.ksql_grammar.proofs.Whole.{sign_fewer}
-use Rattle.ksql_parser.proofs.Steps.{along, failed, if_some, sign_found}
+use Rattle.ksql_parser.proofs.Steps.{along, failed}
+use Rattle.ksql_grammar.proofs.Steps.{if_some, sign_found}
 use Rattle.ksql_parser.proofs.Only.{both}
 use Rattle.ksql_parser.proofs.Items.{FrontSpelled, FrontOnly, OnlyItem, item_takes, spelled_more, only_more, only_last, next_item}
 use Rattle.ksql_parser.proofs.statement.queries.read_items.Goals as goal

@@ -1,7 +1,7 @@
 use Rattle.std.proofs.Common.{◌≡◌, List, [], Option, Some, refl, sym, subst}
 use Rattle.std.proofs.lemmas.Result.{err_from_is_err_and}
 use Rattle.ksql_grammar.specs.declared.symbol.Symbol.{Symbol}
-use Rattle.ksql_grammar.specs.declared.tree.Select.{Select}
+use Rattle.ksql_statements.specs.declared.tree.Select.{Select}
 use Rattle.ksql_grammar.specs.Reading.{with_rest}
 use Rattle.ksql_parser.specs.declared.statement.queries.Front.{Front}
 use Rattle.ksql_parser.specs.declared.statement.queries.Clauses.{Clauses}

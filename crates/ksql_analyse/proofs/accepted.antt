@@ -1,0 +1,9 @@
+pub mod FewAggregates
+pub mod GroupedQueries
+pub mod GroupedShapes
+pub mod ItemNeeds
+pub mod PlainColumns
+pub mod PlainScopes
+pub mod ReadQueries
+pub mod Refusals
+pub mod TypedQueries

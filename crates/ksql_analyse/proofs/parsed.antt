@@ -1,0 +1,2 @@
+pub mod FewCalls
+pub mod Parsed

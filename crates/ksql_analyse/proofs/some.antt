@@ -1,0 +1,5 @@
+pub mod Decided
+pub mod SomeItem
+pub mod SomeJudgement
+pub mod SomeShape
+pub mod SomeTrees

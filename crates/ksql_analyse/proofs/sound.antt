@@ -1,0 +1,15 @@
+pub mod Kept
+pub mod SoundAggregates
+pub mod SoundColumns
+pub mod SoundDeclared
+pub mod SoundGroup
+pub mod SoundGrouped
+pub mod SoundJoin
+pub mod SoundOn
+pub mod SoundPlain
+pub mod SoundPrograms
+pub mod SoundQuery
+pub mod SoundReading
+pub mod SoundResult
+pub mod SoundSources
+pub mod SoundTrees

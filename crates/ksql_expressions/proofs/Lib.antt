@@ -1,0 +1,8 @@
+pub mod Becoming
+pub mod Equality
+pub mod Folds
+pub mod Forms
+pub mod Passing
+pub mod Sameness
+pub mod Unchanged
+pub mod Words

@@ -1,0 +1,8 @@
+-- What may be missing.
+use Rattle.std.specs.Prelude.{Option, Some, None}
+
+-- what a value gives, where there is one
+infixl 10 ◌>>=◌
+abbrev pub ◌>>=◌ : {A B : Type 0} → Option A → (A → Option B) → Option B
+None >>= f = None
+(Some x) >>= f = f x
