@@ -4,7 +4,7 @@ use Rattle.std.specs.List.{AllByRecursion}
 use Rattle.ksql_expressions.specs.declared.tree.Expr.{Expr}
 use Rattle.ksql_statements.specs.declared.tree.StatementBody.{StatementBody}
 use Rattle.ksql_statements.specs.declared.tree.StatementBody.TheVariants.{Declared, Query}
-use Rattle.ksql_scope.specs.Uses.{calls}
+use Rattle.ksql_names.specs.Uses.{calls}
 use Rattle.ksql_clauses.specs.Sources.{late_exprs}
 
 -- an expression calls at most 2,000 functions

@@ -33,7 +33,7 @@ use Rattle.ksql_program.specs.declared.query.Query.{Query}
 use Rattle.ksql_program.specs.declared.query.Shape.{Shape}
 use Rattle.ksql_program.specs.declared.query.Shape.TheVariants as shape
 use Rattle.ksql_program.specs.Program.{relations}
-use Rattle.ksql_scope.specs.declared.scope.Scope.{Scope}
+use Rattle.ksql_names.specs.declared.scope.Scope.{Scope}
 use Rattle.ksql_rules.specs.Breaks.{topic_of, key_columns, value_columns, result_format, is_grouped, group_exprs, shown_exprs, is_key}
 use Rattle.ksql_grouping.specs.Grouping.{aggregates_of, once_from}
 use Rattle.ksql_trees.specs.Grouped.{after}
@@ -41,7 +41,7 @@ use Rattle.ksql_clauses.specs.declared.items.Named.{Named}
 use Rattle.ksql_rules.specs.Keys.{join_key}
 use Rattle.ksql_rules.specs.Lowest.{IsAccepted, IsRefused}
 use Rattle.ksql_clauses.specs.Properties.{topic_in, partitions_in, format_in}
-use Rattle.ksql_clauses.specs.Resolved.{resolved}
+use Rattle.ksql_names.specs.Resolved.{resolved}
 use Rattle.ksql_clauses.specs.declared.sources.Known.{Known}
 use Rattle.ksql_clauses.specs.Sources.{all_known, from_scope, item_scope, reads_stream}
 use Rattle.ksql_typing.specs.Standing.{IsTypedTree}

@@ -7,9 +7,9 @@ ghost use Rattle.ksql_analyse.specs.Readable.{IsReadable};
 
 use crate::trees::tree_of;
 use ksql_clauses::Known;
+use ksql_names::Scope;
 use ksql_program::{From, JoinKind};
 use ksql_rules::join_key;
-use ksql_scope::Scope;
 use ksql_statements::{JoinWord, Select};
 use std::alloc::{AllocError, Global};
 

@@ -2,7 +2,7 @@
 
 ghost use Rattle.std.specs.Prelude.{◌≡◌, ◌≤◌, ◌-◌, ◌^◌, ◌++◌, [], All, IfOk, length, map, option_map};
 ghost use Rattle.std.specs.List.{flat_map};
-ghost use Rattle.ksql_clauses.specs.Resolved.{resolved as resolved_in};
+ghost use Rattle.ksql_names.specs.Resolved.{resolved as resolved_in};
 ghost use Rattle.ksql_clauses.specs.Sources.{there};
 ghost use Rattle.ksql_grouping.specs.Grouping as groups;
 ghost use Rattle.ksql_expr.specs.declared.typed.TypedNode.TheVariants as node;
@@ -11,12 +11,12 @@ ghost use Rattle.ksql_analyse.specs.Judgement as spec;
 ghost use Rattle.ksql_analyse.specs.Typable.{IsAggregable, IsAggregateNode};
 
 use crate::trees::tree_of;
-use ksql_clauses::{Named, resolved};
+use ksql_clauses::Named;
 use ksql_expr::{Typed, TypedNode};
 use ksql_expressions::Expr;
 use ksql_grouping::{aggregates_of, once};
+use ksql_names::{Scope, resolved};
 use ksql_program::Agg;
-use ksql_scope::Scope;
 use ksql_trees::after;
 use ksql_types::{Boxed, CopyOf};
 use std::alloc::{AllocError, Global};

@@ -7,8 +7,8 @@ ghost use Rattle.ksql_rules.specs.Breaks as breaks;
 ghost use Rattle.ksql_rules.specs.Keys as keys;
 
 use ksql_clauses::{Known, Named, all_known, from_scope, item_scope, result_columns};
+use ksql_names::Scope;
 use ksql_rules::key_places;
-use ksql_scope::Scope;
 use ksql_statements::Select;
 use ksql_types::Catalog;
 use std::alloc::{AllocError, Global};

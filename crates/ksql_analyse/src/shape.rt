@@ -2,7 +2,7 @@
 
 ghost use Rattle.std.specs.Prelude.{◌≡◌, ◌≤◌, ◌-◌, ◌^◌, All, IfOk, IsTrue, false, length, map, not, option_map};
 ghost use Rattle.ksql_clauses.specs.Items as items;
-ghost use Rattle.ksql_clauses.specs.Resolved.{resolved as resolved_in};
+ghost use Rattle.ksql_names.specs.Resolved.{resolved as resolved_in};
 ghost use Rattle.ksql_clauses.specs.Windows as windows;
 ghost use Rattle.ksql_clauses.specs.Sources as sources;
 ghost use Rattle.ksql_rules.specs.Breaks as breaks;
@@ -17,8 +17,8 @@ use crate::trees::{column_trees, part_tree, trees_of};
 use ksql_clauses::{Named, window_of};
 use ksql_expr::{Typed, TypedNode};
 use ksql_expressions::Expr;
+use ksql_names::Scope;
 use ksql_program::{Agg, Shape};
-use ksql_scope::Scope;
 use ksql_statements::{Select, WindowText};
 use ksql_types::{Items, Window};
 use std::alloc::{AllocError, Global};

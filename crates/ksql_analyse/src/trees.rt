@@ -9,7 +9,7 @@ ghost use Rattle.ksql_analyse.specs.Typable.{AreColumnTrees, IsTypable, IsValue,
 use ksql_clauses::Named;
 use ksql_expr::Typed;
 use ksql_expressions::Expr;
-use ksql_scope::Scope;
+use ksql_names::Scope;
 use ksql_typing::{TypeFault, typed};
 use std::alloc::{AllocError, Global};
 

@@ -10,10 +10,10 @@ use Rattle.ksql_statements.specs.declared.tree.SelectItem.{SelectItem}
 use Rattle.ksql_statements.specs.declared.tree.SelectItem.TheVariants.{Star, StarOf, One}
 use Rattle.ksql_expressions.specs.declared.tree.WhenText.{WhenText}
 use Rattle.ksql_clauses.specs.declared.items.Named.{Named}
-use Rattle.ksql_scope.specs.declared.scope.Scope.{Scope}
+use Rattle.ksql_names.specs.declared.scope.Scope.{Scope}
 use Rattle.ksql_clauses.specs.declared.sources.Known.{Known}
 use Rattle.ksql_clauses.specs.Items.{plain_name, plain_step, column_name, named, named_from, numbered_name, all_stars, stars_of, without_alias}
-use Rattle.ksql_clauses.specs.Resolved.{resolved}
+use Rattle.ksql_names.specs.Resolved.{resolved}
 use Rattle.ksql_expressions.proofs.Folds as f
 
 -- ---- plain columns

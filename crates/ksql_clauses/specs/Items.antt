@@ -10,9 +10,9 @@ use Rattle.ksql_statements.specs.declared.tree.Select.{Select}
 use Rattle.ksql_statements.specs.declared.tree.SelectItem.{SelectItem}
 use Rattle.ksql_statements.specs.declared.tree.SelectItem.TheVariants.{Star, StarOf, One}
 use Rattle.ksql_types.specs.Columns.{columns}
-use Rattle.ksql_clauses.specs.Resolved.{resolved}
+use Rattle.ksql_names.specs.Resolved.{resolved}
 use Rattle.ksql_clauses.specs.declared.items.Named.{Named}
-use Rattle.ksql_scope.specs.declared.scope.Scope.{Scope}
+use Rattle.ksql_names.specs.declared.scope.Scope.{Scope}
 use Rattle.ksql_clauses.specs.declared.sources.Known.{Known}
 use Rattle.ksql_clauses.specs.Sources.{item_scope}
 

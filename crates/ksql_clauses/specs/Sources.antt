@@ -15,8 +15,8 @@ use Rattle.ksql_statements.specs.declared.tree.SelectItem.{SelectItem}
 use Rattle.ksql_statements.specs.declared.tree.SelectItem.TheVariants.{Star, StarOf, One}
 use Rattle.ksql_statements.specs.declared.tree.Source.{Source}
 use Rattle.ksql_types.specs.Columns.{columns}
-use Rattle.ksql_scope.specs.declared.scope.Scope.{Scope}
-use Rattle.ksql_scope.specs.declared.scope.ScopeColumn.{ScopeColumn}
+use Rattle.ksql_names.specs.declared.scope.Scope.{Scope}
+use Rattle.ksql_names.specs.declared.scope.ScopeColumn.{ScopeColumn}
 use Rattle.ksql_clauses.specs.declared.sources.Known.{Known}
 
 -- a source is known by its alias, or by its name

@@ -1,13 +1,11 @@
 //! The clauses of a query and of a declaration: sources, result columns, windows and properties.
 #![tactic(auto)]
 
-mod full_names;
 mod items;
 mod properties;
 mod sources;
 mod windows;
 
-pub use full_names::{first_known_as, full_name, is_known_as, is_row_time, resolved};
 pub use items::{Named, is_alias, is_join, made_name, result_columns};
 pub use properties::{are_bad, format_in, has_topic, is_word, partitions_in, topic_in, value_of};
 pub use sources::{

@@ -5,7 +5,7 @@ use Rattle.std.specs.List.{AllByRecursion as Each}
 use Rattle.ksql_expressions.specs.declared.tree.Expr.{Expr}
 use Rattle.ksql_expressions.specs.declared.tree.Expr.TheVariants as e
 use Rattle.ksql_expressions.specs.declared.tree.WhenText.{WhenText}
-use Rattle.ksql_scope.proofs.Induction.{IfThere, InWhen, induction}
+use Rattle.ksql_names.proofs.Induction.{IfThere, InWhen, induction}
 use Rattle.ksql_expressions.specs.Parts.{passes, any_of, any_perhaps}
 use Rattle.ksql_expressions.proofs.Passing as passed
 use Rattle.ksql_grouping.specs.declared.aggregates.Called.{Called}

@@ -8,7 +8,7 @@ use Rattle.ksql_types.specs.declared.value.SqlType.{SqlType}
 use Rattle.ksql_expressions.specs.declared.tree.Expr.{Expr}
 use Rattle.ksql_expressions.specs.declared.tree.Expr.TheVariants as e
 use Rattle.ksql_expressions.specs.declared.tree.WhenText.{WhenText}
-use Rattle.ksql_scope.specs.Uses.{calls, calls_step, of_when, all_of, perhaps}
+use Rattle.ksql_names.specs.Uses.{calls, calls_step, of_when, all_of, perhaps}
 use Rattle.ksql_expressions.specs.Parts.{any_of, any_perhaps}
 use Rattle.ksql_expressions.proofs.Folds as folds
 use Rattle.ksql_expressions.proofs.Folds.{perhaps_folded}

@@ -6,7 +6,7 @@ use Rattle.ksql_types.specs.declared.value.SqlType.{SqlType}
 use Rattle.ksql_expressions.specs.declared.tree.Expr.{Expr}
 use Rattle.ksql_expressions.specs.declared.tree.Expr.TheVariants as e
 use Rattle.ksql_expressions.specs.declared.tree.WhenText.{WhenText}
-use Rattle.ksql_scope.specs.Uses.{gathered, all_of, perhaps}
+use Rattle.ksql_names.specs.Uses.{gathered, all_of, perhaps}
 use Rattle.ksql_grouping.specs.Grouping.{gives}
 use Rattle.ksql_expressions.proofs.Forms as p
 

@@ -7,9 +7,9 @@ use Rattle.ksql_expressions.specs.declared.tree.WhenText.{WhenText}
 use Rattle.ksql_types.specs.Names.{is_among}
 use Rattle.ksql_grouping.specs.declared.aggregates.Called.{Called}
 use Rattle.ksql_grouping.specs.declared.aggregates.Called.TheVariants.{Aggregate, Ordered, Unknown}
-use Rattle.ksql_scope.specs.Functions.{is_aggregate, is_unknown}
+use Rattle.ksql_names.specs.Functions.{is_aggregate, is_unknown}
 use Rattle.ksql_expressions.specs.Same.{same_expr}
-use Rattle.ksql_scope.specs.Uses.{gathered, calls}
+use Rattle.ksql_names.specs.Uses.{gathered, calls}
 use Rattle.ksql_expressions.specs.Parts.{decided_or, passes}
 
 -- the aggregates that a table has no place for

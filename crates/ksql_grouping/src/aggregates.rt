@@ -2,12 +2,12 @@
 
 ghost use Rattle.std.specs.Prelude.{◌≡◌, ◌++◌, IfOk, OnOk, map, option_map};
 ghost use Rattle.std.specs.List.{list_any};
-ghost use Rattle.ksql_scope.specs.Functions.{is_aggregate};
-ghost use Rattle.ksql_scope.specs.Uses.{all_of, calls, has_unknown_function, perhaps};
+ghost use Rattle.ksql_names.specs.Functions.{is_aggregate};
+ghost use Rattle.ksql_names.specs.Uses.{all_of, calls, has_unknown_function, perhaps};
 ghost use Rattle.ksql_grouping.specs.Grouping as spec;
 
 use ksql_expressions::{Decides, Expr, ExprTexts, WhenTexts, passes};
-use ksql_scope::{aggregate_of, function_of};
+use ksql_names::{aggregate_of, function_of};
 use ksql_types::{Boxed, Chars, CopyOf, is_among};
 use std::alloc::{AllocError, Global};
 

@@ -4,10 +4,10 @@ use Rattle.std.specs.Prelude.{◌↔◌}
 use Rattle.std.specs.List.{list_all}
 use Rattle.ksql_expressions.specs.declared.tree.Expr.{Expr}
 use Rattle.ksql_statements.specs.declared.tree.Select.{Select}
-use Rattle.ksql_scope.specs.declared.scope.Scope.{Scope}
-use Rattle.ksql_scope.specs.Possible.{is_some_in}
-use Rattle.ksql_scope.specs.Typing.{CanBeTrue, CanAgree, HasValue}
-use Rattle.ksql_scope.proofs.Sets.{both-true, and-true}
+use Rattle.ksql_names.specs.declared.scope.Scope.{Scope}
+use Rattle.ksql_type_sets.specs.Sets.{is_some_in}
+use Rattle.ksql_typing.specs.Typing.{CanBeTrue, CanAgree, HasValue}
+use Rattle.std.proofs.lemmas.Bool.{and_parts, and_from}
 use Rattle.ksql_typing.specs.Judged.{judged}
 use Rattle.ksql_typing.proofs.TypeLaws as law
 use Rattle.ksql_clauses.specs.declared.items.Named.{Named}
@@ -25,8 +25,8 @@ each-decided : {A : Type 0} (P : A → Type 0) (p : A → Bool) → ((x : A) →
 each-decided P p h [] = (λ k. tt, λ k. refl)
 each-decided P p h (x ∷ xs) =
     let others = each-decided P p h xs in (
-      λ k. let b = both-true (p x) (list_all p xs) k in ((h x).0 b.0, others.0 b.1),
-      λ k. and-true (p x) (list_all p xs) ((h x).1 k.0) (others.1 k.1),
+      λ k. let b = and_parts (p x) (list_all p xs) k in ((h x).0 b.0, others.0 b.1),
+      λ k. and_from (p x) (list_all p xs) ((h x).1 k.0) (others.1 k.1),
     )
 
 truth-decided : (s : Scope) (part : Option Expr) → IsTrue (fits_truth s part) ↔ IfThere (CanBeTrue s) part
@@ -52,11 +52,11 @@ module _ (q : Select) (ks : List Known) where
 
   is-typed : IsTrue ((early && late && fit) && last) → IsQueryTyped q ks
   is-typed h =
-      let a = both-true (early && late && fit) last h in
-      let b = both-true (early && late) fit a.0 in
-      let c = both-true early late b.0 in
-      let d = both-true (fits_truth (from_scope q ks) q.filter) (fits_truth (item_scope q ks) q.having) b.1 in
-      let e = both-true (list_all (is_valued (item_scope q ks)) (result_columns q ks)) (does_on_agree (from_scope q ks) q) a.1 in
+      let a = and_parts (early && late && fit) last h in
+      let b = and_parts (early && late) fit a.0 in
+      let c = and_parts early late b.0 in
+      let d = and_parts (fits_truth (from_scope q ks) q.filter) (fits_truth (item_scope q ks) q.having) b.1 in
+      let e = and_parts (list_all (is_valued (item_scope q ks)) (result_columns q ks)) (does_on_agree (from_scope q ks) q) a.1 in
       record {
         early = (each-decided _ (λ x. is_some_in (judged x (from_scope q ks)).types) (law.some_type (from_scope q ks)) (early_exprs q)).0 c.0;
         late = (each-decided _ (λ x. is_some_in (judged x (item_scope q ks)).types) (law.some_type (item_scope q ks)) (late_exprs q)).0 c.1;
@@ -68,15 +68,15 @@ module _ (q : Select) (ks : List Known) where
 
   typed-is : IsQueryTyped q ks → IsTrue ((early && late && fit) && last)
   typed-is h =
-      and-true (early && late && fit) last
-      (and-true (early && late) fit
-      (and-true early late
+      and_from (early && late && fit) last
+      (and_from (early && late) fit
+      (and_from early late
       ((each-decided _ (λ x. is_some_in (judged x (from_scope q ks)).types) (law.some_type (from_scope q ks)) (early_exprs q)).1 h.early)
       ((each-decided _ (λ x. is_some_in (judged x (item_scope q ks)).types) (law.some_type (item_scope q ks)) (late_exprs q)).1 h.late))
-      (and-true (fits_truth (from_scope q ks) q.filter) (fits_truth (item_scope q ks) q.having)
+      (and_from (fits_truth (from_scope q ks) q.filter) (fits_truth (item_scope q ks) q.having)
       ((truth-decided (from_scope q ks) q.filter).1 h.where_true)
       ((truth-decided (item_scope q ks) q.having).1 h.having_true)))
-      (and-true (list_all (is_valued (item_scope q ks)) (result_columns q ks)) (does_on_agree (from_scope q ks) q)
+      (and_from (list_all (is_valued (item_scope q ks)) (result_columns q ks)) (does_on_agree (from_scope q ks) q)
       ((each-decided _ (is_valued (item_scope q ks)) (λ x. law.value (item_scope q ks) x.expr) (result_columns q ks)).1 h.valued)
       ((each-decided _ (λ on. do_sides_agree (from_scope q ks) (on_sides on)) (λ on. sides-decided (from_scope q ks) (on_sides on)) (on_exprs q)).1 h.on_agrees))
 

@@ -8,14 +8,14 @@ use Rattle.ksql_expressions.specs.declared.tree.Expr.{Expr}
 use Rattle.ksql_expressions.specs.declared.tree.Expr.TheVariants as e
 use Rattle.ksql_expressions.specs.declared.tree.WhenText.{WhenText}
 use Rattle.ksql_clauses.specs.declared.sources.Known.{Known}
-use Rattle.ksql_scope.specs.declared.scope.Scope.{Scope}
-use Rattle.ksql_scope.specs.declared.scope.ScopeColumn.{ScopeColumn}
-use Rattle.ksql_scope.specs.Functions.{is_aggregate}
-use Rattle.ksql_scope.specs.Scope.{is_known_as, row_time}
-use Rattle.ksql_scope.specs.Uses.{Use, names, names_step, of_when, all_of, perhaps, in_aggregate}
+use Rattle.ksql_names.specs.declared.scope.Scope.{Scope}
+use Rattle.ksql_names.specs.declared.scope.ScopeColumn.{ScopeColumn}
+use Rattle.ksql_names.specs.Functions.{is_aggregate}
+use Rattle.ksql_names.specs.Scope.{is_known_as, row_time}
+use Rattle.ksql_names.specs.Uses.{Use, names, names_step, of_when, all_of, perhaps, in_aggregate}
 use Rattle.ksql_expressions.proofs.Folds as folds
 use Rattle.ksql_expressions.proofs.Folds.{perhaps_folded}
-use Rattle.ksql_scope.proofs.Induction.{IfThere, InWhen, induction}
+use Rattle.ksql_names.proofs.Induction.{IfThere, InWhen, induction}
 use Rattle.ksql_expressions.specs.Parts.{passes, any_of, any_perhaps}
 use Rattle.ksql_expressions.proofs.Passing as passed
 use Rattle.ksql_rules.specs.declared.left_names.Sought.{Sought}

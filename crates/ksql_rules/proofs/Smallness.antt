@@ -13,22 +13,22 @@ use Rattle.ksql_statements.specs.declared.tree.SelectItem.{SelectItem}
 use Rattle.ksql_statements.specs.declared.tree.SelectItem.TheVariants.{Star, StarOf, One}
 use Rattle.ksql_expressions.specs.declared.tree.WhenText.{WhenText}
 use Rattle.ksql_types.specs.Columns.{columns}
-use Rattle.ksql_scope.specs.declared.scope.Scope.{Scope}
-use Rattle.ksql_scope.specs.declared.scope.ScopeColumn.{ScopeColumn}
-use Rattle.ksql_scope.specs.Scope.{is_known_as}
-use Rattle.ksql_scope.specs.Uses.{is_small, IsSmall, small_step, are_small, are_whens_small, is_small_perhaps}
+use Rattle.ksql_names.specs.declared.scope.Scope.{Scope}
+use Rattle.ksql_names.specs.declared.scope.ScopeColumn.{ScopeColumn}
+use Rattle.ksql_names.specs.Scope.{is_known_as}
+use Rattle.ksql_names.specs.Uses.{is_small, IsSmall, small_step, are_small, are_whens_small, is_small_perhaps}
 use Rattle.ksql_expressions.proofs.Folds as f
-use Rattle.ksql_scope.proofs.Induction.{IfThere, InWhen, Steps, induction}
+use Rattle.ksql_names.proofs.Induction.{IfThere, InWhen, Steps, induction}
 use Rattle.ksql_clauses.specs.declared.items.Named.{Named}
 use Rattle.ksql_clauses.specs.declared.sources.Known.{Known}
 use Rattle.ksql_clauses.specs.Items.{named, named_from, numbered_name, plain_name, star_column, star_of, all_stars, stars_of, is_join}
-use Rattle.ksql_clauses.specs.Resolved.{resolved, resolved_when, is_row_time, written_for}
+use Rattle.ksql_names.specs.Resolved.{resolved, resolved_when, is_row_time, written_for}
 use Rattle.ksql_clauses.specs.Sources.{item_exprs}
 use Rattle.ksql_clauses.proofs.Naming.{from-nothing, from-Star, from-StarOf, from-alias, from-plain, from-numbered}
-use Rattle.ksql_clauses.proofs.Resolving as r
+use Rattle.ksql_names.proofs.Resolving as r
 use Rattle.ksql_rules.specs.Keys.{on_sides, equated_sides}
-use Rattle.ksql_scope.proofs.Sets.{both-true}
-use Rattle.ksql_scope.proofs.Small.{is_small-OneOf, is_small-Case, is_small-Call}
+use Rattle.std.proofs.lemmas.Bool.{and_parts}
+use Rattle.ksql_names.proofs.Small.{is_small-OneOf, is_small-Case, is_small-Call}
 
 -- ---- forms
 
@@ -169,7 +169,7 @@ columns-small s ks number (One a None ∷ items) h =
 sides-small : (y : Expr-F Expr WhenText) (a b : Expr) → equated_sides y ≡ Some (a, b) → is_small (roll-Expr y) ≡ true → IsSmall a × IsSmall b
 unfolding is_small
 sides-small (Expr-F.Binary op.Eq x y) a b e h =
-    let both = both-true (is_small x) (is_small y)
+    let both = and_parts (is_small x) (is_small y)
     (sym (ap is_small (rolls-Binary op.Eq x y) ∙ f.fold-Binary Bool Bool small_step (λ w. w.cond && w.result) op.Eq x y) ∙ h) in
     let l : x ≡ a = ap (λ o. (unwrap_or {T = Expr × Expr} o (x, y)).0) e in
     let r : y ≡ b = ap (λ o. (unwrap_or {T = Expr × Expr} o (x, y)).1) e in

@@ -3,9 +3,9 @@ use Rattle.std.specs.Prelude.{Bool, true, Option, Some, None}
 use Rattle.std.specs.List.{list_all}
 use Rattle.ksql_expressions.specs.declared.tree.Expr.{Expr}
 use Rattle.ksql_statements.specs.declared.tree.Select.{Select}
-use Rattle.ksql_scope.specs.declared.possible.Types.{Types}
-use Rattle.ksql_scope.specs.declared.scope.Scope.{Scope}
-use Rattle.ksql_scope.specs.Decisions as decided
+use Rattle.ksql_type_sets.specs.declared.possible.Types.{Types}
+use Rattle.ksql_names.specs.declared.scope.Scope.{Scope}
+use Rattle.ksql_type_sets.specs.Decisions as decided
 use Rattle.ksql_typing.specs.Judged.{judged}
 use Rattle.ksql_clauses.specs.declared.items.Named.{Named}
 use Rattle.ksql_clauses.specs.Sources.{on_exprs}

@@ -2,9 +2,9 @@
 use Rattle.std.specs.Prelude.{◌≡◌, ℕ, ◌-◌, ◌^◌, ◌≤◌, List, length, map, is_some}
 use Rattle.std.specs.List.{list_any, list_all}
 use Rattle.ksql_expressions.specs.declared.tree.Expr.{Expr}
-use Rattle.ksql_scope.specs.declared.scope.Scope.{Scope}
-use Rattle.ksql_scope.specs.Possible.{is_some_in}
-use Rattle.ksql_scope.specs.Uses.{has_unknown_name, has_ambiguous_name}
+use Rattle.ksql_names.specs.declared.scope.Scope.{Scope}
+use Rattle.ksql_type_sets.specs.Sets.{is_some_in}
+use Rattle.ksql_names.specs.Uses.{has_unknown_name, has_ambiguous_name}
 use Rattle.ksql_typing.specs.Judged.{judged}
 use Rattle.ksql_clauses.specs.Items.{result_columns}
 use Rattle.ksql_clauses.specs.Sources.{from_scope, item_scope, early_exprs, late_exprs}

@@ -11,16 +11,16 @@ use Rattle.ksql_statements.specs.declared.tree.JoinWord.{JoinWord}
 use Rattle.ksql_statements.specs.declared.tree.JoinWord.TheVariants.{Inner, Left, Full}
 use Rattle.ksql_statements.specs.declared.tree.Select.{Select}
 use Rattle.ksql_expressions.specs.declared.tree.WhenText.{WhenText}
-use Rattle.ksql_scope.specs.declared.scope.Scope.{Scope}
-use Rattle.ksql_scope.specs.declared.scope.ScopeColumn.{ScopeColumn}
+use Rattle.ksql_names.specs.declared.scope.Scope.{Scope}
+use Rattle.ksql_names.specs.declared.scope.ScopeColumn.{ScopeColumn}
 use Rattle.ksql_clauses.specs.declared.items.Named.{Named}
 use Rattle.ksql_clauses.specs.declared.sources.Known.{Known}
 use Rattle.ksql_clauses.specs.Items.{result_columns}
-use Rattle.ksql_clauses.specs.Resolved.{resolved}
+use Rattle.ksql_names.specs.Resolved.{resolved}
 use Rattle.ksql_expressions.specs.Same.{same_expr}
-use Rattle.ksql_scope.specs.Scope.{is_known_as, row_time}
+use Rattle.ksql_names.specs.Scope.{is_known_as, row_time}
 use Rattle.ksql_clauses.specs.Sources.{is_stream, joined_streams, join_word, from_scope}
-use Rattle.ksql_scope.specs.Uses.{Use, names}
+use Rattle.ksql_names.specs.Uses.{Use, names}
 
 -- ---- ON
 

@@ -9,7 +9,7 @@ use Rattle.ksql_statements.specs.declared.tree.Statement.{Statement}
 use Rattle.ksql_statements.specs.declared.tree.StatementBody.{StatementBody}
 use Rattle.ksql_statements.specs.declared.tree.StatementBody.TheVariants.{Declared, Query}
 use Rattle.ksql_types.specs.Columns.{columns}
-use Rattle.ksql_scope.specs.Uses.{IsSmall}
+use Rattle.ksql_names.specs.Uses.{IsSmall}
 use Rattle.ksql_clauses.specs.Items.{IsShortItem}
 use Rattle.ksql_clauses.specs.Sources.{alias_of, sources, early_exprs, late_exprs}
 

@@ -4,7 +4,7 @@ use Rattle.std.specs.List.{list_any}
 use Rattle.ksql_expressions.specs.declared.tree.Expr.{Expr, out-Expr}
 use Rattle.ksql_expressions.specs.declared.tree.Expr.TheOpen.{Expr-F}
 use Rattle.ksql_expressions.specs.declared.tree.WhenText.{WhenText}
-use Rattle.ksql_scope.specs.Uses.{Use, names}
+use Rattle.ksql_names.specs.Uses.{Use, names}
 use Rattle.ksql_rules.specs.declared.left_names.Sought.{Sought}
 use Rattle.ksql_rules.specs.declared.left_names.Sought.TheVariants.{Any, Other}
 use Rattle.ksql_rules.specs.Keys.{is_left_name}

@@ -2,9 +2,9 @@
 
 ghost use Rattle.std.specs.Prelude.{◌≡◌, ◌||◌, IfOk, map, option_map};
 ghost use Rattle.std.specs.List.{list_any};
-ghost use Rattle.ksql_scope.specs.Uses as uses;
+ghost use Rattle.ksql_names.specs.Uses as uses;
 ghost use Rattle.ksql_grouping.specs.Grouping as grouping;
-ghost use Rattle.ksql_clauses.specs.Resolved as names;
+ghost use Rattle.ksql_names.specs.Resolved as names;
 ghost use Rattle.ksql_clauses.specs.Sources as sources;
 ghost use Rattle.ksql_rules.specs.Breaks as spec;
 ghost use Rattle.ksql_rules.specs.Findings.{AreFindings};
@@ -12,13 +12,13 @@ ghost use Rattle.ksql_rules.specs.Findings.{AreFindings};
 use crate::findings::Findings;
 use crate::queries::{is_grouped, is_stream_join, joins_itself, reads_windowed};
 use crate::truth::either;
-use ksql_clauses::{Named, joined_streams, reads_stream, resolved};
+use ksql_clauses::{Named, joined_streams, reads_stream};
 use ksql_expressions::Expr;
 use ksql_grouping::{
     has_aggregate, has_bare_column, has_nested_aggregate, has_ordered_aggregate,
     has_unknown_function,
 };
-use ksql_scope::Scope;
+use ksql_names::{Scope, resolved};
 use std::alloc::{AllocError, Global};
 
 fn one_has_aggregate(exprs: &[&Expr]) -> bool

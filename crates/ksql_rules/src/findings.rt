@@ -1,7 +1,7 @@
 //! What is found out of a query once, before its rules are looked at.
 
 ghost use Rattle.std.specs.Prelude.{◌≡◌, ◌-◌, ◌^◌, ◌≤◌, All, IfOk, length, map};
-ghost use Rattle.ksql_scope.specs.Uses.{IsSmall};
+ghost use Rattle.ksql_names.specs.Uses.{IsSmall};
 ghost use Rattle.ksql_typing.specs.Judged as typing;
 ghost use Rattle.ksql_clauses.specs.Sources as sources;
 ghost use Rattle.ksql_rules.specs.Decided as decided;
@@ -12,8 +12,9 @@ use crate::expressions::{early_exprs, late_exprs};
 use crate::keys::{join_key, key_places};
 use ksql_clauses::{Known, Named, all_known, from_scope, item_scope, result_columns};
 use ksql_expressions::Expr;
-use ksql_scope::{Scope, Types, has_some_type};
+use ksql_names::Scope;
 use ksql_statements::Select;
+use ksql_type_sets::{Types, has_some_type};
 use ksql_types::Catalog;
 use ksql_typing::judgement::{Judged, judge};
 use std::alloc::{AllocError, Global};

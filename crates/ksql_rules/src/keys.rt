@@ -3,15 +3,15 @@
 ghost use Rattle.std.specs.Prelude.{◌≡◌, ◌++◌, ◌∷◌, [], IfOk, None, Some, codes, map, option_and_then, option_copied, option_map, slice_get};
 ghost use Rattle.std.specs.List.{list_any};
 ghost use Rattle.ksql_clauses.specs.Items as items;
-ghost use Rattle.ksql_clauses.specs.Resolved as names;
+ghost use Rattle.ksql_names.specs.Resolved as names;
 ghost use Rattle.ksql_clauses.specs.Sources as sources;
 ghost use Rattle.ksql_rules.specs.Breaks as breaks;
 ghost use Rattle.ksql_rules.specs.Keys as spec;
 
 use crate::left_names::{Sought, has_name};
-use ksql_clauses::{Known, Named, is_stream, resolved};
+use ksql_clauses::{Known, Named, is_stream};
 use ksql_expressions::{Expr, same_expr};
-use ksql_scope::Scope;
+use ksql_names::{Scope, resolved};
 use ksql_statements::{JoinWord, Select};
 use ksql_types::{BinaryOp, Chars, Column, CopyOf};
 use std::alloc::{AllocError, Global};

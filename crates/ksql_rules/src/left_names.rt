@@ -4,9 +4,9 @@ ghost use Rattle.std.specs.Prelude.{◌≡◌};
 ghost use Rattle.ksql_rules.specs.Keys as keys;
 ghost use Rattle.ksql_rules.specs.Sought as spec;
 
-use ksql_clauses::{Known, first_known_as, is_row_time};
+use ksql_clauses::Known;
 use ksql_expressions::{Decides, Expr, passes};
-use ksql_scope::Scope;
+use ksql_names::{Scope, first_known_as, is_row_time};
 use ksql_types::Chars;
 
 /// Which names are looked for in an expression.

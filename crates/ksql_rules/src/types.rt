@@ -2,7 +2,7 @@
 
 ghost use Rattle.std.specs.Prelude.{◌≡◌, ◌-◌, ◌^◌, ◌≤◌, ◌↔◌, All, IfOk, IsTrue, length};
 ghost use Rattle.std.specs.List.{list_all};
-ghost use Rattle.ksql_scope.specs.Uses.{IsSmall};
+ghost use Rattle.ksql_names.specs.Uses.{IsSmall};
 ghost use Rattle.ksql_clauses.specs.Sources as sources;
 ghost use Rattle.ksql_rules.specs.Breaks as breaks;
 ghost use Rattle.ksql_rules.specs.Decided as spec;
@@ -14,8 +14,9 @@ use crate::keys::on_sides;
 use crate::truth::both;
 use ksql_clauses::Named;
 use ksql_expressions::Expr;
-use ksql_scope::{Scope, can_agree, can_be_true, has_value};
+use ksql_names::Scope;
 use ksql_statements::Select;
+use ksql_type_sets::{can_agree, can_be_true, has_value};
 use std::alloc::{AllocError, Global};
 
 /// Whether a part, where it is there, has a type that fits BOOLEAN.

@@ -4,14 +4,15 @@ use Rattle.std.specs.Prelude.{Result, Err, IfOk, IfErr}
 use Rattle.ksql_types.specs.declared.value.SqlType.{SqlType}
 use Rattle.ksql_expressions.specs.declared.tree.Expr.{Expr}
 use Rattle.ksql_expr.specs.declared.typed.Typed.{Typed}
-use Rattle.ksql_scope.specs.declared.scope.Scope.{Scope}
-use Rattle.ksql_scope.specs.Possible.{possible, is_some_in}
-use Rattle.ksql_scope.specs.Scope.{column_types}
-use Rattle.ksql_scope.specs.Typing.{HasType, HasSomeType}
-use Rattle.ksql_scope.specs.Uses.{has_unknown_name, has_ambiguous_name, has_unknown_function}
-use Rattle.ksql_scope.proofs.Deciding.{decides}
-use Rattle.ksql_scope.proofs.Possibly.{possibly}
-use Rattle.ksql_scope.proofs.Sets.{some-in, some-from}
+use Rattle.ksql_names.specs.declared.scope.Scope.{Scope}
+use Rattle.ksql_typing.specs.Possible.{possible}
+use Rattle.ksql_type_sets.specs.Sets.{is_some_in}
+use Rattle.ksql_names.specs.Scope.{column_types}
+use Rattle.ksql_typing.specs.Typing.{HasType, HasSomeType}
+use Rattle.ksql_names.specs.Uses.{has_unknown_name, has_ambiguous_name, has_unknown_function}
+use Rattle.ksql_typing.proofs.Deciding.{decides}
+use Rattle.ksql_typing.proofs.Possibly.{possibly}
+use Rattle.ksql_type_sets.proofs.Sets.{some-in, some-from}
 use Rattle.ksql_typing.specs.declared.judged.Judged.{Judged}
 use Rattle.ksql_typing.specs.declared.fault.TypeFault.{TypeFault}
 use Rattle.ksql_typing.specs.declared.fault.TypeFault.TheVariants.{UnknownColumn, AmbiguousColumn, TypeMismatch, Unsupported, OutOfMemory}

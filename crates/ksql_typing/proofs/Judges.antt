@@ -8,9 +8,9 @@ use Rattle.std.proofs.lemmas.List.{map-append}
 use Rattle.std.proofs.lemmas.List.Folds.{list_all_at}
 use Rattle.ksql_expressions.specs.declared.tree.Expr.{Expr}
 use Rattle.ksql_expressions.specs.declared.tree.WhenText.{WhenText}
-use Rattle.ksql_scope.specs.declared.scope.Scope.{Scope}
-use Rattle.ksql_scope.specs.Uses.{is_small, are_whens_small}
-use Rattle.ksql_scope.proofs.Sets.{both-true}
+use Rattle.ksql_names.specs.declared.scope.Scope.{Scope}
+use Rattle.ksql_names.specs.Uses.{is_small, are_whens_small}
+use Rattle.std.proofs.lemmas.Bool.{and_parts}
 use Rattle.ksql_typing.specs.declared.judged.Judged.{Judged}
 use Rattle.ksql_typing.specs.Judged.{judged}
 
@@ -37,4 +37,4 @@ all_at p xs i x h below is = decide (p x) refl
 
 pub small_when_at : (ws : List WhenText) (i : ℕ) (w : WhenText) → are_whens_small ws ≡ true → i < length ws → w ≡ get_or ws i w
     → (is_small w.cond ≡ true) × (is_small w.result ≡ true)
-small_when_at ws i w h below is = both-true (is_small w.cond) (is_small w.result) (all_at (λ v. is_small v.cond && is_small v.result) ws i w h below is)
+small_when_at ws i w h below is = and_parts (is_small w.cond) (is_small w.result) (all_at (λ v. is_small v.cond && is_small v.result) ws i w h below is)

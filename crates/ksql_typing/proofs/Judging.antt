@@ -13,18 +13,18 @@ use Rattle.ksql_expressions.specs.declared.tree.Expr.TheVariants as e
 use Rattle.ksql_expressions.specs.declared.tree.WhenText.{WhenText}
 use Rattle.ksql_expr.specs.declared.typed.Typed.{Typed}
 use Rattle.ksql_expr.specs.declared.typed.TypedWhen.{TypedWhen}
-use Rattle.ksql_scope.specs.declared.scope.Scope.{Scope}
-use Rattle.ksql_scope.specs.Functions.{is_aggregate, aggregate_of, function_of}
-use Rattle.ksql_scope.specs.Possible as t
-use Rattle.ksql_scope.specs.Possible.{possible, each_of, perhaps_of, scope_within, conds_of, results_of}
-use Rattle.ksql_scope.specs.Scope.{Meaning, meanings, seen}
-use Rattle.ksql_scope.specs.Senses.{sense}
-use Rattle.ksql_scope.specs.Typing.{digits_type}
-use Rattle.ksql_scope.specs.Uses.{Use, names, meanings_of, all_of, in_aggregate}
-use Rattle.ksql_scope.specs.Uses as uses
-use Rattle.ksql_scope.proofs.Equations as q
+use Rattle.ksql_names.specs.declared.scope.Scope.{Scope}
+use Rattle.ksql_names.specs.Functions.{is_aggregate, aggregate_of, function_of}
+use Rattle.ksql_type_sets.specs.Sets as t
+use Rattle.ksql_typing.specs.Possible.{possible, name_types, each_of, perhaps_of, scope_within, conds_of, results_of}
+use Rattle.ksql_names.specs.Scope.{Meaning, meanings, seen}
+use Rattle.ksql_names.specs.Senses.{sense}
+use Rattle.ksql_typing.specs.Typing.{digits_type}
+use Rattle.ksql_names.specs.Uses.{Use, names, meanings_of, all_of, in_aggregate}
+use Rattle.ksql_names.specs.Uses as uses
+use Rattle.ksql_names.proofs.Equations as q
 use Rattle.ksql_expressions.proofs.Folds.{perhaps_folded}
-use Rattle.ksql_scope.proofs.NameFlags.{counted, counted-inside}
+use Rattle.ksql_names.proofs.NameFlags.{counted, counted-inside}
 use Rattle.ksql_typing.specs.declared.judged.Judged.{Judged}
 use Rattle.ksql_typing.specs.Judged as j
 use Rattle.ksql_typing.specs.Judged.{judged, judged_when, after}
@@ -50,7 +50,7 @@ pub judged-Digits : (number : ℕ) (s : Scope) → judged (e.Digits number) s �
 unfolding judged
 judged-Digits number s = λ i. record {
   tree = forms.made-Digits number s i;
-  types = q.possible-Digits number s i;
+  types = forms.possible-Digits number s i;
   unknown = ap (list_any (lost s)) (q.names-Digits number) i;
   ambiguous = ap (list_any (several s)) (q.names-Digits number) i;
 }
@@ -59,7 +59,7 @@ pub judged-Text : (content : List ℕ) (s : Scope) → judged (e.Text content) s
 unfolding judged
 judged-Text content s = λ i. record {
   tree = forms.made-Text content s i;
-  types = q.possible-Text content s i;
+  types = forms.possible-Text content s i;
   unknown = ap (list_any (lost s)) (q.names-Text content) i;
   ambiguous = ap (list_any (several s)) (q.names-Text content) i;
 }
@@ -68,7 +68,7 @@ pub judged-Truth : (b : Bool) (s : Scope) → judged (e.Truth b) s ≡ j.sure (l
 unfolding judged
 judged-Truth b s = λ i. record {
   tree = forms.made-Truth b s i;
-  types = q.possible-Truth b s i;
+  types = forms.possible-Truth b s i;
   unknown = ap (list_any (lost s)) (q.names-Truth b) i;
   ambiguous = ap (list_any (several s)) (q.names-Truth b) i;
 }
@@ -77,7 +77,7 @@ pub judged-Null : (s : Scope) → judged (e.Null) s ≡ j.null
 unfolding judged
 judged-Null s = λ i. record {
   tree = forms.made-Null s i;
-  types = q.possible-Null s i;
+  types = forms.possible-Null s i;
   unknown = ap (list_any (lost s)) (q.names-Null) i;
   ambiguous = ap (list_any (several s)) (q.names-Null) i;
 }
@@ -86,7 +86,7 @@ pub judged-Sign : (minus : Bool) (a : Expr) (s : Scope) → judged (e.Sign minus
 unfolding judged
 judged-Sign minus a s = λ i. record {
   tree = forms.made-Sign minus a s i;
-  types = q.possible-Sign minus a s i;
+  types = forms.possible-Sign minus a s i;
   unknown = ap (list_any (lost s)) (q.names-Sign minus a) i;
   ambiguous = ap (list_any (several s)) (q.names-Sign minus a) i;
 }
@@ -95,7 +95,7 @@ pub judged-Not : (a : Expr) (s : Scope) → judged (e.Not a) s ≡ j.negation (j
 unfolding judged
 judged-Not a s = λ i. record {
   tree = forms.made-Not a s i;
-  types = q.possible-Not a s i;
+  types = forms.possible-Not a s i;
   unknown = ap (list_any (lost s)) (q.names-Not a) i;
   ambiguous = ap (list_any (several s)) (q.names-Not a) i;
 }
@@ -104,7 +104,7 @@ pub judged-IsNull : (n : Bool) (a : Expr) (s : Scope) → judged (e.IsNull n a) 
 unfolding judged
 judged-IsNull n a s = λ i. record {
   tree = forms.made-IsNull n a s i;
-  types = q.possible-IsNull n a s i;
+  types = forms.possible-IsNull n a s i;
   unknown = ap (list_any (lost s)) (q.names-IsNull n a) i;
   ambiguous = ap (list_any (several s)) (q.names-IsNull n a) i;
 }
@@ -113,7 +113,7 @@ pub judged-Like : (n : Bool) (a : Expr) (pattern : List ℕ) (s : Scope) → jud
 unfolding judged
 judged-Like n a pattern s = λ i. record {
   tree = forms.made-Like n a pattern s i;
-  types = q.possible-Like n a pattern s i;
+  types = forms.possible-Like n a pattern s i;
   unknown = ap (list_any (lost s)) (q.names-Like n a pattern) i;
   ambiguous = ap (list_any (several s)) (q.names-Like n a pattern) i;
 }
@@ -122,7 +122,7 @@ pub judged-Cast : (a : Expr) (to : SqlType) (s : Scope) → judged (e.Cast a to)
 unfolding judged
 judged-Cast a to s = λ i. record {
   tree = forms.made-Cast a to s i;
-  types = q.possible-Cast a to s i;
+  types = forms.possible-Cast a to s i;
   unknown = ap (list_any (lost s)) (q.names-Cast a to) i;
   ambiguous = ap (list_any (several s)) (q.names-Cast a to) i;
 }
@@ -131,7 +131,7 @@ pub judged-Binary : (o : BinaryOp) (a b : Expr) (s : Scope) → judged (e.Binary
 unfolding judged
 judged-Binary o a b s = λ i. record {
   tree = forms.made-Binary o a b s i;
-  types = q.possible-Binary o a b s i;
+  types = forms.possible-Binary o a b s i;
   unknown = two (lost s) (names (e.Binary o a b)) (names a) (names b) (q.names-Binary o a b) i;
   ambiguous = two (several s) (names (e.Binary o a b)) (names a) (names b) (q.names-Binary o a b) i;
 }
@@ -140,7 +140,7 @@ pub judged-Between : (n : Bool) (a b c : Expr) (s : Scope) → judged (e.Between
 unfolding judged
 judged-Between n a b c s = λ i. record {
   tree = forms.made-Between n a b c s i;
-  types = q.possible-Between n a b c s i;
+  types = forms.possible-Between n a b c s i;
   unknown = three (lost s) (names (e.Between n a b c)) (names a) (names b) (names c) (q.names-Between n a b c) i;
   ambiguous = three (several s) (names (e.Between n a b c)) (names a) (names b) (names c) (q.names-Between n a b c) i;
 }
@@ -174,7 +174,7 @@ pub judged-OneOf : (n : Bool) (a : Expr) (es : List Expr) (s : Scope) → judged
 unfolding judged
 judged-OneOf n a es s = λ i. record {
   tree = (forms.made-OneOf n a es s ∙ ap (λ z. after (made a s) (λ x. after z (m.one_of_tree n x))) (sym (trees-each s es))) i;
-  types = (q.possible-OneOf n a es s ∙ ap (t.one_of_types (possible a s)) (sym (types-each s es))) i;
+  types = (forms.possible-OneOf n a es s ∙ ap (t.one_of_types (possible a s)) (sym (types-each s es))) i;
   unknown = (two (lost s) (names (e.OneOf n a es)) (names a) (all_of (map names es)) (q.names-OneOf n a es)
       ∙ ap (λ b. list_any (lost s) (names a) || b) (sym (unknown-each s es))) i;
   ambiguous = (two (several s) (names (e.OneOf n a es)) (names a) (all_of (map names es)) (q.names-OneOf n a es)
@@ -196,7 +196,7 @@ pub judged-Call : (g : List ℕ) (star : Bool) (es : List Expr) (s : Scope)
 unfolding judged
 judged-Call g star es s = λ i. record {
   tree = (forms.made-Call g star es s ∙ ap (λ z. after z (m.named_tree (aggregate_of g) (function_of g) star)) (sym (trees-each (scope_within g s) es))) i;
-  types = (q.possible-Call g star es s ∙ ap (t.call_types (aggregate_of g) (function_of g) star) (sym (types-each (scope_within g s) es))) i;
+  types = (forms.possible-Call g star es s ∙ ap (t.call_types (aggregate_of g) (function_of g) star) (sym (types-each (scope_within g s) es))) i;
   unknown = (ap (list_any (lost s)) (q.names-Call g star es) ∙ called (λ n. n == 0) s g (is_aggregate g) refl (all_of (map names es)) ∙ sym (unknown-each (scope_within g s) es)) i;
   ambiguous = (ap (list_any (several s)) (q.names-Call g star es) ∙ called (λ n. nat_lt 1 n) s g (is_aggregate g) refl (all_of (map names es)) ∙ sym (ambiguous-each (scope_within g s) es)) i;
 }
@@ -214,7 +214,7 @@ more-one : (n : ℕ) → nat_lt 1 (suc (suc n)) ≡ true
 more-one n = grind (arith, nat_tests)
 
 name-is : (s : Scope) (ms : List Meaning)
-    → j.named (sense ms) ≡ record { tree = m.name_tree ms; types = t.name_types ms; unknown = length ms == 0; ambiguous = nat_lt 1 (length ms) }
+    → j.named (sense ms) ≡ record { tree = m.name_tree ms; types = name_types ms; unknown = length ms == 0; ambiguous = nat_lt 1 (length ms) }
 name-is s [] = refl
 name-is s (a ∷ []) = refl
 name-is s (a ∷ b ∷ ms) = λ i. record { tree = None; types = t.no_types; unknown = sym (more-zero (length ms)) i; ambiguous = sym (more-one (length ms)) i }
@@ -237,7 +237,7 @@ pub judged-Name : (qualifier : Option (List ℕ)) (name : List ℕ) (s : Scope)
 unfolding judged
 judged-Name qualifier name s = (λ i. record {
   tree = forms.made-Name qualifier name s i;
-  types = q.possible-Name qualifier name s i;
+  types = forms.possible-Name qualifier name s i;
   unknown = (ap (list_any (lost s)) (q.names-Name qualifier name) ∙ or-none (length (meanings s qualifier name) == 0)) i;
   ambiguous = (ap (list_any (several s)) (q.names-Name qualifier name) ∙ or-none (nat_lt 1 (length (meanings s qualifier name)))) i;
 }) ∙ sym (name-is s (meanings s qualifier name))
@@ -258,15 +258,15 @@ when_trees-each s (w ∷ ws) =
     joined (made w.cond s) (made w.result s) (j.when_trees (map (judged_when s) ws))
     ∙ ap₂ (λ o z. after o (λ x. after z (λ xs. Some (x ∷ xs)))) (sym (forms.made-when w s)) (when_trees-each s ws)
 
-cond_types-each : (s : Scope) (ws : List WhenText) → j.cond_types (map (judged_when s) ws) ≡ conds_of (each_of (map q.possible_when ws) s)
+cond_types-each : (s : Scope) (ws : List WhenText) → j.cond_types (map (judged_when s) ws) ≡ conds_of (each_of (map forms.possible_when ws) s)
 unfolding judged
 cond_types-each s [] = refl
-cond_types-each s (w ∷ ws) = ap₂ (λ p ts. p.0 ∷ ts) (sym (q.possible-when w s)) (cond_types-each s ws)
+cond_types-each s (w ∷ ws) = ap₂ (λ p ts. p.0 ∷ ts) (sym (forms.possible-when w s)) (cond_types-each s ws)
 
-result_types-each : (s : Scope) (ws : List WhenText) → j.result_types (map (judged_when s) ws) ≡ results_of (each_of (map q.possible_when ws) s)
+result_types-each : (s : Scope) (ws : List WhenText) → j.result_types (map (judged_when s) ws) ≡ results_of (each_of (map forms.possible_when ws) s)
 unfolding judged
 result_types-each s [] = refl
-result_types-each s (w ∷ ws) = ap₂ (λ p ts. p.1 ∷ ts) (sym (q.possible-when w s)) (result_types-each s ws)
+result_types-each s (w ∷ ws) = ap₂ (λ p ts. p.1 ∷ ts) (sym (forms.possible-when w s)) (result_types-each s ws)
 
 unknown-whens : (s : Scope) (ws : List WhenText)
     → list_any (j.is_in_when j.unknown) (map (judged_when s) ws) ≡ list_any (lost s) (all_of (map q.names_when ws))
@@ -292,7 +292,7 @@ judged-Case x ws z s =
       tree = (forms.made-Case x ws z s
           ∙ ap (λ o. after (perhaps_there s (perhaps_folded made x)) (λ a. after o (λ bs. after (perhaps_there s (perhaps_folded made z)) (m.case_tree a bs))))
           (sym (when_trees-each s ws))) i;
-      types = (q.possible-Case x ws z s
+      types = (forms.possible-Case x ws z s
           ∙ ap₂ (λ cs rs. t.case_types (perhaps_of (perhaps_folded possible x) s) cs (t.with_otherwise_types rs (perhaps_of (perhaps_folded possible z) s)))
           (sym (cond_types-each s ws)) (sym (result_types-each s ws))) i;
       unknown = (three (lost s) (names (e.Case x ws z)) (uses.perhaps (perhaps_folded names x)) (all_of (map q.names_when ws)) (uses.perhaps (perhaps_folded names z)) (q.names-Case x ws z)

@@ -1,5 +1,7 @@
 pub mod Answering
+pub mod Deciding
 pub mod Equations
+pub mod Having
 pub mod Inversion
 pub mod Judges
 pub mod Judging
@@ -8,6 +10,7 @@ pub mod Making
 pub mod Meanings
 pub mod OneTyping
 pub mod Parts
+pub mod Possibly
 pub mod Trees
 pub mod TypeLaws
 pub mod Weights

@@ -18,11 +18,11 @@ use Rattle.ksql_expr.specs.declared.typed.TypedWhen.{TypedWhen}
 use Rattle.ksql_expr.specs.Rules.{fits, binary_type, sign_type, can_cast, fun_type, agg_type, case_type, is_between_typed, is_in_typed, typed}
 use Rattle.ksql_expr.specs.Typing as w
 use Rattle.ksql_expr.specs.Typing.{HasTypes, of, truth, types, results}
-use Rattle.ksql_scope.specs.declared.scope.Scope.{Scope}
-use Rattle.ksql_scope.specs.Functions.{function_of, aggregate_of}
-use Rattle.ksql_scope.specs.Scope.{Meaning, meanings, inside, seen}
+use Rattle.ksql_names.specs.declared.scope.Scope.{Scope}
+use Rattle.ksql_names.specs.Functions.{function_of, aggregate_of}
+use Rattle.ksql_names.specs.Scope.{Meaning, meanings, inside, seen}
 use Rattle.ksql_expressions.proofs.Folds.{perhaps_folded}
-use Rattle.ksql_scope.proofs.Induction.{IfThere, InWhen, Steps, induction}
+use Rattle.ksql_names.proofs.Induction.{IfThere, InWhen, Steps, induction}
 use Rattle.ksql_typing.specs.Judged.{after}
 use Rattle.ksql_typing.specs.Made as m
 use Rattle.ksql_typing.specs.Made.{made, all_there, perhaps_there, with_type, truth_where, name_tree, named_tree, agg_call_tree, fun_call_tree}

@@ -12,17 +12,17 @@ use Rattle.ksql_expr.specs.declared.typed.TypedWhen.{TypedWhen}
 use Rattle.ksql_expr.specs.declared.typed.TypedNode.TheVariants as n
 use Rattle.ksql_expr.specs.Rules.{fits, binary_type, sign_type, can_cast, is_between_typed, is_in_typed, type_of, typed, fun_type, agg_type, case_type}
 use Rattle.ksql_expr.specs.Typing.{of, types}
-use Rattle.ksql_scope.specs.declared.scope.Scope.{Scope}
-use Rattle.ksql_scope.specs.Functions.{function_of, is_unknown}
-use Rattle.ksql_scope.specs.Scope.{inside}
-use Rattle.ksql_scope.specs.Typing as h
-use Rattle.ksql_scope.specs.Typing.{Has, Typing, one, perhaps, each, whens, digits_type, with_otherwise}
-use Rattle.ksql_scope.specs.Uses.{calls, all_of}
-use Rattle.ksql_scope.specs.Uses as uses
-use Rattle.ksql_scope.proofs.Disjoint.{no-aggregate}
-use Rattle.ksql_scope.proofs.Equations as q
+use Rattle.ksql_names.specs.declared.scope.Scope.{Scope}
+use Rattle.ksql_names.specs.Functions.{function_of, is_unknown}
+use Rattle.ksql_names.specs.Scope.{inside}
+use Rattle.ksql_typing.specs.Typing as h
+use Rattle.ksql_typing.specs.Typing.{Has, Typing, one, perhaps, each, whens, digits_type, with_otherwise}
+use Rattle.ksql_names.specs.Uses.{calls, all_of}
+use Rattle.ksql_names.specs.Uses as uses
+use Rattle.ksql_names.proofs.Disjoint.{no-aggregate}
+use Rattle.ksql_names.proofs.Equations as q
 use Rattle.ksql_expressions.proofs.Folds.{perhaps_folded}
-use Rattle.ksql_scope.proofs.NameFlags.{none-of}
+use Rattle.ksql_names.proofs.NameFlags.{none-of}
 use Rattle.ksql_typing.specs.Judged.{after}
 use Rattle.ksql_typing.specs.Made as m
 use Rattle.ksql_typing.specs.Made.{made, all_there, perhaps_there, with_type, truth_where, name_tree, named_tree, literal_tree}

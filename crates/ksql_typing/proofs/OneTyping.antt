@@ -3,10 +3,10 @@ use Rattle.std.proofs.Common.{◌≡◌, Bool, true, false, refl, ap, ◌∙◌}
 use Rattle.std.specs.Prelude.{◌==◌, nat_lt, Ok}
 use Rattle.ksql_expressions.specs.declared.tree.Expr.{Expr}
 use Rattle.ksql_expr.specs.declared.typed.Typed.{Typed}
-use Rattle.ksql_scope.specs.declared.scope.Scope.{Scope}
-use Rattle.ksql_scope.specs.Possible.{possible}
-use Rattle.ksql_scope.specs.Uses.{has_unknown_name, has_ambiguous_name}
-use Rattle.ksql_scope.proofs.Having.{clear}
+use Rattle.ksql_names.specs.declared.scope.Scope.{Scope}
+use Rattle.ksql_typing.specs.Possible.{possible}
+use Rattle.ksql_names.specs.Uses.{has_unknown_name, has_ambiguous_name}
+use Rattle.ksql_typing.proofs.Having.{clear}
 use Rattle.ksql_typing.specs.declared.judged.Judged.{Judged}
 use Rattle.ksql_typing.specs.declared.fault.TypeFault.{TypeFault}
 use Rattle.ksql_typing.specs.declared.fault.TypeFault.TheVariants.{UnknownColumn, AmbiguousColumn, TypeMismatch, Unsupported, OutOfMemory}

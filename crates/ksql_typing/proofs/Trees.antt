@@ -20,18 +20,18 @@ use Rattle.ksql_expr.specs.declared.typed.TypedWhen.{TypedWhen}
 use Rattle.ksql_expr.specs.Rules.{type_of, fits, binary_type, sign_type, can_cast, fun_type, agg_type, case_type, is_between_typed, is_in_typed, typed}
 use Rattle.ksql_expr.specs.Typing as w
 use Rattle.ksql_expr.specs.Typing.{HasTypes, of, types, results}
-use Rattle.ksql_scope.specs.declared.scope.Scope.{Scope}
-use Rattle.ksql_scope.specs.Functions.{function_of, aggregate_of, is_unknown}
-use Rattle.ksql_scope.specs.Scope.{meanings, inside, seen}
-use Rattle.ksql_scope.specs.Typing as h
-use Rattle.ksql_scope.specs.Typing.{Has, digits_type, with_otherwise}
-use Rattle.ksql_scope.specs.Uses.{calls, all_of}
-use Rattle.ksql_scope.specs.Uses as uses
-use Rattle.ksql_scope.proofs.Deciding.{typed-is, retyped}
-use Rattle.ksql_scope.proofs.Disjoint.{no-aggregate, known-function, known-aggregate}
-use Rattle.ksql_scope.proofs.Equations as q
+use Rattle.ksql_names.specs.declared.scope.Scope.{Scope}
+use Rattle.ksql_names.specs.Functions.{function_of, aggregate_of, is_unknown}
+use Rattle.ksql_names.specs.Scope.{meanings, inside, seen}
+use Rattle.ksql_typing.specs.Typing as h
+use Rattle.ksql_typing.specs.Typing.{Has, digits_type, with_otherwise}
+use Rattle.ksql_names.specs.Uses.{calls, all_of}
+use Rattle.ksql_names.specs.Uses as uses
+use Rattle.ksql_typing.proofs.Deciding.{typed-is, retyped}
+use Rattle.ksql_names.proofs.Disjoint.{no-aggregate, known-function, known-aggregate}
+use Rattle.ksql_names.proofs.Equations as q
 use Rattle.ksql_expressions.proofs.Folds.{perhaps_folded}
-use Rattle.ksql_scope.proofs.NameFlags.{none-either}
+use Rattle.ksql_names.proofs.NameFlags.{none-either}
 use Rattle.ksql_typing.specs.Judged.{after}
 use Rattle.ksql_typing.specs.Made as m
 use Rattle.ksql_typing.specs.Made.{made, all_there, perhaps_there, with_type, truth_where, name_tree, named_tree}

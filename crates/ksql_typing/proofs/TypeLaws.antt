@@ -6,15 +6,16 @@ use Rattle.ksql_types.specs.declared.value.SqlType.TheVariants as sql
 use Rattle.ksql_expressions.specs.declared.tree.Expr.{Expr}
 use Rattle.ksql_expr.specs.declared.typed.Typed.{Typed}
 use Rattle.ksql_expr.specs.Rules.{fits}
-use Rattle.ksql_scope.specs.declared.scope.Scope.{Scope}
-use Rattle.ksql_scope.specs.Decisions.{has_value, can_be_true, do_agree, can_agree}
-use Rattle.ksql_scope.specs.Possible.{possible, has, is_some_in, some_in}
-use Rattle.ksql_scope.specs.Typing.{HasType, HasSomeType, HasValue, CanBeTrue, Agree, CanAgree}
-use Rattle.ksql_scope.specs.Uses.{has_unknown_name, has_ambiguous_name, has_unknown_function}
-use Rattle.ksql_scope.proofs.Deciding.{decides}
-use Rattle.ksql_scope.proofs.Having.{clear}
-use Rattle.ksql_scope.proofs.Possibly.{possibly}
-use Rattle.ksql_scope.proofs.Sets.{some-in, some-from, type-same, same-type}
+use Rattle.ksql_names.specs.declared.scope.Scope.{Scope}
+use Rattle.ksql_type_sets.specs.Decisions.{has_value, can_be_true, do_agree, can_agree}
+use Rattle.ksql_typing.specs.Possible.{possible}
+use Rattle.ksql_type_sets.specs.Sets.{has, is_some_in, some_in}
+use Rattle.ksql_typing.specs.Typing.{HasType, HasSomeType, HasValue, CanBeTrue, Agree, CanAgree}
+use Rattle.ksql_names.specs.Uses.{has_unknown_name, has_ambiguous_name, has_unknown_function}
+use Rattle.ksql_typing.proofs.Deciding.{decides}
+use Rattle.ksql_typing.proofs.Having.{clear}
+use Rattle.ksql_typing.proofs.Possibly.{possibly}
+use Rattle.ksql_type_sets.proofs.Sets.{some-in, some-from, type-same, same-type}
 use Rattle.ksql_typing.specs.Judged.{judged}
 use Rattle.ksql_typing.specs.Standing.{IsTypedTree}
 use Rattle.ksql_typing.specs.Typed.{AreNamesClear}

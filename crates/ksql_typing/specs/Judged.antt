@@ -11,12 +11,13 @@ use Rattle.ksql_expressions.specs.Options.{◌>>=◌}
 use Rattle.ksql_expr.specs.declared.typed.Typed.{Typed}
 use Rattle.ksql_expr.specs.declared.typed.TypedWhen.{TypedWhen}
 use Rattle.ksql_expr.specs.Typing.{of}
-use Rattle.ksql_scope.specs.declared.possible.Types.{Types}
-use Rattle.ksql_scope.specs.declared.scope.Scope.{Scope}
-use Rattle.ksql_scope.specs.Functions.{function_of, aggregate_of}
-use Rattle.ksql_scope.specs.Possible as types
-use Rattle.ksql_scope.specs.Scope.{Meaning}
-use Rattle.ksql_scope.specs.Uses.{has_unknown_name, has_ambiguous_name}
+use Rattle.ksql_type_sets.specs.declared.possible.Types.{Types}
+use Rattle.ksql_names.specs.declared.scope.Scope.{Scope}
+use Rattle.ksql_names.specs.Functions.{function_of, aggregate_of}
+use Rattle.ksql_type_sets.specs.Sets as types
+use Rattle.ksql_typing.specs.Possible.{possible}
+use Rattle.ksql_names.specs.Scope.{Meaning}
+use Rattle.ksql_names.specs.Uses.{has_unknown_name, has_ambiguous_name}
 use Rattle.ksql_typing.specs.declared.judged.Judged.{Judged}
 use Rattle.ksql_typing.specs.declared.judged.Parts.{Parts}
 use Rattle.ksql_typing.specs.declared.judged.Perhaps.{Perhaps}
@@ -28,7 +29,7 @@ use Rattle.ksql_typing.specs.Made as made
 -- what is found out of an expression in a scope: its typed tree, the types that it can have, and whether a name in it
 -- stands for nothing or for several things
 unfoldable pub judged : Expr → Scope → Judged
-judged a s = record { tree = made.made a s; types = types.possible a s; unknown = has_unknown_name s a; ambiguous = has_ambiguous_name s a }
+judged a s = record { tree = made.made a s; types = possible a s; unknown = has_unknown_name s a; ambiguous = has_ambiguous_name s a }
 
 -- the same of a condition and its result
 pub record JudgedWhen : Type 0 where

@@ -1,4 +1,6 @@
 pub mod Judged
 pub mod Made
+pub mod Possible
 pub mod Standing
 pub mod Typed
+pub mod Typing

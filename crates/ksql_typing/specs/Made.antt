@@ -17,11 +17,11 @@ use Rattle.ksql_expr.specs.declared.typed.TypedNode.TheVariants as n
 use Rattle.ksql_expr.specs.declared.typed.TypedWhen.{TypedWhen, roll-TypedWhen}
 use Rattle.ksql_expr.specs.Rules.{type_of, fits, binary_type, sign_type, can_cast, fun_type, agg_type, case_type, is_between_typed, is_in_typed, typed}
 use Rattle.ksql_expr.specs.Typing.{of, truth, types}
-use Rattle.ksql_scope.specs.declared.scope.Scope.{Scope}
-use Rattle.ksql_scope.specs.Functions.{function_of, aggregate_of}
-use Rattle.ksql_scope.specs.Scope.{Meaning, meanings}
-use Rattle.ksql_scope.specs.Possible.{scope_within}
-use Rattle.ksql_scope.specs.Typing.{with_otherwise}
+use Rattle.ksql_names.specs.declared.scope.Scope.{Scope}
+use Rattle.ksql_names.specs.Functions.{function_of, aggregate_of}
+use Rattle.ksql_names.specs.Scope.{Meaning, meanings}
+use Rattle.ksql_typing.specs.Possible.{scope_within}
+use Rattle.ksql_typing.specs.Typing.{with_otherwise}
 use Rattle.ksql_typing.specs.Standing.{digits_value}
 
 -- ---- a form, made of typed parts

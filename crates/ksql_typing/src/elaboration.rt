@@ -2,7 +2,7 @@
 
 ghost use Rattle.std.specs.Prelude.{◌≡◌, ◌≤◌, ◌-◌, ◌^◌, ◌⊎◌, length, IfOk, IfErr};
 ghost use Rattle.ksql_expr.specs.declared.typed.Typed.{Typed as OneTyped};
-ghost use Rattle.ksql_scope.specs.Uses.{IsSmall};
+ghost use Rattle.ksql_names.specs.Uses.{IsSmall};
 ghost use Rattle.ksql_typing.specs.declared.fault.TypeFault.{TypeFault as OneFault};
 ghost use Rattle.ksql_typing.specs.Judged as spec;
 ghost use Rattle.ksql_typing.specs.Standing.{IsTypedTree};
@@ -13,7 +13,8 @@ use crate::judge::judge;
 use crate::judged::Judged;
 use ksql_expr::Typed;
 use ksql_expressions::Expr;
-use ksql_scope::{Scope, Types, has_some_type};
+use ksql_names::Scope;
+use ksql_type_sets::{Types, has_some_type};
 use std::alloc::Global;
 
 fn refusal(types: Types, unknown: bool, ambiguous: bool) -> TypeFault

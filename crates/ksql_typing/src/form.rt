@@ -3,7 +3,7 @@
 ghost use Rattle.std.specs.Prelude.{◌≡◌, ◌≤◌, IfOk, map, option_map};
 ghost use Rattle.ksql_expr.specs.Typing.{types};
 ghost use Rattle.ksql_expr.specs.Rules.{typed as as_expression};
-ghost use Rattle.ksql_scope.specs.Typing.{with_otherwise};
+ghost use Rattle.ksql_typing.specs.Typing.{with_otherwise};
 ghost use Rattle.ksql_typing.specs.Standing.{digits_value};
 ghost use Rattle.ksql_typing.specs.Made as spec;
 

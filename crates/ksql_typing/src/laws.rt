@@ -4,11 +4,11 @@ ghost use Rattle.std.specs.Prelude.{◌≡◌, ◌↔◌, false, IsTrue, Option,
 ghost use Rattle.ksql_types.specs.declared.value.SqlType.{SqlType as OneType};
 ghost use Rattle.ksql_expressions.specs.declared.tree.Expr.{Expr as OneExpr};
 ghost use Rattle.ksql_expr.specs.declared.typed.Typed.{Typed as OneTyped};
-ghost use Rattle.ksql_scope.specs.declared.scope.Scope.{Scope as OneScope};
-ghost use Rattle.ksql_scope.specs.Decisions as decided;
-ghost use Rattle.ksql_scope.specs.Possible.{has, is_some_in};
-ghost use Rattle.ksql_scope.specs.Typing.{HasType, HasSomeType, HasValue, CanBeTrue, CanAgree};
-ghost use Rattle.ksql_scope.specs.Uses.{has_unknown_function};
+ghost use Rattle.ksql_names.specs.declared.scope.Scope.{Scope as OneScope};
+ghost use Rattle.ksql_type_sets.specs.Decisions as decided;
+ghost use Rattle.ksql_type_sets.specs.Sets.{has, is_some_in};
+ghost use Rattle.ksql_typing.specs.Typing.{HasType, HasSomeType, HasValue, CanBeTrue, CanAgree};
+ghost use Rattle.ksql_names.specs.Uses.{has_unknown_function};
 ghost use Rattle.ksql_typing.specs.Judged.{judged};
 ghost use Rattle.ksql_typing.specs.Standing.{IsTypedTree};
 ghost use Rattle.ksql_typing.specs.Typed.{AreNamesClear};

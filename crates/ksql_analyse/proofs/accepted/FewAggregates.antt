@@ -10,16 +10,16 @@ use Rattle.ksql_expressions.specs.declared.tree.Expr.TheVariants as e
 use Rattle.ksql_statements.specs.declared.tree.Property.{Property}
 use Rattle.ksql_statements.specs.declared.tree.Select.{Select}
 use Rattle.ksql_expressions.specs.declared.tree.WhenText.{WhenText}
-use Rattle.ksql_scope.specs.Functions.{is_aggregate}
-use Rattle.ksql_scope.specs.Uses.{calls, all_of, perhaps}
-use Rattle.ksql_scope.proofs.Equations as equation
-use Rattle.ksql_scope.proofs.Equations.{calls_when, calls-when}
+use Rattle.ksql_names.specs.Functions.{is_aggregate}
+use Rattle.ksql_names.specs.Uses.{calls, all_of, perhaps}
+use Rattle.ksql_names.proofs.Equations as equation
+use Rattle.ksql_names.proofs.Equations.{calls_when, calls-when}
 use Rattle.ksql_expressions.proofs.Folds.{perhaps_folded}
-use Rattle.ksql_scope.proofs.Induction.{IfThere, InWhen, induction}
+use Rattle.ksql_names.proofs.Induction.{IfThere, InWhen, induction}
 use Rattle.ksql_clauses.specs.declared.items.Named.{Named}
 use Rattle.ksql_clauses.specs.declared.sources.Known.{Known}
 use Rattle.ksql_clauses.specs.Items.{result_columns}
-use Rattle.ksql_clauses.specs.Resolved.{resolved}
+use Rattle.ksql_names.specs.Resolved.{resolved}
 use Rattle.ksql_clauses.specs.Sources.{from_scope, item_scope, late_exprs, there}
 use Rattle.ksql_grouping.specs.Grouping.{aggregates_of, once_from}
 use Rattle.ksql_expressions.specs.Same.{same_expr}

@@ -8,11 +8,11 @@ use Rattle.ksql_types.specs.declared.relation.Relation.{Relation}
 use Rattle.ksql_expressions.specs.declared.tree.Expr.{Expr}
 use Rattle.ksql_statements.specs.declared.tree.Property.{Property}
 use Rattle.ksql_statements.specs.declared.tree.Select.{Select}
-use Rattle.ksql_scope.specs.declared.scope.Scope.{Scope}
+use Rattle.ksql_names.specs.declared.scope.Scope.{Scope}
 use Rattle.ksql_clauses.specs.declared.items.Named.{Named}
 use Rattle.ksql_clauses.specs.declared.sources.Known.{Known}
 use Rattle.ksql_clauses.specs.Items.{result_columns}
-use Rattle.ksql_clauses.specs.Resolved.{resolved}
+use Rattle.ksql_names.specs.Resolved.{resolved}
 use Rattle.ksql_clauses.specs.Sources.{from_scope, item_scope, there, joined_streams, late_exprs}
 use Rattle.ksql_grouping.specs.Grouping.{has_bare_column}
 use Rattle.ksql_rules.specs.Breaks.{group_exprs, shown_exprs, is_grouped, key_columns, is_stream_join, has_stream_side, is_not_on_key}

@@ -10,7 +10,7 @@ use Rattle.ksql_statements.specs.declared.tree.Select.{Select}
 use Rattle.ksql_statements.specs.declared.tree.Source.{Source}
 use Rattle.ksql_types.specs.Names.{is_among, reserved_columns}
 use Rattle.ksql_types.specs.Columns.{columns}
-use Rattle.ksql_scope.specs.declared.scope.ScopeColumn.{ScopeColumn}
+use Rattle.ksql_names.specs.declared.scope.ScopeColumn.{ScopeColumn}
 use Rattle.ksql_clauses.specs.declared.sources.Known.{Known}
 use Rattle.ksql_clauses.specs.Sources.{known, all_known, sources, scope_column, scope_columns, rowkey, rowkey_of, from_columns, from_scope, item_scope, is_full, alias_of, key_columns_of}
 use Rattle.ksql_rules.proofs.Within.{All-find}

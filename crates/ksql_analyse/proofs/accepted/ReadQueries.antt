@@ -7,12 +7,12 @@ use Rattle.ksql_expressions.specs.declared.tree.Expr.{Expr}
 use Rattle.ksql_statements.specs.declared.tree.JoinText.{JoinText}
 use Rattle.ksql_statements.specs.declared.tree.Property.{Property}
 use Rattle.ksql_statements.specs.declared.tree.Select.{Select}
-use Rattle.ksql_scope.specs.declared.scope.Scope.{Scope}
-use Rattle.ksql_scope.specs.Functions.{is_unknown}
-use Rattle.ksql_scope.specs.Uses.{calls}
-use Rattle.ksql_scope.specs.Typing.{CanAgree}
-use Rattle.ksql_scope.proofs.Equations as equation
-use Rattle.ksql_scope.proofs.NameFlags.{none-of}
+use Rattle.ksql_names.specs.declared.scope.Scope.{Scope}
+use Rattle.ksql_names.specs.Functions.{is_unknown}
+use Rattle.ksql_names.specs.Uses.{calls}
+use Rattle.ksql_typing.specs.Typing.{CanAgree}
+use Rattle.ksql_names.proofs.Equations as equation
+use Rattle.ksql_names.proofs.NameFlags.{none-of}
 use Rattle.ksql_typing.proofs.TypeLaws as laws
 use Rattle.ksql_clauses.specs.declared.sources.Known.{Known}
 use Rattle.ksql_clauses.specs.Items.{is_join}

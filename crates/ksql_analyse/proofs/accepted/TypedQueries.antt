@@ -8,19 +8,19 @@ use Rattle.ksql_expressions.specs.declared.tree.Expr.{Expr}
 use Rattle.ksql_expressions.specs.declared.tree.Expr.TheVariants as e
 use Rattle.ksql_statements.specs.declared.tree.Property.{Property}
 use Rattle.ksql_statements.specs.declared.tree.Select.{Select}
-use Rattle.ksql_scope.specs.declared.scope.Scope.{Scope}
-use Rattle.ksql_scope.specs.Decisions as decided
-use Rattle.ksql_scope.specs.Possible.{is_some_in}
-use Rattle.ksql_scope.specs.Typing.{HasSomeType, HasValue, CanBeTrue, CanAgree}
-use Rattle.ksql_scope.specs.Uses.{IsSmall, has_unknown_function}
-use Rattle.ksql_scope.specs.Functions.{is_unknown}
-use Rattle.ksql_scope.proofs.Equations as equation
+use Rattle.ksql_names.specs.declared.scope.Scope.{Scope}
+use Rattle.ksql_type_sets.specs.Decisions as decided
+use Rattle.ksql_type_sets.specs.Sets.{is_some_in}
+use Rattle.ksql_typing.specs.Typing.{HasSomeType, HasValue, CanBeTrue, CanAgree}
+use Rattle.ksql_names.specs.Uses.{IsSmall, has_unknown_function}
+use Rattle.ksql_names.specs.Functions.{is_unknown}
+use Rattle.ksql_names.proofs.Equations as equation
 use Rattle.ksql_typing.specs.Judged.{judged}
 use Rattle.ksql_typing.proofs.TypeLaws.{accepted, tree_type, known, some_type, value, truth, agreement}
 use Rattle.ksql_clauses.specs.declared.items.Named.{Named}
 use Rattle.ksql_clauses.specs.declared.sources.Known.{Known}
 use Rattle.ksql_clauses.specs.Items.{result_columns}
-use Rattle.ksql_clauses.specs.Resolved.{resolved}
+use Rattle.ksql_names.specs.Resolved.{resolved}
 use Rattle.ksql_clauses.specs.Sources.{from_scope, item_scope, early_exprs, late_exprs, there, on_exprs}
 use Rattle.ksql_grouping.specs.Grouping.{aggregates_of}
 use Rattle.ksql_rules.specs.Breaks as rules

@@ -9,13 +9,13 @@ use Rattle.ksql_expr.specs.declared.typed.AggFun.TheVariants.{CountAll}
 use Rattle.ksql_expr.specs.declared.typed.Typed.{Typed}
 use Rattle.ksql_expr.specs.declared.typed.TypedNode.TheVariants as n
 use Rattle.ksql_expr.specs.Typing.{of}
-use Rattle.ksql_scope.specs.declared.scope.Scope.{Scope}
-use Rattle.ksql_scope.specs.Functions.{is_aggregate}
-use Rattle.ksql_scope.specs.Scope.{column_types}
-use Rattle.ksql_scope.specs.Uses.{IsSmall, is_small, are_small, are_whens_small, is_small_perhaps, all_of, perhaps}
-use Rattle.ksql_scope.proofs.Disjoint.{no-aggregate}
-use Rattle.ksql_scope.proofs.Sets.{both-true}
-use Rattle.ksql_scope.proofs.Small as small
+use Rattle.ksql_names.specs.declared.scope.Scope.{Scope}
+use Rattle.ksql_names.specs.Functions.{is_aggregate}
+use Rattle.ksql_names.specs.Scope.{column_types}
+use Rattle.ksql_names.specs.Uses.{IsSmall, is_small, are_small, are_whens_small, is_small_perhaps, all_of, perhaps}
+use Rattle.ksql_names.proofs.Disjoint.{no-aggregate}
+use Rattle.std.proofs.lemmas.Bool.{and_parts}
+use Rattle.ksql_names.proofs.Small as small
 use Rattle.ksql_typing.specs.Standing as st
 use Rattle.ksql_typing.specs.Standing.{Stands, Pair, IsTypedTree}
 use Rattle.ksql_typing.proofs.Inversion.{Checks, checks, inner}
@@ -128,12 +128,12 @@ module _ (s : Scope) where
   aggregates-fine st.none k r = tt
   aggregates-fine (st.more {a = a} {es = es} i j) k r =
       let c = inner k in
-      let l = both-true (is_small a) (are_small es) r in
+      let l = and_parts (is_small a) (are_small es) r in
       two (found a) (all_of (map found es)) (aggregates-fine i c.0 l.0) (aggregates-fine j c.1 l.1)
   aggregates-fine st.no_when k r = tt
   aggregates-fine (st.more_whens {w = v} {ws = vs} i j h) k r =
       let c = inner k in
-      let l = both-true (is_small v.cond && is_small v.result) (are_whens_small vs) r in
-      let l2 = both-true (is_small v.cond) (is_small v.result) l.0 in
+      let l = and_parts (is_small v.cond && is_small v.result) (are_whens_small vs) r in
+      let l2 = and_parts (is_small v.cond) (is_small v.result) l.0 in
       two (found v.cond ++ found v.result) (all_of (map (λ u. found u.cond ++ found u.result) vs))
       (two (found v.cond) (found v.result) (aggregates-fine i c.0 l2.0) (aggregates-fine j c.1 l2.1)) (aggregates-fine h c.2 l.1)

@@ -8,9 +8,9 @@ use Rattle.ksql_types.specs.declared.value.SqlType.{SqlType}
 use Rattle.ksql_expressions.specs.declared.tree.Expr.{Expr}
 use Rattle.ksql_expressions.specs.declared.tree.Expr.TheVariants as e
 use Rattle.ksql_expressions.specs.declared.tree.WhenText.{WhenText}
-use Rattle.ksql_scope.specs.Functions.{is_aggregate}
-use Rattle.ksql_scope.specs.Uses.{all_of, perhaps}
-use Rattle.ksql_scope.proofs.Induction.{IfThere, InWhen, induction}
+use Rattle.ksql_names.specs.Functions.{is_aggregate}
+use Rattle.ksql_names.specs.Uses.{all_of, perhaps}
+use Rattle.ksql_names.proofs.Induction.{IfThere, InWhen, induction}
 use Rattle.ksql_expressions.specs.Parts.{any_of, any_perhaps}
 use Rattle.ksql_grouping.specs.Grouping.{aggregates_of, whole_aggregate, is_aggregate_call, has_aggregate}
 use Rattle.ksql_grouping.proofs.Calls as called

@@ -16,18 +16,18 @@ use Rattle.ksql_expr.specs.declared.typed.TypedNode.TheVariants as n
 use Rattle.ksql_expr.specs.declared.typed.TypedNode.TheOpen.{TypedNode-F}
 use Rattle.ksql_expr.specs.Aggregates.{holds, is_aggregate as is_aggregate_node, is_long_text, is_column, holds_aggregate, holds_long_text, holds_column, HoldsNoAggregate, HoldsShortTexts, HoldsColumn}
 use Rattle.ksql_expr.specs.Typing.{of}
-use Rattle.ksql_scope.specs.declared.scope.Scope.{Scope}
-use Rattle.ksql_scope.specs.Functions.{is_aggregate}
-use Rattle.ksql_scope.specs.Scope.{meanings}
-use Rattle.ksql_scope.specs.Uses.{Use, names, calls, is_small, IsSmall, are_small, are_whens_small, is_small_perhaps, all_of, in_aggregate, small_step}
-use Rattle.ksql_scope.specs.Uses as uses
-use Rattle.ksql_scope.proofs.Disjoint.{no-aggregate}
-use Rattle.ksql_scope.proofs.Disjoint as disjoint
-use Rattle.ksql_scope.proofs.Equations as q
+use Rattle.ksql_names.specs.declared.scope.Scope.{Scope}
+use Rattle.ksql_names.specs.Functions.{is_aggregate}
+use Rattle.ksql_names.specs.Scope.{meanings}
+use Rattle.ksql_names.specs.Uses.{Use, names, calls, is_small, IsSmall, are_small, are_whens_small, is_small_perhaps, all_of, in_aggregate, small_step}
+use Rattle.ksql_names.specs.Uses as uses
+use Rattle.ksql_names.proofs.Disjoint.{no-aggregate}
+use Rattle.ksql_names.proofs.Disjoint as disjoint
+use Rattle.ksql_names.proofs.Equations as q
 use Rattle.ksql_expressions.proofs.Folds as folds
 use Rattle.ksql_expressions.proofs.Folds.{perhaps_folded}
-use Rattle.ksql_scope.proofs.Sets.{and-true, both-true}
-use Rattle.ksql_scope.proofs.Small as small
+use Rattle.std.proofs.lemmas.Bool.{and_from, and_parts}
+use Rattle.ksql_names.proofs.Small as small
 use Rattle.ksql_typing.specs.Standing as st
 use Rattle.ksql_typing.specs.Standing.{Pair, Stands, digits_value, one, perhaps, each, whens}
 use Rattle.ksql_analyse.proofs.forms.Holding as hold
@@ -52,7 +52,7 @@ none-of : (cs ds : List (List ℕ)) → list_any is_aggregate (cs ++ ds) ≡ fal
 none-of cs ds h = or-false (list_any is_aggregate cs) (list_any is_aggregate ds) (sym (list_any-append is_aggregate cs ds) ∙ h)
 
 all-of : {A : Type 0} (test : A → Bool) (xs ys : List A) → list_all test (xs ++ ys) ≡ true → (list_all test xs ≡ true) × (list_all test ys ≡ true)
-all-of test xs ys h = both-true (list_all test xs) (list_all test ys) (sym (list_all-append test xs ys) ∙ h)
+all-of test xs ys h = and_parts (list_all test xs) (list_all test ys) (sym (list_all-append test xs ys) ∙ h)
 
 -- a column that is too far
 abbrev pub reach : (ℕ → Bool) → Leaf
@@ -79,7 +79,7 @@ text-small content h =
 pattern-small : (m : Bool) (a : Expr) (pattern : List ℕ) → IsSmall (e.Like m a pattern) → nat_le (length pattern) 65536 ≡ true
 unfolding is_small
 pattern-small m a pattern h =
-    (both-true (is_small a) (nat_le (length pattern) 65536) (sym (folds.fold-Like Bool Bool small_step (λ w. w.cond && w.result) m a pattern) ∙ h)).1
+    (and_parts (is_small a) (nat_le (length pattern) 65536) (sym (folds.fold-Like Bool Bool small_step (λ w. w.cond && w.result) m a pattern) ∙ h)).1
 
 pub pattern-short : (m : Bool) (a : Expr) (pattern : List ℕ) → IsSmall (e.Like m a pattern) → nat_lt 65536 (length pattern) ≡ false
 pattern-short m a pattern h = le-ltb 65536 (length pattern) (leb-true (length pattern) 65536 (pattern-small m a pattern h))
@@ -100,7 +100,7 @@ module _ (far : ℕ → Bool) (ok : Use → Bool) where
       → Bears (cs ++ ds) (us ++ vs) (m && o) (λ leaf. held leaf || kept leaf)
   both cs ds us vs m o held kept k l = record {
     aggregates = λ c. let r = none-of cs ds c in ap₂ (λ a b. a || b) (k.aggregates r.0) (l.aggregates r.1);
-    texts = λ c. let r = both-true m o c in ap₂ (λ a b. a || b) (k.texts r.0) (l.texts r.1);
+    texts = λ c. let r = and_parts m o c in ap₂ (λ a b. a || b) (k.texts r.0) (l.texts r.1);
     columns = λ c. let r = none-of cs ds c in ap₂ (λ a b. a || b) (k.columns r.0) (l.columns r.1) ∙ sym (some-append us vs);
     near = λ c d. let r = none-of cs ds c in let u = all-of ok us vs d in ap₂ (λ a b. a || b) (k.near r.0 u.0) (l.near r.1 u.1);
   }
@@ -170,7 +170,7 @@ module _ (far : ℕ → Bool) (ok : Use → Bool) where
     aggregates = λ k. hold.holds-Column is_aggregate_node t i;
     texts = λ k. hold.holds-Column is_long_text t i;
     columns = λ k. hold.holds-Column is_column t i;
-    near = λ k l. hold.holds-Column (reach far) t i ∙ near (both-true (ok u) true l).0 i refl;
+    near = λ k l. hold.holds-Column (reach far) t i ∙ near (and_parts (ok u) true l).0 i refl;
   }
 
   time-held : (t : Option SqlType) (u : Use) (m : Bool) → Bears [] (u ∷ []) m (λ leaf. holds leaf (of t n.RowTime))
@@ -226,7 +226,7 @@ module _ (far : ℕ → Bool) (ok : Use → Bool) where
       (λ l. small.small-Sign (e.Sign minus a) l minus a refl) (λ leaf. hold.holds-Sign leaf t minus x) (bears w k)
   bears w (st.binary {o = o} {a = a} {b = b} {x = x} {y = y} {t = t} k l) =
       moved (calls a ++ calls b) _ (names a ++ names b) _ (is_small a && is_small b) _ (λ leaf. holds leaf x || holds leaf y) _ (q.calls-Binary o a b) (q.names-Binary o a b)
-      (λ c. let r = small.small-Binary (e.Binary o a b) c o a b refl in and-true (is_small a) (is_small b) r.0 r.1) (λ leaf. hold.holds-Binary leaf t o x y)
+      (λ c. let r = small.small-Binary (e.Binary o a b) c o a b refl in and_from (is_small a) (is_small b) r.0 r.1) (λ leaf. hold.holds-Binary leaf t o x y)
       (both (calls a) (calls b) (names a) (names b) (is_small a) (is_small b) (λ leaf. holds leaf x) (λ leaf. holds leaf y) (bears w k) (bears w l))
   bears w (st.not {a = a} {x = x} {t = t} k) =
       moved (calls a) _ (names a) _ (is_small a) _ (λ leaf. holds leaf x) _ (q.calls-Not a) (q.names-Not a)
@@ -237,19 +237,19 @@ module _ (far : ℕ → Bool) (ok : Use → Bool) where
   bears w (st.between {negated = m} {a = a} {low = b} {high = c} {x = x} {y = y} {z = z} {t = t} k l j) =
       moved (calls a ++ calls b ++ calls c) _ (names a ++ names b ++ names c) _ (is_small a && is_small b && is_small c) _
       (λ leaf. holds leaf x || holds leaf y || holds leaf z) _ (q.calls-Between m a b c) (q.names-Between m a b c)
-      (λ d. let r = small.small-Between (e.Between m a b c) d m a b c refl in and-true (is_small a && is_small b) (is_small c) (and-true (is_small a) (is_small b) r.0 r.1) r.2)
+      (λ d. let r = small.small-Between (e.Between m a b c) d m a b c refl in and_from (is_small a && is_small b) (is_small c) (and_from (is_small a) (is_small b) r.0 r.1) r.2)
       (λ leaf. hold.holds-Between leaf t m x y z)
       (both (calls a ++ calls b) (calls c) (names a ++ names b) (names c) (is_small a && is_small b) (is_small c) (λ leaf. holds leaf x || holds leaf y) (λ leaf. holds leaf z)
       (both (calls a) (calls b) (names a) (names b) (is_small a) (is_small b) (λ leaf. holds leaf x) (λ leaf. holds leaf y) (bears w k) (bears w l)) (bears w j))
   bears w (st.one_of {negated = m} {a = a} {es = es} {x = x} {xs = xs} {t = t} k l) =
       moved (calls a ++ all_of (map calls es)) _ (names a ++ all_of (map names es)) _ (is_small a && are_small es) _ (λ leaf. holds leaf x || each_holds leaf xs) _
       (q.calls-OneOf m a es) (q.names-OneOf m a es)
-      (λ d. let r = small.small-OneOf (e.OneOf m a es) d m a es refl in and-true (is_small a) (are_small es) r.0 r.1) (λ leaf. hold.holds-OneOf leaf t m x xs)
+      (λ d. let r = small.small-OneOf (e.OneOf m a es) d m a es refl in and_from (is_small a) (are_small es) r.0 r.1) (λ leaf. hold.holds-OneOf leaf t m x xs)
       (both (calls a) (all_of (map calls es)) (names a) (all_of (map names es)) (is_small a) (are_small es) (λ leaf. holds leaf x) (λ leaf. each_holds leaf xs) (bears w k) (bears w l))
   bears w (st.like {negated = m} {a = a} {pattern = pattern} {x = x} {t = t} k) =
       moved (calls a) _ (names a) _ (nat_le (length pattern) 65536 && is_small a) _ (λ leaf. leaf (TypedNode-F.Like m (holds leaf x) pattern) || holds leaf x) _
       (q.calls-Like m a pattern) (q.names-Like m a pattern)
-      (λ l. and-true (nat_le (length pattern) 65536) (is_small a) (pattern-small m a pattern l) (small.small-Like (e.Like m a pattern) l m a pattern refl))
+      (λ l. and_from (nat_le (length pattern) 65536) (is_small a) (pattern-small m a pattern l) (small.small-Like (e.Like m a pattern) l m a pattern refl))
       (λ leaf. hold.holds-Like leaf t m x pattern)
       (both [] (calls a) [] (names a) (nat_le (length pattern) 65536) (is_small a) (λ leaf. leaf (TypedNode-F.Like m (holds leaf x) pattern)) (λ leaf. holds leaf x)
       (of-pattern m pattern (λ leaf. holds leaf x)) (bears w k))
@@ -262,7 +262,7 @@ module _ (far : ℕ → Bool) (ok : Use → Bool) where
       (is_small_perhaps a && are_whens_small ws && is_small_perhaps b) _ (λ leaf. part_holds leaf x || whens_hold leaf ys || part_holds leaf z) _
       (q.calls-Case a ws b) (q.names-Case a ws b)
       (λ d. let r = small.small-Case (e.Case a ws b) d a ws b refl in
-      and-true (is_small_perhaps a && are_whens_small ws) (is_small_perhaps b) (and-true (is_small_perhaps a) (are_whens_small ws) r.0 r.1) r.2)
+      and_from (is_small_perhaps a && are_whens_small ws) (is_small_perhaps b) (and_from (is_small_perhaps a) (are_whens_small ws) r.0 r.1) r.2)
       (λ leaf. hold.holds-Case leaf t x ys z)
       (both (uses.perhaps (perhaps_folded calls a) ++ all_of (map q.calls_when ws)) (uses.perhaps (perhaps_folded calls b))
       (uses.perhaps (perhaps_folded names a) ++ all_of (map q.names_when ws)) (uses.perhaps (perhaps_folded names b))

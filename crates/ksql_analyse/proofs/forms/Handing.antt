@@ -7,14 +7,14 @@ use Rattle.ksql_types.specs.declared.value.SqlType.{SqlType}
 use Rattle.ksql_expressions.specs.declared.tree.Expr.{Expr}
 use Rattle.ksql_expressions.specs.declared.tree.Expr.TheVariants as e
 use Rattle.ksql_expressions.specs.declared.tree.WhenText.{WhenText}
-use Rattle.ksql_scope.specs.declared.scope.Scope.{Scope}
-use Rattle.ksql_scope.specs.Functions.{is_aggregate}
-use Rattle.ksql_scope.specs.Uses.{IsSmall, is_small, are_small, are_whens_small, is_small_perhaps}
-use Rattle.ksql_scope.proofs.Sets.{both-true}
-use Rattle.ksql_scope.proofs.Small as small
-use Rattle.ksql_scope.proofs.Induction.{IfThere, InWhen, induction}
-use Rattle.ksql_clauses.specs.Resolved.{resolved, resolved_when}
-use Rattle.ksql_clauses.proofs.Resolving as r
+use Rattle.ksql_names.specs.declared.scope.Scope.{Scope}
+use Rattle.ksql_names.specs.Functions.{is_aggregate}
+use Rattle.ksql_names.specs.Uses.{IsSmall, is_small, are_small, are_whens_small, is_small_perhaps}
+use Rattle.std.proofs.lemmas.Bool.{and_parts}
+use Rattle.ksql_names.proofs.Small as small
+use Rattle.ksql_names.proofs.Induction.{IfThere, InWhen, induction}
+use Rattle.ksql_names.specs.Resolved.{resolved, resolved_when}
+use Rattle.ksql_names.proofs.Resolving as r
 use Rattle.ksql_expressions.specs.Parts.{any_of, any_perhaps}
 use Rattle.ksql_grouping.specs.Grouping.{has_aggregate, has_nested_aggregate, holds_inner}
 use Rattle.ksql_grouping.proofs.Calls as called
@@ -216,13 +216,13 @@ calls-inherit p = record {
 -- short literals
 small-each : (es : List Expr) → are_small es ≡ true → Each IsSmall es
 small-each [] h = tt
-small-each (a ∷ es) h = let g = both-true (is_small a) (are_small es) h in (g.0, small-each es g.1)
+small-each (a ∷ es) h = let g = and_parts (is_small a) (are_small es) h in (g.0, small-each es g.1)
 
 small-whens : (ws : List WhenText) → are_whens_small ws ≡ true → Each (InWhen IsSmall) ws
 small-whens [] h = tt
 small-whens (w ∷ ws) h =
-    let g = both-true (is_small w.cond && is_small w.result) (are_whens_small ws) h in
-    let k = both-true (is_small w.cond) (is_small w.result) g.0 in
+    let g = and_parts (is_small w.cond && is_small w.result) (are_whens_small ws) h in
+    let k = and_parts (is_small w.cond) (is_small w.result) g.0 in
     ((k.0, k.1), small-whens ws g.1)
 
 small-part : (x : Option Expr) → is_small_perhaps x ≡ true → IfThere IsSmall x

@@ -15,18 +15,18 @@ use Rattle.ksql_expr.specs.declared.typed.Typed.{Typed}
 use Rattle.ksql_expr.specs.declared.typed.TypedNode.{TypedNode}
 use Rattle.ksql_expr.specs.declared.typed.TypedNode.TheVariants as n
 use Rattle.ksql_expr.specs.Typing.{of}
-use Rattle.ksql_scope.specs.declared.scope.Scope.{Scope}
-use Rattle.ksql_scope.specs.declared.scope.ScopeColumn.{ScopeColumn}
-use Rattle.ksql_scope.specs.Scope.{is_known_as, is_qualified, meanings}
-use Rattle.ksql_scope.specs.Typing as h
-use Rattle.ksql_scope.specs.Typing.{Has, HasType}
-use Rattle.ksql_scope.proofs.Sets.{both-true, and-true}
+use Rattle.ksql_names.specs.declared.scope.Scope.{Scope}
+use Rattle.ksql_names.specs.declared.scope.ScopeColumn.{ScopeColumn}
+use Rattle.ksql_names.specs.Scope.{is_known_as, is_qualified, meanings}
+use Rattle.ksql_typing.specs.Typing as h
+use Rattle.ksql_typing.specs.Typing.{Has, HasType}
+use Rattle.std.proofs.lemmas.Bool.{and_parts, and_from}
 use Rattle.ksql_typing.specs.Standing as st
 use Rattle.ksql_typing.specs.Standing.{Stands}
 use Rattle.ksql_clauses.specs.declared.sources.Known.{Known}
-use Rattle.ksql_clauses.specs.Resolved.{resolved, full_name, written_for, is_row_time}
+use Rattle.ksql_names.specs.Resolved.{resolved, full_name, written_for, is_row_time}
 use Rattle.ksql_clauses.specs.Sources.{scope_column}
-use Rattle.ksql_clauses.proofs.Resolving as r
+use Rattle.ksql_names.proofs.Resolving as r
 use Rattle.ksql_rules.specs.Keys.{on_sides, equated_sides, is_only_key, is_left_side, are_sides, left_key}
 use Rattle.ksql_expressions.proofs.Equality.{equal}
 use Rattle.ksql_analyse.proofs.forms.Meant.{meant-known}
@@ -95,7 +95,7 @@ known-by s q name alias c h = at (filter (is_known_as q name) s.columns) refl h
     written true k = absurd (cc ((same-form None (Some alias) name c.name k).0))
     written false k =
         let z = same-form q (Some alias) name c.name k in
-        and-true (is_qualified q (Some alias)) (bytes_eq c.name name) (subst (λ x. is_qualified x (Some alias) ≡ true) (sym z.0) (itself alias)) (named z.1)
+        and_from (is_qualified q (Some alias)) (bytes_eq c.name name) (subst (λ x. is_qualified x (Some alias) ≡ true) (sym z.0) (itself alias)) (named z.1)
 
     at : (cs : List ScopeColumn) → filter (is_known_as q name) s.columns ≡ cs → written_for s q name cs ≡ e.Name (Some alias) c.name
         → is_known_as q name (scope_column alias c) ≡ true
@@ -103,8 +103,8 @@ known-by s q name alias c h = at (filter (is_known_as q name) s.columns) refl h
     at (d ∷ cs) f k =
         let g = first-passes (is_known_as q name) s.columns d cs f in
         let z = same-form d.alias (Some alias) name c.name k in
-        let b = both-true (is_qualified q d.alias) (bytes_eq d.column.name name) g.2 in
-        and-true (is_qualified q (Some alias)) (bytes_eq c.name name) (qualified d.alias b.0 z.0) (named z.1)
+        let b = and_parts (is_qualified q d.alias) (bytes_eq d.column.name name) g.2 in
+        and_from (is_qualified q (Some alias)) (bytes_eq c.name name) (qualified d.alias b.0 z.0) (named z.1)
 
 -- ---- the only key column of a relation
 
@@ -180,11 +180,11 @@ sides-where : (s : Scope) (l r : Known) (x y a : Expr) (b c : Bool) → are_side
     → (if b then Some x else if c then Some y else None) ≡ Some a → AreSides s l r (Some (x, y)) a
 sides-where s l r x y a true c k m h =
     let z : x ≡ a = same_Some x a h in
-    let both = both-true (is_left_side s l x) (is_only_key s r y) k in
+    let both = and_parts (is_left_side s l x) (is_only_key s r y) k in
     record { other = y; left = subst (λ o. is_left_side s l o ≡ true) z both.0; right = both.1; are = inl (ap (λ o. Some (o, y)) z) }
 sides-where s l r x y a false true k m h =
     let z : y ≡ a = same_Some y a h in
-    let both = both-true (is_left_side s l y) (is_only_key s r x) m in
+    let both = and_parts (is_left_side s l y) (is_only_key s r x) m in
     record { other = x; left = subst (λ o. is_left_side s l o ≡ true) z both.0; right = both.1; are = inr (ap (λ o. Some (x, o)) z) }
 sides-where s l r x y a false false k m h = absurd (cc (h))
 

@@ -8,14 +8,14 @@ use Rattle.ksql_expressions.specs.declared.tree.Expr.{Expr}
 use Rattle.ksql_expressions.specs.declared.tree.Expr.TheVariants as e
 use Rattle.ksql_expr.specs.declared.typed.TypedNode.TheVariants as n
 use Rattle.ksql_types.specs.Names.{is_among}
-use Rattle.ksql_scope.specs.declared.scope.Scope.{Scope}
-use Rattle.ksql_scope.specs.declared.scope.ScopeColumn.{ScopeColumn}
-use Rattle.ksql_scope.specs.Scope.{Meaning, is_qualified, is_known_as, columns_known_as, first_alias, row_time, window_bounds, meanings, seen, inside}
-use Rattle.ksql_scope.specs.Typing as h
-use Rattle.ksql_scope.specs.Typing.{Has, Typing, one, perhaps, each, whens, HasType}
-use Rattle.ksql_clauses.specs.Resolved.{resolved, resolved_when, full_name, written_for, is_row_time}
-use Rattle.ksql_clauses.proofs.Resolving as form
-use Rattle.ksql_scope.proofs.Sets.{both-true}
+use Rattle.ksql_names.specs.declared.scope.Scope.{Scope}
+use Rattle.ksql_names.specs.declared.scope.ScopeColumn.{ScopeColumn}
+use Rattle.ksql_names.specs.Scope.{Meaning, is_qualified, is_known_as, columns_known_as, first_alias, row_time, window_bounds, meanings, seen, inside}
+use Rattle.ksql_typing.specs.Typing as h
+use Rattle.ksql_typing.specs.Typing.{Has, Typing, one, perhaps, each, whens, HasType}
+use Rattle.ksql_names.specs.Resolved.{resolved, resolved_when, full_name, written_for, is_row_time}
+use Rattle.ksql_names.proofs.Resolving as form
+use Rattle.std.proofs.lemmas.Bool.{and_parts}
 use Rattle.ksql_analyse.proofs.accepted.PlainColumns.{time_names, HasPlainColumns, never}
 use Rattle.ksql_analyse.proofs.lists.EqualLists.{heads, tails}
 
@@ -128,7 +128,7 @@ module _ (s : Scope) (plain : HasPlainColumns s) where
       → filter (is_known_as q name) s.columns ≡ c ∷ rest → meanings s c.alias name ≡ m ∷ []
   unfolding meanings
   behind (Some alias) name m c rest k l =
-      at c.alias (both-true (is_qualified (Some alias) c.alias) (bytes_eq c.column.name name) (passes-first (is_known_as (Some alias) name) s.columns c rest l)).0
+      at c.alias (and_parts (is_qualified (Some alias) c.alias) (bytes_eq c.column.name name) (passes-first (is_known_as (Some alias) name) s.columns c rest l)).0
     where
       at : (o : Option (List ℕ)) → is_qualified (Some alias) o ≡ true → meanings s o name ≡ m ∷ []
       at None is = absurd (cc (is))
@@ -152,8 +152,8 @@ module _ (s : Scope) (plain : HasPlainColumns s) where
   time-alone alias name m k is =
       let time : Meaning = (n.RowTime, sql.Big) in
       let tests = row-alone (s.stream && bytes_eq name (codes "ROWTIME") && is_qualified (Some alias) (first_alias s.columns)) time is in
-      let p = both-true (s.stream && bytes_eq name (codes "ROWTIME")) (is_qualified (Some alias) (first_alias s.columns)) tests in
-      let named : name ≡ codes "ROWTIME" = (bytes_decides name (codes "ROWTIME")).0 (both-true s.stream (bytes_eq name (codes "ROWTIME")) p.0).1 in
+      let p = and_parts (s.stream && bytes_eq name (codes "ROWTIME")) (is_qualified (Some alias) (first_alias s.columns)) tests in
+      let named : name ≡ codes "ROWTIME" = (bytes_decides name (codes "ROWTIME")).0 (and_parts s.stream (bytes_eq name (codes "ROWTIME")) p.0).1 in
       let columns : columns_known_as None name 0 s.columns ≡ [] = no-column name 0 s.columns (ap (is_among time_names) named) plain in
       let narrow = none-narrow alias name 0 s.columns columns in
       let old : time ∷ [] ≡ m ∷ [] =

@@ -7,7 +7,7 @@ use Rattle.std.proofs.lemmas.Option.{same_Some}
 use Rattle.ksql_expressions.specs.declared.tree.Expr.{Expr}
 use Rattle.ksql_grouping.specs.Grouping.{add_once, once_from, place_from}
 use Rattle.ksql_expressions.specs.Same.{same_expr}
-use Rattle.ksql_scope.proofs.Sets.{or-left, or-right}
+use Rattle.std.proofs.lemmas.Bool.{or_left, or_right}
 use Rattle.ksql_expressions.proofs.Equality.{equal, same}
 use Rattle.ksql_analyse.proofs.sound.SoundTrees.{each-front, each-behind}
 use Rattle.ksql_analyse.proofs.forms.Bearing.{some}
@@ -23,15 +23,15 @@ turned a (o ∷ es) h = at (same_expr a o) refl h (turned a es)
   where
     at : (b : Bool) → same_expr a o ≡ b → (b || list_any (same_expr a) es) ≡ true → (list_any (same_expr a) es ≡ true → IsAmong es a) → IsAmong (o ∷ es) a
     at true e k rest =
-        or-left (same_expr o a) (list_any (λ p. same_expr p a) es) (subst (λ z. same_expr z a ≡ true) (equal a o e) (same a a refl))
-    at false e k rest = or-right (same_expr o a) (list_any (λ p. same_expr p a) es) (rest k)
+        or_left (same_expr o a) (list_any (λ p. same_expr p a) es) (subst (λ z. same_expr z a ≡ true) (equal a o e) (same a a refl))
+    at false e k rest = or_right (same_expr o a) (list_any (λ p. same_expr p a) es) (rest k)
 
 add-keeps : (found : List Expr) (a g : Expr) → IsAmong found g → IsAmong (add_once found a) g
 add-keeps found a g h = at (list_any (same_expr a) found)
   where
     at : (b : Bool) → IsAmong (if b then found else found ++ a ∷ []) g
     at true = h
-    at false = list_any-append (λ o. same_expr o g) found (a ∷ []) ∙ or-left (list_any (λ o. same_expr o g) found) (same_expr a g || false) h
+    at false = list_any-append (λ o. same_expr o g) found (a ∷ []) ∙ or_left (list_any (λ o. same_expr o g) found) (same_expr a g || false) h
 
 add-has : (found : List Expr) (a : Expr) → IsAmong (add_once found a) a
 add-has found a = at (list_any (same_expr a) found) refl
@@ -40,7 +40,7 @@ add-has found a = at (list_any (same_expr a) found) refl
     at true e = turned a found e
     at false e =
         list_any-append (λ o. same_expr o a) found (a ∷ [])
-        ∙ or-right (list_any (λ o. same_expr o a) found) (same_expr a a || false) (or-left (same_expr a a) false (same a a refl))
+        ∙ or_right (list_any (λ o. same_expr o a) found) (same_expr a a || false) (or_left (same_expr a a) false (same a a refl))
 
 once-keeps : (xs found : List Expr) (g : Expr) → IsAmong found g → IsAmong (once_from found xs) g
 once-keeps [] found g h = h

@@ -8,9 +8,9 @@ use Rattle.ksql_types.specs.declared.value.SqlType.{SqlType}
 use Rattle.ksql_expressions.specs.declared.tree.Expr.{Expr}
 use Rattle.ksql_expressions.specs.declared.tree.Expr.TheVariants as e
 use Rattle.ksql_expressions.specs.declared.tree.WhenText.{WhenText}
-use Rattle.ksql_scope.proofs.Sets.{both-true}
-use Rattle.ksql_scope.specs.Functions.{is_aggregate}
-use Rattle.ksql_scope.specs.Uses.{all_of, perhaps}
+use Rattle.std.proofs.lemmas.Bool.{and_parts}
+use Rattle.ksql_names.specs.Functions.{is_aggregate}
+use Rattle.ksql_names.specs.Uses.{all_of, perhaps}
 use Rattle.ksql_expressions.specs.Parts.{passes, any_of, any_perhaps}
 use Rattle.ksql_grouping.specs.Grouping.{aggregates_of, place_among, is_bare, is_window_bound}
 use Rattle.ksql_expressions.proofs.Passing.{passes-decided, passes-Sign, passes-Binary, passes-Not, passes-IsNull, passes-Between, passes-OneOf, passes-Like, passes-Cast, passes-Case, passes-Call}
@@ -86,7 +86,7 @@ module _ (groups aggs : List Expr) where
   two : (b d : Bool) (xs ys : List Expr) → Ready (b || d) (xs ++ ys) → Ready b xs × Ready d ys
   two b d xs ys r =
       let p = or-false b d r.0 in
-      let q = both-true (list_all is_found xs) (list_all is_found ys) (sym (list_all-append is_found xs ys) ∙ r.1) in
+      let q = and_parts (list_all is_found xs) (list_all is_found ys) (sym (list_all-append is_found xs ys) ∙ r.1) in
       ((p.0, q.0), (p.1, q.1))
 
   three : (b c d : Bool) (xs ys zs : List Expr) → Ready (b || c || d) (xs ++ ys ++ zs) → Ready b xs × Ready c ys × Ready d zs
@@ -167,7 +167,7 @@ module _ (groups aggs : List Expr) where
   ready-Aggregate f star args is r =
       let x = e.Call f star args in
       let found : list_all is_found (x ∷ []) ≡ true = ap (list_all is_found) (sym (within.of-aggregate f star args is)) ∙ r.1 in
-      (both-true (is_found x) true found).0
+      (and_parts (is_found x) true found).0
 
   -- a name is a bound of a window
   pub ready-Name : (q : Option (List ℕ)) (name : List ℕ) → place_among groups (e.Name q name) ≡ None → IsReady (e.Name q name) → is_window_bound q name ≡ true

@@ -9,20 +9,20 @@ use Rattle.ksql_types.specs.Names.{is_among, are_distinct, reserved_columns}
 use Rattle.ksql_types.specs.Columns.{columns}
 use Rattle.ksql_program.specs.Sound.{IsSoundRelation}
 use Rattle.ksql_statements.specs.declared.tree.Select.{Select}
-use Rattle.ksql_scope.proofs.Sets.{both-true}
+use Rattle.std.proofs.lemmas.Bool.{and_parts}
 use Rattle.ksql_clauses.specs.declared.sources.Known.{Known}
 use Rattle.ksql_clauses.specs.Sources.{from_columns, key_columns_of, scope_column, scope_columns, rowkey, rowkey_of, is_full}
 use Rattle.ksql_analyse.proofs.forms.ResolvedTypes.{HasNo}
 use Rattle.ksql_analyse.proofs.sound.SoundColumns.{each-append}
 
 reserved-free : (number : ℕ) (r : Relation) (name : List ℕ) → is_among reserved_columns name ≡ true → IsSoundRelation number r → HasNo name (map (scope_column name) (columns r))
-reserved-free number r name res h = each (columns r) (both-true (are_distinct (map (λ c. c.name) (columns r)))
+reserved-free number r name res h = each (columns r) (and_parts (are_distinct (map (λ c. c.name) (columns r)))
     (list_all (λ o. not (is_among reserved_columns o)) (map (λ c. c.name) (columns r))) h.columns_named).1
   where
     each : (cs : List Column) → list_all (λ o. not (is_among reserved_columns o)) (map (λ c. c.name) cs) ≡ true → HasNo name (map (scope_column name) cs)
     each [] k = tt
     each (c ∷ cs) k =
-        let g = both-true (not (is_among reserved_columns c.name)) (list_all (λ o. not (is_among reserved_columns o)) (map (λ d. d.name) cs)) k in
+        let g = and_parts (not (is_among reserved_columns c.name)) (list_all (λ o. not (is_among reserved_columns o)) (map (λ d. d.name) cs)) k in
         (at (bytes_eq c.name name) refl g.0, each cs g.1)
       where
         at : (b : Bool) → bytes_eq c.name name ≡ b → not (is_among reserved_columns c.name) ≡ true → bytes_eq c.name name ≡ false

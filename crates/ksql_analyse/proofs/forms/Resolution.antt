@@ -6,15 +6,15 @@ use Rattle.ksql_expressions.specs.declared.tree.Expr.{Expr}
 use Rattle.ksql_expressions.specs.declared.tree.Expr.TheVariants as e
 use Rattle.ksql_expressions.specs.declared.tree.Expr.TheOpen.{Expr-F, WhenText-F}
 use Rattle.ksql_expressions.specs.declared.tree.WhenText.{WhenText}
-use Rattle.ksql_scope.specs.declared.scope.Scope.{Scope}
-use Rattle.ksql_scope.specs.declared.scope.ScopeColumn.{ScopeColumn}
-use Rattle.ksql_scope.specs.Scope.{is_known_as}
-use Rattle.ksql_scope.specs.Uses.{calls, calls_step, of_when, is_small, small_step}
-use Rattle.ksql_clauses.specs.Resolved.{resolved, resolved_when, written_for, is_row_time}
-use Rattle.ksql_clauses.proofs.Resolving as r
+use Rattle.ksql_names.specs.declared.scope.Scope.{Scope}
+use Rattle.ksql_names.specs.declared.scope.ScopeColumn.{ScopeColumn}
+use Rattle.ksql_names.specs.Scope.{is_known_as}
+use Rattle.ksql_names.specs.Uses.{calls, calls_step, of_when, is_small, small_step}
+use Rattle.ksql_names.specs.Resolved.{resolved, resolved_when, written_for, is_row_time}
+use Rattle.ksql_names.proofs.Resolving as r
 use Rattle.ksql_expressions.proofs.Folds as f
 use Rattle.ksql_expressions.proofs.Folds.{perhaps_folded}
-use Rattle.ksql_scope.proofs.Induction.{IfThere, InWhen, induction}
+use Rattle.ksql_names.proofs.Induction.{IfThere, InWhen, induction}
 
 -- ---- a name stays a name
 

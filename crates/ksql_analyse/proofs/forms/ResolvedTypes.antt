@@ -9,14 +9,14 @@ use Rattle.ksql_types.specs.declared.value.SqlType.TheVariants as sql
 use Rattle.ksql_expr.specs.declared.typed.TypedNode.TheVariants as n
 use Rattle.ksql_expressions.specs.declared.tree.Expr.{Expr}
 use Rattle.ksql_expressions.specs.declared.tree.Expr.TheVariants as e
-use Rattle.ksql_scope.specs.declared.scope.Scope.{Scope}
-use Rattle.ksql_scope.specs.declared.scope.ScopeColumn.{ScopeColumn}
-use Rattle.ksql_scope.specs.Scope.{Meaning, meanings, inside, seen, columns_known_as, is_known_as, is_qualified, first_alias, row_time, window_bounds}
-use Rattle.ksql_scope.proofs.Sets.{both-true}
-use Rattle.ksql_scope.specs.Typing as h
-use Rattle.ksql_scope.specs.Typing.{Has, HasType, Typing, one, perhaps, each, whens}
-use Rattle.ksql_clauses.specs.Resolved.{resolved, resolved_when, full_name, written_for, is_row_time}
-use Rattle.ksql_clauses.proofs.Resolving as r
+use Rattle.ksql_names.specs.declared.scope.Scope.{Scope}
+use Rattle.ksql_names.specs.declared.scope.ScopeColumn.{ScopeColumn}
+use Rattle.ksql_names.specs.Scope.{Meaning, meanings, inside, seen, columns_known_as, is_known_as, is_qualified, first_alias, row_time, window_bounds}
+use Rattle.std.proofs.lemmas.Bool.{and_parts}
+use Rattle.ksql_typing.specs.Typing as h
+use Rattle.ksql_typing.specs.Typing.{Has, HasType, Typing, one, perhaps, each, whens}
+use Rattle.ksql_names.specs.Resolved.{resolved, resolved_when, full_name, written_for, is_row_time}
+use Rattle.ksql_names.proofs.Resolving as r
 use Rattle.ksql_analyse.proofs.forms.KeySides.{first-passes}
 
 -- a name written in full stands for what the name stands for
@@ -137,7 +137,7 @@ module _ (s : Scope) (b : Bool) (no_time : HasNo (codes "ROWTIME") s.columns) wh
       at-alias : (o : Option (List ℕ)) → c.alias ≡ o → meanings t c.alias name ≡ m ∷ []
       at-alias None e = absurd (cc (sym (ap (λ o. is_qualified (Some x) o && bytes_eq c.column.name name) e) ∙ k))
       at-alias (Some y) e =
-          let w = both-true (bytes_eq y x) (bytes_eq c.column.name name) (sym (ap (λ o. is_qualified (Some x) o && bytes_eq c.column.name name) e) ∙ k) in
+          let w = and_parts (bytes_eq y x) (bytes_eq c.column.name name) (sym (ap (λ o. is_qualified (Some x) o && bytes_eq c.column.name name) e) ∙ k) in
           ap (λ o. meanings t o name) (e ∙ ap Some ((bytes_eq-Decides y x).0 w.0)) ∙ h
   aliased None name m c j at k h = at-alias c.alias refl
     where
@@ -146,7 +146,7 @@ module _ (s : Scope) (b : Bool) (no_time : HasNo (codes "ROWTIME") s.columns) wh
       at-alias (Some y) e = ap (λ o. meanings t o name) e ∙ there (known_list None name 0 s.columns) refl
         where
           narrower : (d : ScopeColumn) → is_known_as (Some y) name d ≡ true → is_known_as None name d ≡ true
-          narrower d l = (both-true (is_qualified (Some y) d.alias) (bytes_eq d.column.name name) l).1
+          narrower d l = (and_parts (is_qualified (Some y) d.alias) (bytes_eq d.column.name name) l).1
 
           mine : is_known_as (Some y) name c ≡ true
           mine = ap (λ o. is_qualified (Some y) o && bytes_eq c.column.name name) e ∙ ap₂ (λ u v. u && v) ((bytes_eq-Decides y y).1 refl) k

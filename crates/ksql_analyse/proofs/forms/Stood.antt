@@ -15,9 +15,9 @@ use Rattle.ksql_expr.specs.declared.typed.TypedNode.{TypedNode}
 use Rattle.ksql_expr.specs.declared.typed.TypedNode.TheVariants as n
 use Rattle.ksql_expr.specs.declared.typed.TypedWhen.{TypedWhen}
 use Rattle.ksql_expr.specs.Typing.{of}
-use Rattle.ksql_scope.specs.declared.scope.Scope.{Scope}
-use Rattle.ksql_scope.specs.Functions.{function_of, aggregate_of}
-use Rattle.ksql_scope.specs.Scope.{meanings, inside}
+use Rattle.ksql_names.specs.declared.scope.Scope.{Scope}
+use Rattle.ksql_names.specs.Functions.{function_of, aggregate_of}
+use Rattle.ksql_names.specs.Scope.{meanings, inside}
 use Rattle.ksql_typing.specs.Standing as st
 use Rattle.ksql_typing.specs.Standing.{Stands, digits_value, one, perhaps, each, whens}
 

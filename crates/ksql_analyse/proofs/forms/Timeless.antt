@@ -11,8 +11,8 @@ use Rattle.ksql_expr.specs.declared.typed.Typed.{Typed}
 use Rattle.ksql_expr.specs.declared.typed.TypedNode.{TypedNode}
 use Rattle.ksql_expr.specs.Aggregates.{holds, is_row_time, holds_row_time, IsTimeless}
 use Rattle.ksql_expr.specs.Typing.{of}
-use Rattle.ksql_scope.specs.declared.scope.Scope.{Scope}
-use Rattle.ksql_scope.specs.Scope.{row_time}
+use Rattle.ksql_names.specs.declared.scope.Scope.{Scope}
+use Rattle.ksql_names.specs.Scope.{row_time}
 use Rattle.ksql_typing.specs.Standing as st
 use Rattle.ksql_typing.specs.Standing.{Pair, Stands, digits_value, one, perhaps, each, whens}
 use Rattle.ksql_analyse.proofs.forms.Holding as hold

@@ -16,15 +16,15 @@ use Rattle.ksql_expr.specs.Aggregates.{holds}
 use Rattle.ksql_expr.specs.Rules.{type_of, fits, binary_type, sign_type, can_cast, fun_type, case_type, is_between_typed, is_in_typed}
 use Rattle.ksql_expr.specs.Typing as w
 use Rattle.ksql_expr.specs.Typing.{HasTypes, of, types, results}
-use Rattle.ksql_scope.specs.declared.scope.Scope.{Scope}
-use Rattle.ksql_scope.specs.Functions.{is_aggregate}
-use Rattle.ksql_scope.specs.Scope.{column_types}
-use Rattle.ksql_scope.specs.Typing.{with_otherwise}
-use Rattle.ksql_scope.specs.Uses.{IsSmall, is_small, are_small, are_whens_small, is_small_perhaps}
-use Rattle.ksql_scope.proofs.Deciding.{typed-is}
-use Rattle.ksql_scope.proofs.Disjoint.{no-aggregate}
-use Rattle.ksql_scope.proofs.Sets.{both-true}
-use Rattle.ksql_scope.proofs.Small as small
+use Rattle.ksql_names.specs.declared.scope.Scope.{Scope}
+use Rattle.ksql_names.specs.Functions.{is_aggregate}
+use Rattle.ksql_names.specs.Scope.{column_types}
+use Rattle.ksql_typing.specs.Typing.{with_otherwise}
+use Rattle.ksql_names.specs.Uses.{IsSmall, is_small, are_small, are_whens_small, is_small_perhaps}
+use Rattle.ksql_typing.proofs.Deciding.{typed-is}
+use Rattle.ksql_names.proofs.Disjoint.{no-aggregate}
+use Rattle.std.proofs.lemmas.Bool.{and_parts}
+use Rattle.ksql_names.proofs.Small as small
 use Rattle.ksql_typing.specs.Made.{typed_when}
 use Rattle.ksql_typing.specs.Standing as st
 use Rattle.ksql_typing.specs.Standing.{Stands, Pair, IsTypedTree, digits_value}
@@ -310,7 +310,7 @@ module _ (s : Scope) (groups aggs : List Expr) (columns : List TypedNode) (cs : 
   fit (st.more {a = a} {es = es} {x = x} {xs = xs} i j) k r m =
       let d = inner k in
       let ready = f.ready-more groups aggs a es r in
-      let short = both-true (is_small a) (are_small es) m in
+      let short = and_parts (is_small a) (are_small es) m in
       let y = fit i d.0 ready.0 short.0 in
       let ys = fit j d.1 ready.1 short.1 in
       (w.more y.0 ys.0, false-or (holds leaf (late x)) (each_holds leaf (map late xs)) y.1 ys.1)
@@ -318,8 +318,8 @@ module _ (s : Scope) (groups aggs : List Expr) (columns : List TypedNode) (cs : 
   fit (st.more_whens {w = v} {ws = vs} {y = x} {ys = xs} i j l) k r m =
       let d = inner k in
       let ready = f.ready-whens groups aggs v vs r in
-      let short = both-true (is_small v.cond && is_small v.result) (are_whens_small vs) m in
-      let both = both-true (is_small v.cond) (is_small v.result) short.0 in
+      let short = and_parts (is_small v.cond && is_small v.result) (are_whens_small vs) m in
+      let both = and_parts (is_small v.cond) (is_small v.result) short.0 in
       let y = fit i d.0 ready.0 both.0 in
       let y2 = fit j d.1 ready.1 both.1 in
       let ys = fit l d.2 ready.2 short.1 in

@@ -8,8 +8,8 @@ use Rattle.ksql_expressions.specs.declared.tree.Expr.{Expr}
 use Rattle.ksql_expr.specs.declared.typed.Typed.{Typed}
 use Rattle.ksql_expr.specs.Typing as w
 use Rattle.ksql_expr.specs.Typing.{HasTypes, Part}
-use Rattle.ksql_scope.specs.declared.scope.Scope.{Scope}
-use Rattle.ksql_scope.specs.Scope.{Meaning, meanings, columns_known_as, row_time, window_bounds, seen, inside}
+use Rattle.ksql_names.specs.declared.scope.Scope.{Scope}
+use Rattle.ksql_names.specs.Scope.{Meaning, meanings, columns_known_as, row_time, window_bounds, seen, inside}
 use Rattle.ksql_typing.specs.Standing.{IsTypedTree}
 use Rattle.ksql_analyse.proofs.lists.Appended.{front-at}
 use Rattle.ksql_analyse.proofs.forms.OneStanding.{Agree, agree-itself, alike}

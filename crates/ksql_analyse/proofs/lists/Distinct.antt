@@ -5,7 +5,7 @@ use Rattle.std.specs.List.{list_any, list_all}
 use Rattle.std.proofs.lemmas.Slice.Eq.{bytes_eq-Decides}
 use Rattle.std.proofs.lemmas.List.Folds.{list_any-append, list_all-append}
 use Rattle.std.proofs.lemmas.List.{append-nil}
-use Rattle.ksql_scope.proofs.Sets.{both-true, and-true}
+use Rattle.std.proofs.lemmas.Bool.{and_parts, and_from}
 use Rattle.ksql_types.specs.Names.{is_among, are_distinct}
 
 pub same-bytes : (s t : List ℕ) → bytes_eq s t ≡ bytes_eq t s
@@ -42,15 +42,15 @@ and-false false b h k = absurd (cc (h))
 
 -- one more among them
 pub distinct-insert : (name : List ℕ) (xs ys : List (List ℕ)) → are_distinct (xs ++ ys) ≡ true → is_among (xs ++ ys) name ≡ false → are_distinct (xs ++ name ∷ ys) ≡ true
-distinct-insert name [] ys h k = and-true (not (is_among ys name)) (are_distinct ys) (not-true (is_among ys name) k) h
+distinct-insert name [] ys h k = and_from (not (is_among ys name)) (are_distinct ys) (not-true (is_among ys name) k) h
 distinct-insert name (x ∷ xs) ys h k =
-    let d = both-true (not (is_among (xs ++ ys) x)) (are_distinct (xs ++ ys)) h in
+    let d = and_parts (not (is_among (xs ++ ys) x)) (are_distinct (xs ++ ys)) h in
     let o = or-false (bytes_eq name x) (is_among (xs ++ ys) name) k in
     let parts = or-false (is_among xs x) (is_among ys x) (sym (list_any-append (bytes_eq x) xs ys) ∙ true-not (is_among (xs ++ ys) x) d.0) in
     let none : is_among (xs ++ name ∷ ys) x ≡ false =
     list_any-append (bytes_eq x) xs (name ∷ ys)
     ∙ false-or (is_among xs x) (bytes_eq x name || is_among ys x) parts.0 (false-or (bytes_eq x name) (is_among ys x) (same-bytes x name ∙ o.0) parts.1) in
-    and-true (not (is_among (xs ++ name ∷ ys) x)) (are_distinct (xs ++ name ∷ ys)) (not-true (is_among (xs ++ name ∷ ys) x) none) (distinct-insert name xs ys d.1 o.1)
+    and_from (not (is_among (xs ++ name ∷ ys) x)) (are_distinct (xs ++ name ∷ ys)) (not-true (is_among (xs ++ name ∷ ys) x) none) (distinct-insert name xs ys d.1 o.1)
 
 pub distinct-push : (name : List ℕ) (xs : List (List ℕ)) → are_distinct xs ≡ true → is_among xs name ≡ false → are_distinct (xs ++ name ∷ []) ≡ true
 distinct-push name xs h k =
@@ -101,12 +101,12 @@ module _ {A : Type 0} (f : A → List ℕ) (p : A → Bool) where
   distinct-at : (b : Bool) (x : A) (ys zs : List A) → are_distinct (map f ys ++ map f zs) ≡ true → is_among (map f ys ++ map f zs) (f x) ≡ false
       → are_distinct (map f (if b then x ∷ ys else ys) ++ map f (if not b then x ∷ zs else zs)) ≡ true
   distinct-at true x ys zs h k =
-      and-true (not (is_among (map f ys ++ map f zs) (f x))) (are_distinct (map f ys ++ map f zs)) (not-true (is_among (map f ys ++ map f zs) (f x)) k) h
+      and_from (not (is_among (map f ys ++ map f zs) (f x))) (are_distinct (map f ys ++ map f zs)) (not-true (is_among (map f ys ++ map f zs) (f x)) k) h
   distinct-at false x ys zs h k = distinct-insert (f x) (map f ys) (map f zs) h k
 
   pub distinct-parted : (xs : List A) → are_distinct (map f xs) ≡ true → are_distinct (parted xs) ≡ true
   distinct-parted [] h = refl
   distinct-parted (x ∷ xs) h =
-      let d = both-true (not (is_among (map f xs) (f x))) (are_distinct (map f xs)) h in
+      let d = and_parts (not (is_among (map f xs) (f x))) (are_distinct (map f xs)) h in
       distinct-at (p x) x (filter p xs) (filter (λ y. not (p y)) xs) (distinct-parted xs d.1)
       (any-parted (bytes_eq (f x)) xs ∙ true-not (is_among (map f xs) (f x)) d.0)

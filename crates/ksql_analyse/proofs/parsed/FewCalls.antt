@@ -20,9 +20,9 @@ use Rattle.ksql_parser.specs.Grammar as g
 use Rattle.ksql_parser.specs.Grammar.{Spells, Phrase}
 use Rattle.ksql_grammar.specs.Symbols.{symbol_of}
 use Rattle.ksql_parser.specs.Script.{AreTrees, IsTreeOf}
-use Rattle.ksql_scope.specs.Uses.{calls, all_of, perhaps}
-use Rattle.ksql_scope.proofs.Equations as equation
-use Rattle.ksql_scope.proofs.Equations.{calls_when, calls-when}
+use Rattle.ksql_names.specs.Uses.{calls, all_of, perhaps}
+use Rattle.ksql_names.proofs.Equations as equation
+use Rattle.ksql_names.proofs.Equations.{calls_when, calls-when}
 use Rattle.ksql_expressions.proofs.Folds.{perhaps_folded}
 use Rattle.ksql_clauses.specs.Sources.{item_exprs, late_exprs, there}
 use Rattle.ksql_analyse.specs.Few.{CallsFew, HasFewCalls}

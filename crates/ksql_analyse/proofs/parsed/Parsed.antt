@@ -35,10 +35,10 @@ use Rattle.ksql_parser.specs.Grammar as g
 use Rattle.ksql_parser.specs.Grammar.{Spells, Phrase}
 use Rattle.ksql_parser.specs.Limits.{is_too_large, HasTooLarge}
 use Rattle.ksql_parser.specs.Script.{IsTreeOf}
-use Rattle.ksql_scope.specs.Uses.{is_small, IsSmall, small_step, are_small, are_whens_small, is_small_perhaps}
+use Rattle.ksql_names.specs.Uses.{is_small, IsSmall, small_step, are_small, are_whens_small, is_small_perhaps}
 use Rattle.ksql_expressions.proofs.Folds as f
-use Rattle.ksql_scope.proofs.Sets.{and-true, both-true}
-use Rattle.ksql_scope.proofs.Small.{is_small-OneOf, is_small-Case, is_small-Call}
+use Rattle.std.proofs.lemmas.Bool.{and_from, and_parts}
+use Rattle.ksql_names.proofs.Small.{is_small-OneOf, is_small-Case, is_small-Call}
 use Rattle.ksql_clauses.specs.Items.{IsShortName, IsShortItem}
 use Rattle.ksql_clauses.specs.Sources.{alias_of, sources, there, item_exprs, on_exprs}
 use Rattle.ksql_rules.specs.Limits.{HasShortAlias, IsQueryWithin, IsWithinLimits}
@@ -91,7 +91,7 @@ symbols_kept (t ∷ ts) h =
 -- ---- literals
 
 all_three : (a b c : Bool) → a ≡ true → b ≡ true → c ≡ true → (a && b && c) ≡ true
-all_three a b c h k l = and-true (a && b) c (and-true a b h k) l
+all_three a b c h k l = and_from (a && b) c (and_from a b h k) l
 
 digits_small : (n : ℕ) → n ≤ 9223372036854775807 → IsSmall (e.Digits n)
 unfolding is_small
@@ -119,7 +119,7 @@ sign_small m a h = f.fold-Sign Bool Bool small_step (λ w. w.cond && w.result) m
 
 pub binary_small : (o : BinaryOp) (a b : Expr) → IsSmall a → IsSmall b → IsSmall (e.Binary o a b)
 unfolding is_small
-binary_small o a b h k = f.fold-Binary Bool Bool small_step (λ w. w.cond && w.result) o a b ∙ and-true (is_small a) (is_small b) h k
+binary_small o a b h k = f.fold-Binary Bool Bool small_step (λ w. w.cond && w.result) o a b ∙ and_from (is_small a) (is_small b) h k
 
 pub not_small : (a : Expr) → IsSmall a → IsSmall (e.Not a)
 unfolding is_small
@@ -135,19 +135,19 @@ between_small n a b c h k l =
     f.fold-Between Bool Bool small_step (λ w. w.cond && w.result) n a b c ∙ all_three (is_small a) (is_small b) (is_small c) h k l
 
 pub one_of_small : (n : Bool) (a : Expr) (es : List Expr) → IsSmall a → IsTrue (are_small es) → IsSmall (e.OneOf n a es)
-one_of_small n a es h k = is_small-OneOf n a es ∙ and-true (is_small a) (are_small es) h k
+one_of_small n a es h k = is_small-OneOf n a es ∙ and_from (is_small a) (are_small es) h k
 
 pub like_small : (n : Bool) (a : Expr) (pattern : List ℕ) → IsSmall a → length pattern ≤ 65536 → IsSmall (e.Like n a pattern)
 unfolding is_small
 like_small n a pattern h k =
     f.fold-Like Bool Bool small_step (λ w. w.cond && w.result) n a pattern
-    ∙ and-true (is_small a) (nat_le (length pattern) 65536) h (le-leb (length pattern) 65536 k)
+    ∙ and_from (is_small a) (nat_le (length pattern) 65536) h (le-leb (length pattern) 65536 k)
 
 pub pattern_small : (n : Bool) (a : Expr) (pattern : List ℕ) → IsSmall (e.Like n a pattern) → length pattern ≤ 65536
 unfolding is_small
 pattern_small n a pattern h =
     leb-true (length pattern) 65536
-    (both-true (is_small a) (nat_le (length pattern) 65536) (sym (f.fold-Like Bool Bool small_step (λ w. w.cond && w.result) n a pattern) ∙ h)).1
+    (and_parts (is_small a) (nat_le (length pattern) 65536) (sym (f.fold-Like Bool Bool small_step (λ w. w.cond && w.result) n a pattern) ∙ h)).1
 
 pub cast_small : (a : Expr) (to : SqlType) → IsSmall a → IsSmall (e.Cast a to)
 unfolding is_small
@@ -246,7 +246,7 @@ one_small (Some a) h = All-cons IsSmall a [] h (All-nil IsSmall)
 all_small : (es : List Expr) → IsTrue (are_small es) → All IsSmall es
 all_small [] h = All-nil IsSmall
 all_small (a ∷ es) h =
-    let k = both-true (is_small a) (are_small es) h in
+    let k = and_parts (is_small a) (are_small es) h in
     All-cons IsSmall a es k.0 (all_small es k.1)
 
 short_item : (i : SelectItem) → IsItemFit i → IsShortItem i
@@ -384,12 +384,12 @@ keeps_expr (ge.an_operand d) s =
 keeps_expr (ge.last_when {c = c} {r = r} d f) s =
     let a = keeps_expr d s.1 in
     let b = keeps_expr f a.1.1 in
-    (and-true (is_small c && is_small r) true (and-true (is_small c) (is_small r) a.0.0 b.0.0) refl, b.1)
+    (and_from (is_small c && is_small r) true (and_from (is_small c) (is_small r) a.0.0 b.0.0) refl, b.1)
 keeps_expr (ge.more_whens {c = c} {r = r} {ws = ws} d f h) s =
     let a = keeps_expr d s.1 in
     let b = keeps_expr f a.1.1 in
     let l = keeps_expr h b.1 in
-    (and-true (is_small c && is_small r) (are_whens_small ws) (and-true (is_small c) (is_small r) a.0.0 b.0.0) l.0, l.1)
+    (and_from (is_small c && is_small r) (are_whens_small ws) (and_from (is_small c) (is_small r) a.0.0 b.0.0) l.0, l.1)
 keeps_expr ge.no_else s = (refl, s)
 keeps_expr (ge.an_else d) s =
     let a = keeps_expr d s.1 in
@@ -408,11 +408,11 @@ keeps_expr (ge.parens d) s =
     (x.0, x.1.1)
 keeps_expr (ge.last_expr {a = a} d) s =
     let x = keeps_expr d s in
-    (and-true (is_small a) true x.0.0 refl, x.1)
+    (and_from (is_small a) true x.0.0 refl, x.1)
 keeps_expr (ge.more_exprs {a = a} {es = es} d f) s =
     let x = keeps_expr d s in
     let y = keeps_expr f x.1.1 in
-    (and-true (is_small a) (are_small es) x.0.0 y.0, y.1)
+    (and_from (is_small a) (are_small es) x.0.0 y.0, y.1)
 
 keeps : {p : Phrase} {ts us : List Symbol} → Spells p ts us → Small ts → Keeps p × Small us
 keeps (g.declared {n = n} {name = name} {cs = cs} h k d f) s =

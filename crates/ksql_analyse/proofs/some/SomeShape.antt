@@ -9,11 +9,11 @@ use Rattle.ksql_program.specs.declared.query.From.{From}
 use Rattle.ksql_program.specs.declared.query.From.TheVariants as from
 use Rattle.ksql_program.specs.declared.query.Shape.{Shape}
 use Rattle.ksql_program.specs.declared.query.Shape.TheVariants as shape
-use Rattle.ksql_scope.specs.declared.scope.Scope.{Scope}
+use Rattle.ksql_names.specs.declared.scope.Scope.{Scope}
 use Rattle.ksql_clauses.specs.declared.items.Named.{Named}
 use Rattle.ksql_clauses.specs.declared.sources.Known.{Known}
 use Rattle.ksql_clauses.specs.Items.{result_columns}
-use Rattle.ksql_clauses.specs.Resolved.{resolved}
+use Rattle.ksql_names.specs.Resolved.{resolved}
 use Rattle.ksql_clauses.specs.Sources.{from_scope, item_scope, there}
 use Rattle.ksql_clauses.specs.Windows.{window_of}
 use Rattle.ksql_rules.specs.Breaks.{group_exprs, is_grouped, key_columns, value_columns}

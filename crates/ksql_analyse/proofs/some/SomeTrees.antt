@@ -5,7 +5,7 @@ use Rattle.ksql_types.specs.declared.relation.Column.{Column}
 use Rattle.ksql_expressions.specs.declared.tree.Expr.{Expr}
 use Rattle.ksql_expr.specs.declared.typed.Typed.{Typed}
 use Rattle.ksql_program.specs.declared.query.Agg.{Agg}
-use Rattle.ksql_scope.specs.declared.scope.Scope.{Scope}
+use Rattle.ksql_names.specs.declared.scope.Scope.{Scope}
 use Rattle.ksql_clauses.specs.declared.items.Named.{Named}
 use Rattle.ksql_clauses.specs.Sources.{there}
 use Rattle.ksql_analyse.specs.Judgement.{AreAggs, AreColumnsOf, AreTypedTrees, IsTypedPart}

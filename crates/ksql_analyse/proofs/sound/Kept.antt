@@ -19,7 +19,7 @@ use Rattle.ksql_types.specs.Columns.{columns}
 use Rattle.ksql_program.specs.Sound.{IsSoundItem, AreSoundItems}
 use Rattle.ksql_rules.specs.Limits.{IsRelationWithin}
 use Rattle.ksql_rules.proofs.Within.{All-unmap}
-use Rattle.ksql_scope.proofs.Sets.{both-true}
+use Rattle.std.proofs.lemmas.Bool.{and_parts}
 use Rattle.ksql_analyse.specs.Judgement.{AreParsed, IsProgramOf}
 use Rattle.ksql_analyse.specs.Plain.{HasPlainNames}
 use Rattle.ksql_analyse.proofs.lists.Distinct.{or-false, false-or, true-not, same-bytes}
@@ -57,7 +57,7 @@ last-sound before (x ∷ items) i h =
 last-new : (names : List (List ℕ)) (name : List ℕ) → are_distinct (names ++ name ∷ []) ≡ true → is_among names name ≡ false
 last-new [] name h = refl
 last-new (x ∷ names) name h =
-    let p = both-true (not (is_among (names ++ name ∷ []) x)) (are_distinct (names ++ name ∷ [])) h in
+    let p = and_parts (not (is_among (names ++ name ∷ []) x)) (are_distinct (names ++ name ∷ [])) h in
     false-or (bytes_eq name x) (is_among names name) (same-bytes name x ∙ last-other names x name (true-not (is_among (names ++ name ∷ []) x) p.0)) (last-new names name p.1)
   where
     last-other : (names : List (List ℕ)) (x name : List ℕ) → is_among (names ++ name ∷ []) x ≡ false → bytes_eq x name ≡ false

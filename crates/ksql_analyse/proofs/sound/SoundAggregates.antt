@@ -28,13 +28,13 @@ use Rattle.ksql_expr.specs.Typing.{HasTypes, of}
 use Rattle.ksql_program.specs.declared.query.Agg.{Agg}
 use Rattle.ksql_types.specs.Names.{is_among}
 use Rattle.ksql_program.specs.Sound.{IsAggOver, IsOverTable, IsArgument, IsSoundOver, argument_type}
-use Rattle.ksql_scope.specs.declared.scope.Scope.{Scope}
-use Rattle.ksql_scope.specs.declared.scope.ScopeColumn.{ScopeColumn}
-use Rattle.ksql_scope.specs.Functions.{aggregates, aggregate_of, is_aggregate}
-use Rattle.ksql_scope.specs.Scope.{column_types, inside}
-use Rattle.ksql_scope.specs.Uses.{IsSmall, is_small, are_small, names, Use}
-use Rattle.ksql_scope.proofs.Small as small
-use Rattle.ksql_scope.proofs.Sets.{both-true}
+use Rattle.ksql_names.specs.declared.scope.Scope.{Scope}
+use Rattle.ksql_names.specs.declared.scope.ScopeColumn.{ScopeColumn}
+use Rattle.ksql_names.specs.Functions.{aggregates, aggregate_of, is_aggregate}
+use Rattle.ksql_names.specs.Scope.{column_types, inside}
+use Rattle.ksql_names.specs.Uses.{IsSmall, is_small, are_small, names, Use}
+use Rattle.ksql_names.proofs.Small as small
+use Rattle.std.proofs.lemmas.Bool.{and_parts}
 use Rattle.ksql_typing.specs.Standing as st
 use Rattle.ksql_typing.specs.Standing.{Stands, IsTypedTree}
 use Rattle.ksql_typing.proofs.Inversion.{Checks, checks}
@@ -192,7 +192,7 @@ agg-sound over s a g kinds alone short free x h node = at (stood s a x (Expr-F.C
     small-argument : (b : Expr) → alone.args ≡ b ∷ [] → IsSmall b
     small-argument b k =
         let all = subst (λ es. are_small es ≡ true) k (small.small-Call a short alone.name alone.star alone.args alone.is) in
-        (both-true (is_small b) true all).0
+        (and_parts (is_small b) true all).0
 
     at : Stood s (Expr-F.Call alone.name alone.star alone.args) x → IsSoundAgg over s g
     at (inl c) = absurd (cc (sym node ∙ ap (λ y. y.node) c.is.1))

@@ -15,15 +15,15 @@ use Rattle.ksql_statements.specs.declared.tree.SelectItem.TheVariants.{Star, Sta
 use Rattle.ksql_expressions.specs.declared.tree.WhenText.{WhenText}
 use Rattle.ksql_types.specs.Names.{is_among, are_distinct}
 use Rattle.ksql_types.specs.Columns.{columns}
-use Rattle.ksql_scope.specs.declared.scope.Scope.{Scope}
+use Rattle.ksql_names.specs.declared.scope.Scope.{Scope}
 use Rattle.ksql_clauses.specs.declared.items.Named.{Named}
 use Rattle.ksql_clauses.specs.declared.sources.Known.{Known}
 use Rattle.ksql_clauses.specs.Items.{named_from, all_stars, stars_of, star_of, star_column, plain_name, column_name, numbered_name, is_join}
-use Rattle.ksql_clauses.specs.Resolved.{resolved}
+use Rattle.ksql_names.specs.Resolved.{resolved}
 use Rattle.ksql_clauses.proofs.Naming as naming
 use Rattle.ksql_rules.specs.Breaks.{at_places, besides, is_place}
 use Rattle.ksql_rules.specs.Keys.{first_of, is_one_of}
-use Rattle.ksql_scope.proofs.Sets.{both-true}
+use Rattle.std.proofs.lemmas.Bool.{and_parts}
 use Rattle.ksql_analyse.proofs.lists.Distinct.{or-false, true-not}
 use Rattle.ksql_analyse.proofs.forms.Resolution.{IsName}
 
@@ -258,7 +258,7 @@ count-columns cs (Some place ∷ places) h = at (slice_get cs place) refl (count
         omega arith
     at (Some c) e rest =
         let is : at_places cs (Some place ∷ places) ≡ c ∷ at_places cs places = rw e in
-        let d = both-true (not (is_among (map (λ c. c.name) (at_places cs places)) c.name)) (are_distinct (map (λ c. c.name) (at_places cs places)))
+        let d = and_parts (not (is_among (map (λ c. c.name) (at_places cs places)) c.name)) (are_distinct (map (λ c. c.name) (at_places cs places)))
         (sym (ap (λ l. are_distinct (map (λ c. c.name) l)) is) ∙ h) in
         let out = here c (list_any (is_place place) places) refl e (true-not (is_among (map (λ c. c.name) (at_places cs places)) c.name) d.0) in
         let z : place ≡ 0 + place = omega arith in

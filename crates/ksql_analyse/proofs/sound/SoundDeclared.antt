@@ -17,7 +17,7 @@ use Rattle.ksql_types.specs.Names.{are_column_names, are_distinct, is_among, is_
 use Rattle.ksql_program.specs.Sound.{IsSoundRelation, IsSoundDeclaration, HasDeclaredKey}
 use Rattle.ksql_clauses.specs.Properties.{are_bad, topic_in, partitions_in, format_in, is_zero, name_of, has_kind, is_bad_format, is_bad_key_format, value_of}
 use Rattle.ksql_rules.specs.Breaks.{is_primary, is_key, has_only_keys, has_bad_topic, is_delimited}
-use Rattle.ksql_scope.proofs.Sets.{both-true, and-true}
+use Rattle.std.proofs.lemmas.Bool.{and_parts, and_from}
 use Rattle.ksql_analyse.specs.Judgement.{declared_relation, column_of, kind_of}
 use Rattle.ksql_analyse.proofs.lists.Distinct.{parted, all-parted, distinct-parted, or-false, not-zero}
 use Rattle.ksql_analyse.proofs.accepted.Refusals.{KeepsDeclaration, stated, not-not}
@@ -80,7 +80,7 @@ some-value (c ∷ cs) h = some-at (is_key c) c (filter (λ d. not (is_key d)) cs
 short-names : (cs : List ColumnText) → All (λ c. length c.name ≤ 128) cs → list_all (λ name. nat_le (length name) 128) (map name_in cs) ≡ true
 short-names [] h = refl
 short-names (c ∷ cs) h =
-    and-true (nat_le (length c.name) 128) (list_all (λ name. nat_le (length name) 128) (map name_in cs))
+    and_from (nat_le (length c.name) 128) (list_all (λ name. nat_le (length name) 128) (map name_in cs))
     (le-leb (length c.name) 128 (All-head (λ (d : ColumnText). length d.name ≤ 128) c cs h)) (short-names cs (All-tail (λ (d : ColumnText). length d.name ≤ 128) c cs h))
 
 -- a test of columns that looks at their names alone
@@ -139,7 +139,7 @@ pub declaration-sound : (number : ℕ) (table : Bool) (name : List ℕ) (cs : Li
     → IsSoundRelation number (declared_relation number (stated table name (Declared cs ps)) cs ps)
     × IsSoundDeclaration (declared_relation number (stated table name (Declared cs ps)) cs ps)
 declaration-sound number table name cs ps k short shorts =
-    let names = both-true (are_distinct (map name_in cs)) (list_all (λ n. not (is_among reserved_columns n)) (map name_in cs)) k.named in
+    let names = and_parts (are_distinct (map name_in cs)) (list_all (λ n. not (is_among reserved_columns n)) (map name_in cs)) k.named in
     let is = names-of (filter is_key cs) (filter (λ c. not (is_key c)) cs) in
     let topic = topic-there (topic_in ps) k.topic in
     let partitions = partitions-bounded (partitions_in ps) 1 (some-partitions ps k.properties) k.few_partitions (omega arith) (omega arith) in
@@ -148,7 +148,7 @@ declaration-sound number table name cs ps k short shorts =
       record {
         numbered = refl;
         named = short;
-        columns_named = ap are_column_names is ∙ and-true (are_distinct (parted name_in is_key cs)) (list_all (λ n. not (is_among reserved_columns n)) (parted name_in is_key cs))
+        columns_named = ap are_column_names is ∙ and_from (are_distinct (parted name_in is_key cs)) (list_all (λ n. not (is_among reserved_columns n)) (parted name_in is_key cs))
             (distinct-parted name_in is_key cs names.0) (all-parted name_in is_key (λ n. not (is_among reserved_columns n)) cs ∙ names.1);
         columns_short = all-by_name (λ n. nat_le (length n) 128) (keys_of cs ++ values_of cs) ∙ ap (list_all (λ n. nat_le (length n) 128)) is
             ∙ all-parted name_in is_key (λ n. nat_le (length n) 128) cs ∙ short-names cs shorts;

@@ -26,16 +26,16 @@ use Rattle.ksql_program.specs.declared.query.Agg.{Agg}
 use Rattle.ksql_types.specs.Names.{is_among}
 use Rattle.ksql_program.specs.Sound as sound
 use Rattle.ksql_program.specs.Sound.{IsSoundWindow, IsSoundOver, AreColumns, Aggregates}
-use Rattle.ksql_scope.specs.declared.scope.Scope.{Scope}
-use Rattle.ksql_scope.specs.Functions.{is_aggregate}
-use Rattle.ksql_scope.specs.Uses.{IsSmall}
+use Rattle.ksql_names.specs.declared.scope.Scope.{Scope}
+use Rattle.ksql_names.specs.Functions.{is_aggregate}
+use Rattle.ksql_names.specs.Uses.{IsSmall}
 use Rattle.ksql_typing.specs.Standing.{IsTypedTree}
 use Rattle.ksql_grouping.specs.Grouping.{has_aggregate, has_bare_column, aggregates_of, ordered_aggregates, place_among}
 use Rattle.ksql_grouping.proofs.Calls as called
 use Rattle.ksql_clauses.specs.declared.items.Named.{Named}
 use Rattle.ksql_clauses.specs.declared.sources.Known.{Known}
 use Rattle.ksql_clauses.specs.Items.{result_columns, named_from, all_stars, stars_of, plain_name, numbered_name, named}
-use Rattle.ksql_clauses.specs.Resolved.{resolved}
+use Rattle.ksql_names.specs.Resolved.{resolved}
 use Rattle.ksql_clauses.specs.Sources.{item_scope, late_exprs, item_exprs, there}
 use Rattle.ksql_clauses.specs.Windows.{window_of, is_bad, is_too_large, millis, grace_millis, has_long, has_many}
 use Rattle.ksql_clauses.proofs.Naming as naming

@@ -26,14 +26,14 @@ use Rattle.ksql_types.specs.declared.relation.Window.{Window}
 use Rattle.ksql_types.specs.Names.{is_among}
 use Rattle.ksql_program.specs.Sound as sound
 use Rattle.ksql_program.specs.Sound.{AreColumns, IsWindowed, IsCondition, Makes, window_types, grouped_kind}
-use Rattle.ksql_scope.specs.declared.scope.Scope.{Scope}
-use Rattle.ksql_scope.specs.Uses.{IsSmall, calls}
-use Rattle.ksql_scope.specs.Typing.{CanBeTrue}
+use Rattle.ksql_names.specs.declared.scope.Scope.{Scope}
+use Rattle.ksql_names.specs.Uses.{IsSmall, calls}
+use Rattle.ksql_typing.specs.Typing.{CanBeTrue}
 use Rattle.ksql_grouping.specs.Grouping.{has_aggregate, has_nested_aggregate, has_bare_column, aggregates_of, ordered_aggregates}
 use Rattle.ksql_clauses.specs.declared.items.Named.{Named}
 use Rattle.ksql_clauses.specs.declared.sources.Known.{Known}
 use Rattle.ksql_clauses.specs.Items.{result_columns}
-use Rattle.ksql_clauses.specs.Resolved.{resolved}
+use Rattle.ksql_names.specs.Resolved.{resolved}
 use Rattle.ksql_clauses.specs.Sources.{from_scope, item_scope, from_columns, reads_stream, late_exprs, there}
 use Rattle.ksql_clauses.specs.Windows.{window_of, is_bad}
 use Rattle.ksql_rules.specs.Breaks.{is_grouped, group_exprs, shown_exprs, is_bad_window, has_large_window, value_columns, IfThere}

@@ -16,8 +16,8 @@ use Rattle.ksql_program.specs.declared.query.JoinKind.TheVariants as join
 use Rattle.ksql_program.specs.Sound as sound
 use Rattle.ksql_types.specs.Columns.{columns}
 use Rattle.ksql_program.specs.Sound.{rowkey_types}
-use Rattle.ksql_scope.specs.declared.scope.ScopeColumn.{ScopeColumn}
-use Rattle.ksql_scope.specs.Scope.{column_types}
+use Rattle.ksql_names.specs.declared.scope.ScopeColumn.{ScopeColumn}
+use Rattle.ksql_names.specs.Scope.{column_types}
 use Rattle.ksql_clauses.specs.declared.sources.Known.{Known}
 use Rattle.ksql_clauses.specs.Sources.{is_full, is_full_word, key_columns_of, scope_column, scope_columns, rowkey_of, rowkey, from_scope, from_columns}
 use Rattle.ksql_analyse.specs.Judgement.{join_kind}

@@ -22,18 +22,18 @@ use Rattle.ksql_program.specs.declared.query.JoinKind.TheVariants as join
 use Rattle.ksql_program.specs.Sound as sound
 use Rattle.ksql_types.specs.Columns.{columns}
 use Rattle.ksql_program.specs.Sound.{IsJoined, JoinsStream, JoinsTable, IsSoundOver, row_key}
-use Rattle.ksql_scope.specs.declared.scope.Scope.{Scope}
-use Rattle.ksql_scope.specs.declared.scope.ScopeColumn.{ScopeColumn}
-use Rattle.ksql_scope.specs.Scope.{is_known_as}
-use Rattle.ksql_scope.specs.Typing.{HasType, Agree, CanAgree}
-use Rattle.ksql_scope.specs.Uses.{names}
-use Rattle.ksql_scope.proofs.Sets.{both-true}
+use Rattle.ksql_names.specs.declared.scope.Scope.{Scope}
+use Rattle.ksql_names.specs.declared.scope.ScopeColumn.{ScopeColumn}
+use Rattle.ksql_names.specs.Scope.{is_known_as}
+use Rattle.ksql_typing.specs.Typing.{HasType, Agree, CanAgree}
+use Rattle.ksql_names.specs.Uses.{names}
+use Rattle.std.proofs.lemmas.Bool.{and_parts}
 use Rattle.ksql_typing.specs.Standing.{IsTypedTree}
 use Rattle.ksql_clauses.specs.declared.sources.Known.{Known}
 use Rattle.ksql_clauses.specs.Sources.{is_stream, is_windowed, from_scope, rowkey, scope_column}
 use Rattle.ksql_rules.specs.Breaks.{IfThere}
 use Rattle.ksql_rules.specs.Keys.{is_of_left, is_left_name, is_only_key}
-use Rattle.ksql_scope.proofs.Sets.{type-same}
+use Rattle.ksql_type_sets.proofs.Sets.{type-same}
 use Rattle.ksql_types.specs.declared.value.SqlType.TheVariants as sql
 use Rattle.ksql_analyse.proofs.forms.Bearing.{reach, plain_use, bears, column-is-held, no-aggregate-held, short-texts-held, AreNear, some}
 use Rattle.ksql_analyse.proofs.forms.Holding as hold
@@ -111,7 +111,7 @@ module _ (q : Select) (l r : Known) where
   over-left : bytes_eq l.alias r.alias ≡ false → (a : Expr) (x : Typed) → IsPlain a → IsTypedTree s a x → is_of_left s l a ≡ true → IsSoundOver kind.Stream left_types x
   over-left apart a x p h ok =
       let held = bears (is_past (length left_types)) (is_left_name s l) (left-near apart) h.0 in
-      let all = (both-true (nat_lt 0 (length (names a))) (list_all (is_left_name s l) (names a)) ok).1 in
+      let all = (and_parts (nat_lt 0 (length (names a))) (list_all (is_left_name s l) (names a)) ok).1 in
       record {
         typed = narrowed-front left_types (sound.column_types (columns r.relation) ++ map typed_column (rowkey q (l ∷ r ∷ []))) x
             (subst (λ ts. HasTypes ts (w.one x)) (types-apart q l r) h.1) (held.aggregates p.0) (held.near p.0 all);
@@ -173,7 +173,7 @@ module _ (q : Select) (l r : Known) where
         record {
           left_stream = stream-kind l.relation stream;
           over_left = over-left apart a on p h ok;
-          some_column = column-is-held s a on h.0 p.0 (some-names (names a) (both-true (nat_lt 0 (length (names a))) (list_all (is_left_name s l) (names a)) ok).0);
+          some_column = column-is-held s a on h.0 p.0 (some-names (names a) (and_parts (nat_lt 0 (length (names a))) (list_all (is_left_name s l) (names a)) ok).0);
           one_key = ap length other.keys;
           like_key = like on.ty refl;
         }

@@ -25,19 +25,19 @@ use Rattle.ksql_program.specs.Program.{relation_at}
 use Rattle.ksql_program.specs.Sound as sound
 use Rattle.ksql_types.specs.Columns.{columns}
 use Rattle.ksql_program.specs.Sound.{Reads, IsKeyed, AreColumnsFrom}
-use Rattle.ksql_scope.specs.declared.scope.Scope.{Scope}
-use Rattle.ksql_scope.specs.declared.scope.ScopeColumn.{ScopeColumn}
-use Rattle.ksql_scope.specs.Scope.{column_types, is_known_as}
-use Rattle.ksql_scope.specs.Functions.{is_aggregate}
-use Rattle.ksql_scope.proofs.Equations as equation
-use Rattle.ksql_scope.proofs.Sets.{and-true}
+use Rattle.ksql_names.specs.declared.scope.Scope.{Scope}
+use Rattle.ksql_names.specs.declared.scope.ScopeColumn.{ScopeColumn}
+use Rattle.ksql_names.specs.Scope.{column_types, is_known_as}
+use Rattle.ksql_names.specs.Functions.{is_aggregate}
+use Rattle.ksql_names.proofs.Equations as equation
+use Rattle.std.proofs.lemmas.Bool.{and_from}
 use Rattle.ksql_typing.specs.Standing as st
 use Rattle.ksql_typing.specs.Standing.{Stands}
 use Rattle.ksql_expressions.specs.Same.{same_expr}
 use Rattle.ksql_clauses.specs.declared.items.Named.{Named}
 use Rattle.ksql_clauses.specs.declared.sources.Known.{Known}
 use Rattle.ksql_clauses.specs.Items.{result_columns, star_column, star_of, is_join}
-use Rattle.ksql_clauses.specs.Resolved.{resolved}
+use Rattle.ksql_names.specs.Resolved.{resolved}
 use Rattle.ksql_clauses.specs.Sources.{is_stream, is_windowed, is_full, reads_stream, scope_column, scope_columns, rowkey_of, from_scope, item_scope, from_columns, item_exprs, key_columns_of, there}
 use Rattle.ksql_rules.specs.Breaks.{key_columns, is_grouped, is_bad_window, lacks_key}
 use Rattle.ksql_rules.specs.Keys.{key_exprs, key_places, needs, alone}
@@ -183,7 +183,7 @@ pub column-tree : (s : Scope) (alias : List ℕ) (c : Column) (i : ℕ) → slic
 column-tree s alias c i at a x is h =
     let k = stood-name s a x (Some alias) c.name is h in
     let known : is_known_as (Some alias) c.name (scope_column alias c) ≡ true =
-    and-true (bytes_eq alias alias) (bytes_eq c.name c.name) ((bytes_eq-Decides alias alias).1 refl) ((bytes_eq-Decides c.name c.name).1 refl) in
+    and_from (bytes_eq alias alias) (bytes_eq c.name c.name) ((bytes_eq-Decides alias alias).1 refl) ((bytes_eq-Decides c.name c.name).1 refl) in
     ap (λ y. y.node) k.3.1 ∙ (meant-known s (Some alias) c.name k.0 k.1 k.2 i (scope_column alias c) at known).0
 
 -- the key's columns of one relation, from an index on

@@ -16,8 +16,8 @@ use Rattle.ksql_program.specs.declared.query.Query.{Query as OneQuery}
 use Rattle.ksql_program.specs.declared.query.Shape.TheVariants as shape
 use Rattle.ksql_program.specs.Sound as sound
 use Rattle.ksql_program.specs.Sound.{IsSoundRelation, IsSoundQuery, IsCondition, Reads, Makes, HasItsKey}
-use Rattle.ksql_scope.specs.Scope.{column_types}
-use Rattle.ksql_scope.specs.Uses.{IsSmall}
+use Rattle.ksql_names.specs.Scope.{column_types}
+use Rattle.ksql_names.specs.Uses.{IsSmall}
 use Rattle.ksql_grouping.specs.Grouping.{has_aggregate}
 use Rattle.ksql_clauses.specs.declared.items.Named.{Named}
 use Rattle.ksql_clauses.specs.declared.sources.Known.{Known}

@@ -29,17 +29,17 @@ use Rattle.ksql_program.specs.Program.{relation_at}
 use Rattle.ksql_program.specs.Sound as sound
 use Rattle.ksql_types.specs.Columns.{columns}
 use Rattle.ksql_program.specs.Sound.{IsKeyed, IsTablesKey}
-use Rattle.ksql_scope.specs.Functions.{is_aggregate}
-use Rattle.ksql_scope.specs.Uses.{calls}
-use Rattle.ksql_scope.specs.Typing.{CanAgree}
-use Rattle.ksql_scope.proofs.Equations as equation
-use Rattle.ksql_scope.proofs.Small as small
+use Rattle.ksql_names.specs.Functions.{is_aggregate}
+use Rattle.ksql_names.specs.Uses.{calls}
+use Rattle.ksql_typing.specs.Typing.{CanAgree}
+use Rattle.ksql_names.proofs.Equations as equation
+use Rattle.ksql_names.proofs.Small as small
 use Rattle.ksql_typing.specs.Standing as st
 use Rattle.ksql_typing.specs.Standing.{Stands}
 use Rattle.ksql_expressions.specs.Same.{same_expr}
 use Rattle.ksql_clauses.specs.declared.items.Named.{Named}
 use Rattle.ksql_clauses.specs.declared.sources.Known.{Known}
-use Rattle.ksql_clauses.specs.Resolved.{resolved}
+use Rattle.ksql_names.specs.Resolved.{resolved}
 use Rattle.ksql_clauses.specs.Items.{result_columns}
 use Rattle.ksql_clauses.specs.Sources.{is_stream, is_windowed, is_full, is_full_word, joined_streams, from_scope, item_scope, on_exprs, early_exprs, rowkey_of}
 use Rattle.ksql_rules.specs.Breaks.{same, key_columns, is_grouped, is_not_on_key, is_stream_join, has_stream_side, IfThere}

@@ -27,8 +27,8 @@ use Rattle.ksql_clauses.proofs.Naming.{numbered_is_short}
 use Rattle.ksql_rules.specs.Breaks.{key_columns, value_columns, has_long_name, result_format, topic_of}
 use Rattle.ksql_rules.specs.Keys.{key_places}
 use Rattle.ksql_rules.specs.Limits.{HasShortAlias}
-use Rattle.ksql_scope.specs.declared.scope.Scope.{Scope}
-use Rattle.ksql_scope.proofs.Sets.{both-true, and-true}
+use Rattle.ksql_names.specs.declared.scope.Scope.{Scope}
+use Rattle.std.proofs.lemmas.Bool.{and_parts, and_from}
 use Rattle.ksql_analyse.specs.Judgement.{IsResult, left_partitions}
 use Rattle.ksql_analyse.proofs.parsed.Parsed.{IsPlainShort}
 use Rattle.ksql_analyse.proofs.accepted.Refusals.{KeepsQuery, stated, not-not}
@@ -45,7 +45,7 @@ HasShortName c = length c.name ≤ 128
 
 each-true : {A : Type 0} (p : A → Bool) (xs : List A) → list_all p xs ≡ true → Each (λ x. p x ≡ true) xs
 each-true p [] h = tt
-each-true p (x ∷ xs) h = let r = both-true (p x) (list_all p xs) h in (r.0, each-true p xs r.1)
+each-true p (x ∷ xs) h = let r = and_parts (p x) (list_all p xs) h in (r.0, each-true p xs r.1)
 
 pub columns-short : (number : ℕ) (r : Relation) → IsSoundRelation number r → Each (λ c. length c.name ≤ 128) (columns r)
 columns-short number r h =
@@ -92,9 +92,9 @@ names-short-two q l r h =
 distinct-front : (xs ys : List (List ℕ)) → are_distinct (xs ++ ys) ≡ true → are_distinct xs ≡ true
 distinct-front [] ys h = refl
 distinct-front (x ∷ xs) ys h =
-    let r = both-true (not (is_among (xs ++ ys) x)) (are_distinct (xs ++ ys)) h in
+    let r = and_parts (not (is_among (xs ++ ys) x)) (are_distinct (xs ++ ys)) h in
     let none = or-false (is_among xs x) (is_among ys x) (sym (list_any-append (bytes_eq x) xs ys) ∙ true-not (is_among (xs ++ ys) x) r.0) in
-    and-true (not (is_among xs x)) (are_distinct xs) (not-true (is_among xs x) none.0) (distinct-front xs ys r.1)
+    and_from (not (is_among xs x)) (are_distinct xs) (not-true (is_among xs x) none.0) (distinct-front xs ys r.1)
 
 same-length : {A B C : Type 0} (f : A → C) (g : B → C) (xs : List A) (ys : List B) → map f xs ≡ map g ys → length xs ≡ length ys
 same-length f g xs ys h = sym (length-map xs f) ∙ ap length h ∙ length-map ys g
@@ -102,7 +102,7 @@ same-length f g xs ys h = sym (length-map xs f) ∙ ap length h ∙ length-map y
 short-tested : (cs : List Named) → Each HasShortName cs → list_all (λ name. nat_le (length name) 128) (map (λ c. c.name) cs) ≡ true
 short-tested [] h = refl
 short-tested (c ∷ cs) h =
-    and-true (nat_le (length c.name) 128) (list_all (λ name. nat_le (length name) 128) (map (λ d. d.name) cs)) (le-leb (length c.name) 128 h.0) (short-tested cs h.1)
+    and_from (nat_le (length c.name) 128) (list_all (λ name. nat_le (length name) 128) (map (λ d. d.name) cs)) (le-leb (length c.name) 128 h.0) (short-tested cs h.1)
 
 pub result-sound : (catalog : List Relation) (number : ℕ) (table : Bool) (name : List ℕ) (ps : List Property) (q : Select) (ks : List Known) (made : Shape) (r : Relation)
     → KeepsQuery catalog table name ps q ks → length name ≤ 128 → Each HasShortName (result_columns q ks) → 1 ≤ left_partitions ks → left_partitions ks ≤ 64
@@ -112,7 +112,7 @@ result-sound catalog number table name ps q ks made r keeps short shorts some fe
     map-append (λ (c : Column). c.name) r.schema.keys r.schema.values ∙ ap₂ (λ x y. x ++ y) h.keyed.0 h.valued.0
     ∙ sym (map-append (λ (c : Named). c.name) (key_columns q ks) (value_columns q ks)) in
     let named = not-not (are_column_names (map (λ c. c.name) (key_columns q ks ++ value_columns q ks))) keeps.named in
-    let distinct = (both-true (are_distinct (map (λ c. c.name) (key_columns q ks ++ value_columns q ks)))
+    let distinct = (and_parts (are_distinct (map (λ c. c.name) (key_columns q ks ++ value_columns q ks)))
     (list_all (λ n. not (is_among reserved_columns n)) (map (λ c. c.name) (key_columns q ks ++ value_columns q ks))) named).0 in
     let front = distinct-front (map (λ (c : Named). c.name) (key_columns q ks)) (map (λ (c : Named). c.name) (value_columns q ks))
     (sym (ap are_distinct (map-append (λ (c : Named). c.name) (key_columns q ks) (value_columns q ks))) ∙ distinct) in

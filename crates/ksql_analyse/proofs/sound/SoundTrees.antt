@@ -10,10 +10,10 @@ use Rattle.ksql_expressions.specs.declared.tree.Expr.{Expr}
 use Rattle.ksql_expr.specs.declared.typed.Typed.{Typed}
 use Rattle.ksql_expr.specs.Rules.{fits}
 use Rattle.ksql_program.specs.Sound.{IsSoundOver, AreColumns, IsCondition}
-use Rattle.ksql_scope.specs.declared.scope.Scope.{Scope}
-use Rattle.ksql_scope.specs.Scope.{column_types}
-use Rattle.ksql_scope.specs.Typing.{HasType, CanBeTrue}
-use Rattle.ksql_scope.specs.Uses.{IsSmall}
+use Rattle.ksql_names.specs.declared.scope.Scope.{Scope}
+use Rattle.ksql_names.specs.Scope.{column_types}
+use Rattle.ksql_typing.specs.Typing.{HasType, CanBeTrue}
+use Rattle.ksql_names.specs.Uses.{IsSmall}
 use Rattle.ksql_typing.specs.Standing.{IsTypedTree}
 use Rattle.ksql_typing.proofs.Making.{makes}
 use Rattle.ksql_typing.proofs.OneTyping.{tree-made}

@@ -28,7 +28,7 @@ use Rattle.ksql_clauses.specs.declared.sources.Known.{Known}
 use Rattle.ksql_clauses.specs.Sources.{all_known, from_scope, item_scope}
 use Rattle.ksql_rules.specs.Breaks.{is_grouped}
 use Rattle.ksql_trees.specs.Grouped.{after}
-use Rattle.ksql_scope.specs.declared.scope.Scope.{Scope}
+use Rattle.ksql_names.specs.declared.scope.Scope.{Scope}
 use Rattle.ksql_typing.specs.Standing.{IsTypedTree}
 use Rattle.ksql_typing.proofs.OneTyping.{one-tree}
 use Rattle.ksql_analyse.specs.Judgement.{agg_form, aggregate_exprs, grouped_columns, IsFrom, IsTypedPart, AreTypedTrees, AreAggs, IsShape, IsResult, AreColumnsOf, IsQuery, IsItemOf}

@@ -1,6 +1,6 @@
 use Rattle.std.proofs.Common.{All, subst, sym}
 use Rattle.ksql_clauses.specs.declared.items.Named.{Named}
-use Rattle.ksql_scope.specs.declared.scope.Scope.{Scope}
+use Rattle.ksql_names.specs.declared.scope.Scope.{Scope}
 use Rattle.ksql_clauses.specs.Sources.{item_scope}
 use Rattle.ksql_analyse.specs.Typable.{IsValued}
 use Rattle.ksql_analyse.proofs.forms.ValuedTrees.{keys-lent, values-lent}

@@ -1,6 +1,6 @@
 use Rattle.std.proofs.Common.{◌≡◌, ◌∙◌, ◌+◌, ◌^◌, ◌≤◌, All, List, Option, length, ap, ap₂, arith, map, subst, sym}
 use Rattle.ksql_expressions.specs.declared.tree.Expr.{Expr}
-use Rattle.ksql_scope.specs.declared.scope.Scope.{Scope}
+use Rattle.ksql_names.specs.declared.scope.Scope.{Scope}
 use Rattle.ksql_clauses.specs.Sources.{there}
 use Rattle.ksql_rules.specs.Breaks.{key_columns}
 use Rattle.ksql_analyse.specs.Judgement.{AreAggs, AreTypedTrees, exprs, grouped_columns}

@@ -1,5 +1,5 @@
 use Rattle.std.proofs.Common.{◌≡◌, ◌++◌, drop, map}
-use Rattle.ksql_scope.specs.Uses.{all_of}
+use Rattle.ksql_names.specs.Uses.{all_of}
 use Rattle.ksql_grouping.specs.Grouping.{gives, whole_aggregate}
 use Rattle.ksql_grouping.proofs.aggregates.+aggregates.Given as goal
 

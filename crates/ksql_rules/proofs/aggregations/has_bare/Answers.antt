@@ -3,7 +3,7 @@ use Rattle.std.specs.Prelude.{option_map}
 use Rattle.std.specs.List.{list_any}
 use Rattle.ksql_grouping.specs.Grouping.{has_bare_column}
 use Rattle.ksql_clauses.specs.Items.{result_columns}
-use Rattle.ksql_clauses.specs.Resolved.{resolved}
+use Rattle.ksql_names.specs.Resolved.{resolved}
 use Rattle.ksql_clauses.specs.Sources.{item_scope, there}
 use Rattle.ksql_rules.specs.Breaks.{group_exprs}
 use Rattle.ksql_rules.proofs.Mapped.{parts}

@@ -1,5 +1,5 @@
 use Rattle.std.proofs.Common.{◌≡◌, map, take}
-use Rattle.ksql_clauses.specs.Resolved.{resolved}
+use Rattle.ksql_names.specs.Resolved.{resolved}
 use Rattle.ksql_rules.specs.Keys.{alone}
 use Rattle.ksql_rules.proofs.keys.resolved_alone.Given as goal
 

@@ -1,5 +1,0 @@
-use Rattle.std.proofs.Common.{length}
-use Rattle.ksql_scope.proofs.possible.+joint_types.Given as goal
-
-abbrev pub decreases-joint_types : goal.decreases-joint_types
-decreases-joint_types l = length l.results.now
