@@ -8,14 +8,12 @@ pub mod Meant
 pub mod NamesTyped
 pub mod Narrowing
 pub mod Once
-pub mod OneStanding
 pub mod PlacedTrees
 pub mod ReadyForms
 pub mod Reserved
 pub mod Resolution
 pub mod ResolvedTypes
 pub mod Stood
-pub mod StoodBy
 pub mod Timeless
 pub mod TreesAfter
 pub mod ValuedTrees

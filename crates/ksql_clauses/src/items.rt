@@ -7,10 +7,9 @@ ghost use Rattle.ksql_clauses.specs.Items as spec;
 ghost use Rattle.ksql_names.specs.Resolved as names;
 ghost use Rattle.ksql_clauses.specs.Sources as sources;
 
-use crate::full_names::resolved;
 use crate::sources::Known;
 use ksql_expressions::Expr;
-use ksql_names::Scope;
+use ksql_names::{Scope, resolved};
 use ksql_statements::{Select, SelectItem};
 use ksql_types::{Chars, Column, CopyOf};
 use std::alloc::{AllocError, Global};

@@ -6,7 +6,7 @@ use Rattle.ksql_expressions.specs.declared.tree.Expr.{Expr}
 use Rattle.ksql_statements.specs.declared.tree.Select.{Select}
 use Rattle.ksql_names.specs.declared.scope.Scope.{Scope}
 use Rattle.ksql_type_sets.specs.Sets.{is_some_in}
-use Rattle.ksql_typing.specs.Typing.{CanBeTrue, CanAgree, HasValue}
+use Rattle.ksql_typing.specs.Standing.{CanBeTrue, CanAgree, HasValue}
 use Rattle.std.proofs.lemmas.Bool.{and_parts, and_from}
 use Rattle.ksql_typing.specs.Judged.{judged}
 use Rattle.ksql_typing.proofs.TypeLaws as law

@@ -30,7 +30,7 @@ use Rattle.ksql_rules.specs.Keys.{on_sides, join_key, key_places}
 use Rattle.ksql_clauses.specs.Properties.{are_bad, digits_in, format_in, name_of, topic_in, value_of}
 use Rattle.ksql_names.specs.Resolved.{resolved}
 use Rattle.ksql_clauses.specs.Sources.{all_known, has_unknown_source, have_one_alias, is_windowed, reads_stream, joined_streams, is_full, from_scope, item_scope, there, late_exprs, early_exprs, on_exprs}
-use Rattle.ksql_typing.specs.Typing.{HasType, HasValue, CanBeTrue, CanAgree}
+use Rattle.ksql_typing.specs.Standing.{HasType, HasValue, CanBeTrue, CanAgree}
 use Rattle.ksql_names.specs.Uses.{has_unknown_name, has_ambiguous_name, has_unknown_function}
 use Rattle.ksql_clauses.specs.Windows.{is_too_large, is_bad}
 

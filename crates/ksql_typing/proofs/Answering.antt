@@ -1,14 +1,13 @@
 -- What is answered: a tree of the expression, or else the fault that applies.
 use Rattle.std.proofs.Common.{◌≡◌, Bool, true, false, if◌then◌else◌, Option, Some, None, ◌⊎◌, inr, refl, ap, sym, ◌∙◌, subst}
+use Rattle.std.proofs.lemmas.Bool.{both_ways, true_from_ne_false}
 use Rattle.std.specs.Prelude.{Result, Err, IfOk, IfErr}
 use Rattle.ksql_types.specs.declared.value.SqlType.{SqlType}
 use Rattle.ksql_expressions.specs.declared.tree.Expr.{Expr}
 use Rattle.ksql_expr.specs.declared.typed.Typed.{Typed}
 use Rattle.ksql_names.specs.declared.scope.Scope.{Scope}
 use Rattle.ksql_typing.specs.Possible.{possible}
-use Rattle.ksql_type_sets.specs.Sets.{is_some_in}
-use Rattle.ksql_names.specs.Scope.{column_types}
-use Rattle.ksql_typing.specs.Typing.{HasType, HasSomeType}
+use Rattle.ksql_type_sets.specs.Sets.{has, is_some_in}
 use Rattle.ksql_names.specs.Uses.{has_unknown_name, has_ambiguous_name, has_unknown_function}
 use Rattle.ksql_typing.proofs.Deciding.{decides}
 use Rattle.ksql_typing.proofs.Possibly.{possibly}
@@ -19,21 +18,14 @@ use Rattle.ksql_typing.specs.declared.fault.TypeFault.TheVariants.{UnknownColumn
 use Rattle.ksql_typing.specs.Judged as j
 use Rattle.ksql_typing.specs.Judged.{judged}
 use Rattle.ksql_typing.specs.Made.{made}
-use Rattle.ksql_typing.specs.Standing.{IsTypedTree}
+use Rattle.ksql_typing.specs.Standing.{HasType, HasSomeType, IsTypedTree}
 use Rattle.ksql_typing.specs.Typed.{Answers, HasFault}
 use Rattle.ksql_typing.proofs.MadeTrees.{makes-tree}
-use Rattle.ksql_typing.proofs.Making.{makes}
-use Rattle.ksql_typing.proofs.Meanings.{typed-meanings, typed-meanings-inside}
-use Rattle.ksql_typing.proofs.OneTyping.{not-both, one-fault}
+use Rattle.ksql_typing.proofs.OneTyping.{tree-made, not-both, one-fault}
 
--- a tree that is made is a tree of the expression
-pub made-is-tree : (s : Scope) (a : Expr) (x : Typed) → made a s ≡ Some x → IsTypedTree s a x
-made-is-tree s a x k = makes-tree a (column_types s) s (typed-meanings s) (typed-meanings-inside s) x k
-
--- where there is a type and each function is known, a tree is made, and it has the type
-pub tree-of : (s : Scope) (a : Expr) (t : Option SqlType) → has_unknown_function a ≡ false → HasType s a t
-    → (x : Typed) × (made a s ≡ Some x) × (x.ty ≡ t)
-tree-of s a t known h = makes h known
+-- where there is a type and each function is known, a tree is made
+tree-of : (s : Scope) (a : Expr) (t : Option SqlType) → has_unknown_function a ≡ false → (h : HasType s a t) → made a s ≡ Some h.0
+tree-of s a t known h = tree-made s a h.0 (h.1, known)
 
 -- ---- some type
 
@@ -42,23 +34,16 @@ some-type s a k =
     let r = some-in (possible a s) (λ t. true) k in
     (r.0, decides a s r.0 r.1)
 
+-- a type is in the set
+pub in-set : (s : Scope) (a : Expr) (t : Option SqlType) → HasType s a t → has (possible a s) t ≡ true
+in-set s a t h = ap (has (possible a s)) (sym h.2) ∙ possibly h.1
+
 pub some-in-set : (s : Scope) (a : Expr) (t : Option SqlType) → HasType s a t → is_some_in (possible a s) ≡ true
-some-in-set s a t h = some-from (possible a s) (λ u. true) t (possibly h) refl
-
-never : {A : Type 0} (b : Bool) → b ≡ true → b ≡ false → A
-never true k l = absurd (cc (l))
-never false k l = absurd (cc (k))
-
-holds-or-not : (b : Bool) → (b ≡ false → ⊥) → b ≡ true
-holds-or-not true k = refl
-holds-or-not false k = absurd (k refl)
+some-in-set s a t h = some-from (possible a s) (λ u. true) t (in-set s a t h) refl
 
 -- without a tree a function is unknown
 unknown-function : (s : Scope) (a : Expr) → HasSomeType s a → made a s ≡ None → has_unknown_function a ≡ true
-unknown-function s a h k = holds-or-not (has_unknown_function a) (λ known.
-    let r = tree-of s a h.0 known h.1 in
-    let e : None ≡ Some r.0 = sym k ∙ r.1 in
-    cc (e))
+unknown-function s a h k = true_from_ne_false (has_unknown_function a) (λ known. cc (sym k ∙ tree-of s a h.0 known h.1))
 
 -- ---- the fault
 
@@ -69,7 +54,7 @@ fault-at s a false true w i k l n = (i, k)
 fault-at s a false false true i k l n =
     let h = some-type s a l in
     ((i, k), h, unknown-function s a h n)
-fault-at s a false false false i k l n = ((i, k), λ h. never (is_some_in (possible a s)) (some-in-set s a h.0 h.1) l)
+fault-at s a false false false i k l n = ((i, k), λ h. both_ways (is_some_in (possible a s)) l (some-in-set s a h.0 h.1))
 
 -- the fault that is answered in place of a tree
 abbrev fault : Scope → Expr → TypeFault
@@ -85,7 +70,7 @@ IsRight s a r = IfOk r (λ tree. IsTypedTree s a tree) × IfErr r (λ f. (f ≡ 
 
 right-at : (s : Scope) (a : Expr) (o : Option Typed) → made a s ≡ o → IsRight s a (j.answer_of o (fault s a))
 right-at s a None k = (tt, inr (fault-of s a k))
-right-at s a (Some x) k = (made-is-tree s a x k, tt)
+right-at s a (Some x) k = (makes-tree a s x k, tt)
 
 pub right : (s : Scope) (a : Expr) (v : Judged) → v ≡ judged a s → IsRight s a (j.answer v)
 unfolding judged
@@ -93,7 +78,7 @@ right s a v k = subst (λ z. IsRight s a (j.answer z)) (sym k) (right-at s a (ma
 
 fault-at-answer : (s : Scope) (a : Expr) (f : TypeFault) → HasFault s a f → (o : Option Typed) → made a s ≡ o → j.answer_of o (fault s a) ≡ Err f
 fault-at-answer s a f h None k = ap (λ g. Err g) (one-fault s a (fault s a) f (fault-of s a k) h)
-fault-at-answer s a f h (Some x) k = absurd (not-both s a x (made-is-tree s a x k) f h)
+fault-at-answer s a f h (Some x) k = absurd (not-both s a x (makes-tree a s x k) f h)
 
 answers-itself : (f : TypeFault) → Answers (Err f) (Err f)
 answers-itself UnknownColumn = refl

@@ -1,5 +1,5 @@
--- What a typed tree of each form has, where its parts have their types.
-use Rattle.std.proofs.Common.{◌≡◌, IsTrue, List, [], ◌∷◌, map, Option, Some, None, refl, ap, sym, ◌∙◌, subst}
+-- What a typed tree of each form has, where its parts have their types; so a form has one type.
+use Rattle.std.proofs.Common.{◌≡◌, IsTrue, List, map, Option, Some, refl, ap, ap₂, sym, ◌∙◌, subst}
 use Rattle.std.specs.Prelude.{option_map, slice_get}
 use Rattle.ksql_types.specs.declared.value.SqlType.{SqlType}
 use Rattle.ksql_types.specs.declared.value.SqlType.TheVariants as sql
@@ -10,7 +10,7 @@ use Rattle.ksql_expr.specs.declared.typed.TypedNode.TheOpen.{TypedNode-F}
 use Rattle.ksql_expr.specs.declared.typed.TypedWhen.{TypedWhen}
 use Rattle.ksql_expr.specs.Rules.{type_of, fits, binary_type, sign_type, can_cast, fun_type, agg_type, case_type, is_between_typed, is_in_typed, typed}
 use Rattle.ksql_expr.specs.Typing as w
-use Rattle.ksql_expr.specs.Typing.{HasTypes, one, perhaps, each, whens, of, types, results, Part}
+use Rattle.ksql_expr.specs.Typing.{HasTypes, one, perhaps, each, whens, of, types, results}
 
 abbrev pub Checks : List (Option SqlType) → Option SqlType → TypedNode-F TypedNode Typed TypedWhen → Type 0
 Checks cs t (TypedNode-F.Literal x) = t ≡ type_of x
@@ -48,42 +48,9 @@ checks {cs} (w.case {operand = x} {otherwise = z} {ws = ws} {t = t} h k l e) = s
 checks {cs} (w.call {f = f} {es = es} {t = t} h e) = subst (Checks cs t) (sym (outs-Call f es)) (h, e)
 checks {cs} (w.aggregate {f = f} {a = a} {t = t} h e) = subst (Checks cs t) (sym (outs-Aggregate f a)) (h, e)
 
--- ---- the parts have their types
-
-abbrev pub Inner : List (Option SqlType) → Part → Type 0
-Inner cs (w.one x) = Unit {0}
-Inner cs (w.perhaps None) = Unit {0}
-Inner cs (w.perhaps (Some x)) = HasTypes cs (w.one x)
-Inner cs (w.each []) = Unit {0}
-Inner cs (w.each (x ∷ xs)) = HasTypes cs (w.one x) × HasTypes cs (w.each xs)
-Inner cs (w.whens []) = Unit {0}
-Inner cs (w.whens (y ∷ ys)) = HasTypes cs (w.one y.cond) × HasTypes cs (w.one y.result) × HasTypes cs (w.whens ys)
-
-pub inner : {cs : List (Option SqlType)} {p : Part} → HasTypes cs p → Inner cs p
-inner w.literal = tt
-inner (w.column a) = tt
-inner w.row_time = tt
-inner (w.sign a b) = tt
-inner (w.binary a b c) = tt
-inner (w.not a b) = tt
-inner (w.is_null a) = tt
-inner (w.between a b c d) = tt
-inner (w.one_of a b c) = tt
-inner (w.like a b) = tt
-inner (w.cast a b) = tt
-inner (w.case a b c d) = tt
-inner (w.call a b) = tt
-inner (w.aggregate a b) = tt
-inner w.left_out = tt
-inner (w.there a) = a
-inner w.none = tt
-inner (w.more a b) = (a, b)
-inner w.no_when = tt
-inner (w.more_whens a b c) = (a, b, c)
-
 -- ---- a form has one type
 
-pub same-some : {A : Type 0} {o : Option A} {a b : A} → o ≡ Some a → o ≡ Some b → a ≡ b
+same-some : {A : Type 0} {o : Option A} {a b : A} → o ≡ Some a → o ≡ Some b → a ≡ b
 same-some {A} {o} {a} {b} k l = let e : Some a ≡ Some b = sym k ∙ l in cc
 
 pub one-type : (cs : List (Option SqlType)) (v : TypedNode-F TypedNode Typed TypedWhen) (t u : Option SqlType) → Checks cs t v → Checks cs u v → t ≡ u
@@ -101,3 +68,8 @@ one-type cs (TypedNode-F.Cast a to) t u k l = k.2 ∙ sym l.2
 one-type cs (TypedNode-F.Case x ws z) t u k l = same-some k.3 l.3
 one-type cs (TypedNode-F.Call f es) t u k l = same-some k.1 l.1
 one-type cs (TypedNode-F.Aggregate f a) t u k l = same-some k.1 l.1
+
+-- two trees of one form are one
+pub whole : (cs : List (Option SqlType)) (x y : Typed) → HasTypes cs (w.one x) → HasTypes cs (w.one y) → x.node ≡ y.node → x ≡ y
+whole cs x y h k is =
+    ap₂ of (one-type cs (out-TypedNode y.node) x.ty y.ty (subst (λ v. Checks cs x.ty (out-TypedNode v)) is (checks h)) (checks k)) is

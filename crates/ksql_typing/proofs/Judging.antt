@@ -19,7 +19,6 @@ use Rattle.ksql_type_sets.specs.Sets as t
 use Rattle.ksql_typing.specs.Possible.{possible, name_types, each_of, perhaps_of, scope_within, conds_of, results_of}
 use Rattle.ksql_names.specs.Scope.{Meaning, meanings, seen}
 use Rattle.ksql_names.specs.Senses.{sense}
-use Rattle.ksql_typing.specs.Typing.{digits_type}
 use Rattle.ksql_names.specs.Uses.{Use, names, meanings_of, all_of, in_aggregate}
 use Rattle.ksql_names.specs.Uses as uses
 use Rattle.ksql_names.proofs.Equations as q
@@ -30,7 +29,7 @@ use Rattle.ksql_typing.specs.Judged as j
 use Rattle.ksql_typing.specs.Judged.{judged, judged_when, after}
 use Rattle.ksql_typing.specs.Made as m
 use Rattle.ksql_typing.specs.Made.{made, all_there, perhaps_there, literal_tree, typed_when}
-use Rattle.ksql_typing.specs.Standing.{digits_value}
+use Rattle.ksql_typing.specs.Standing.{digits_type, digits_value}
 use Rattle.ksql_typing.proofs.Equations as forms
 
 abbrev lost : Scope → Use → Bool

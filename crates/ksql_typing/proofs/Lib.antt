@@ -1,3 +1,4 @@
+pub mod Across
 pub mod Answering
 pub mod Deciding
 pub mod Equations
@@ -5,12 +6,12 @@ pub mod Having
 pub mod Inversion
 pub mod Judges
 pub mod Judging
+pub mod Known
 pub mod MadeTrees
 pub mod Making
 pub mod Meanings
 pub mod OneTyping
 pub mod Parts
 pub mod Possibly
-pub mod Trees
 pub mod TypeLaws
 pub mod Weights

@@ -1,188 +1,204 @@
--- Where an expression has a type and each function in it is known, a tree of that type is made.
-use Rattle.std.proofs.Common.{◌≡◌, ℕ, Bool, true, false, ◌||◌, List, [], ◌∷◌, ◌++◌, map, Option, Some, None, refl, ap, ap₂, sym, ◌∙◌}
-use Rattle.std.specs.Prelude.{option_map}
-use Rattle.std.specs.List.{list_any}
+-- What stands for an expression whose functions are known is the tree that is made of it, and has its types on a row of the
+-- scope.
+use Rattle.std.proofs.Common.{◌≡◌, ℕ, Bool, true, false, not, ◌&&◌, if◌then◌else◌, List, [], ◌∷◌, ◌++◌, map, Option, Some, None, is_some, refl, ap, ap₂, ◌∙◌, subst, nat_le}
+use Rattle.std.specs.Prelude.{option_map, pos}
+use Rattle.std.proofs.lemmas.Bool.{both_ways}
+use Rattle.std.proofs.lemmas.List.{map-append}
+use Rattle.ksql_types.specs.declared.value.SqlType.{SqlType}
 use Rattle.ksql_types.specs.declared.value.SqlType.TheVariants as sql
 use Rattle.ksql_types.specs.declared.value.Value.TheVariants as value
 use Rattle.ksql_expressions.specs.declared.tree.Expr.{Expr}
 use Rattle.ksql_expressions.specs.declared.tree.Expr.TheVariants as ex
-use Rattle.ksql_expr.specs.declared.typed.AggFun.TheVariants.{CountAll, Count}
+use Rattle.ksql_expr.specs.declared.typed.AggFun.{AggFun}
+use Rattle.ksql_expr.specs.declared.typed.AggFun.TheVariants.{Count}
+use Rattle.ksql_expr.specs.declared.typed.Fun.{Fun}
 use Rattle.ksql_expr.specs.declared.typed.Typed.{Typed}
-use Rattle.ksql_expr.specs.declared.typed.TypedWhen.{TypedWhen}
+use Rattle.ksql_expr.specs.declared.typed.TypedNode.{TypedNode}
 use Rattle.ksql_expr.specs.declared.typed.TypedNode.TheVariants as n
-use Rattle.ksql_expr.specs.Rules.{fits, binary_type, sign_type, can_cast, is_between_typed, is_in_typed, type_of, typed, fun_type, agg_type, case_type}
-use Rattle.ksql_expr.specs.Typing.{of, types}
+use Rattle.ksql_expr.specs.declared.typed.TypedWhen.{TypedWhen}
+use Rattle.ksql_expr.specs.Rules.{type_of, case_type, typed}
+use Rattle.ksql_expr.specs.Typing as w
+use Rattle.ksql_expr.specs.Typing.{HasTypes, of, truth, types, results}
 use Rattle.ksql_names.specs.declared.scope.Scope.{Scope}
-use Rattle.ksql_names.specs.Functions.{function_of, is_unknown}
-use Rattle.ksql_names.specs.Scope.{inside}
-use Rattle.ksql_typing.specs.Typing as h
-use Rattle.ksql_typing.specs.Typing.{Has, Typing, one, perhaps, each, whens, digits_type, with_otherwise}
+use Rattle.ksql_names.specs.Functions.{function_of, aggregate_of, is_unknown}
+use Rattle.ksql_names.specs.Scope.{meanings, inside, seen}
 use Rattle.ksql_names.specs.Uses.{calls, all_of}
 use Rattle.ksql_names.specs.Uses as uses
 use Rattle.ksql_names.proofs.Disjoint.{no-aggregate}
 use Rattle.ksql_names.proofs.Equations as q
 use Rattle.ksql_expressions.proofs.Folds.{perhaps_folded}
-use Rattle.ksql_names.proofs.NameFlags.{none-of}
 use Rattle.ksql_typing.specs.Judged.{after}
 use Rattle.ksql_typing.specs.Made as m
-use Rattle.ksql_typing.specs.Made.{made, all_there, perhaps_there, with_type, truth_where, name_tree, named_tree, literal_tree}
-use Rattle.ksql_typing.specs.Standing.{digits_value}
+use Rattle.ksql_typing.specs.Made.{made, all_there, perhaps_there, with_type, truth_where, name_tree, named_tree}
+use Rattle.ksql_typing.specs.Standing as st
+use Rattle.ksql_typing.specs.Standing.{Stands, Pair, digits_type, digits_value, type_of_case, with_otherwise}
 use Rattle.ksql_typing.proofs.Equations as forms
-use Rattle.ksql_typing.proofs.Trees.{of-one, of-two, of-three, typed-form, truth-form, cast-form, digits-typed, call-made}
+use Rattle.ksql_typing.proofs.Known.{Known, one-known, two-known, three-known, call-known}
 
-abbrev pub Known : Typing → Type 0
-Known (one a t) = list_any is_unknown (calls a) ≡ false
-Known (perhaps x t) = list_any is_unknown (uses.perhaps (perhaps_folded calls x)) ≡ false
-Known (each es ts) = list_any is_unknown (all_of (map calls es)) ≡ false
-Known (whens ws xs ys) = list_any is_unknown (all_of (map q.calls_when ws)) ≡ false
+-- what a name stands for is typed
+abbrev pub AreMeaningsTyped : List (Option SqlType) → Scope → Type 0
+AreMeaningsTyped cs s =
+    (qualifier : Option (List ℕ)) (name : List ℕ) (form : TypedNode) (t : SqlType) → meanings s qualifier name ≡ (form, t) ∷ []
+    → HasTypes cs (w.one (of (Some t) form))
 
-abbrev pub Makes : Scope → Typing → Type 0
-Makes s (one a t) = (x : Typed) × (made a s ≡ Some x) × (x.ty ≡ t)
-Makes s (perhaps a t) = (x : Option Typed) × (perhaps_there s (perhaps_folded made a) ≡ Some x) × (option_map (λ e. e.ty) x ≡ t)
-Makes s (each es ts) = (xs : List Typed) × (all_there s (map made es) ≡ Some xs) × (types xs ≡ ts)
-Makes s (whens ws xs ys) =
-    (zs : List TypedWhen) × (all_there s (map forms.made_when ws) ≡ Some zs) × (map (λ w. w.cond.ty) zs ≡ xs) × (map (λ w. w.result.ty) zs ≡ ys)
+abbrev pub Gives : List (Option SqlType) → Scope → Pair → Type 0
+Gives cs s (st.one a x) = (made a s ≡ Some x) × HasTypes cs (w.one x)
+Gives cs s (st.perhaps a x) = (perhaps_there s (perhaps_folded made a) ≡ Some x) × HasTypes cs (w.perhaps x)
+Gives cs s (st.each es xs) = (all_there s (map made es) ≡ Some xs) × HasTypes cs (w.each xs)
+Gives cs s (st.whens ws ys) = (all_there s (map forms.made_when ws) ≡ Some ys) × HasTypes cs (w.whens ys)
 
-known : {a b : List (List ℕ)} → a ≡ b → list_any is_unknown a ≡ false → list_any is_unknown b ≡ false
-known e k = ap (list_any is_unknown) (sym e) ∙ k
+-- a form made of one, two or three parts
+of-one : {A B : Type 0} (o : Option A) (x : A) (f : A → Option B) (r : B) → o ≡ Some x → f x ≡ Some r → after o f ≡ Some r
+of-one o x f r k l = ap (λ v. after v f) k ∙ l
 
-parted : {a : List (List ℕ)} (b c : List (List ℕ)) → a ≡ b ++ c → list_any is_unknown a ≡ false → (list_any is_unknown b ≡ false) × (list_any is_unknown c ≡ false)
-parted b c e k = none-of is_unknown b c (known e k)
+of-two : {A B C : Type 0} (o : Option A) (x : A) (p : Option B) (y : B) (f : A → B → Option C) (r : C)
+    → o ≡ Some x → p ≡ Some y → f x y ≡ Some r → after o (λ a. after p (f a)) ≡ Some r
+of-two o x p y f r k l j = ap (λ v. after v (λ a. after p (f a))) k ∙ of-one p y (f x) r l j
 
--- the arguments of a call
-within-known : (f : List ℕ) (star : Bool) (es : List Expr) → list_any is_unknown (calls (ex.Call f star es)) ≡ false
-    → (is_unknown f ≡ false) × (list_any is_unknown (all_of (map calls es)) ≡ false)
-within-known f star es k = both-false (is_unknown f) (list_any is_unknown (all_of (map calls es))) (known (q.calls-Call f star es) k)
+of-three : {A B C D : Type 0} (o : Option A) (x : A) (p : Option B) (y : B) (v : Option C) (z : C) (f : A → B → C → Option D) (r : D)
+    → o ≡ Some x → p ≡ Some y → v ≡ Some z → f x y z ≡ Some r → after o (λ a. after p (λ b. after v (f a b))) ≡ Some r
+of-three o x p y v z f r k l i j = ap (λ u. after u (λ a. after p (λ b. after v (f a b)))) k ∙ of-two p y v z (f x) r l i j
+
+typed-form : {o : Option (Option SqlType)} {t : Option SqlType} (form : TypedNode) → o ≡ Some t → with_type o form ≡ Some (of t form)
+typed-form form k = ap (λ v. with_type v form) k
+
+truth-form : {b : Bool} (form : TypedNode) → b ≡ true → truth_where b form ≡ Some (truth form)
+truth-form form k = ap (λ v. truth_where v form) k
+
+digits-typed : (number : ℕ) → type_of (digits_value number) ≡ Some (digits_type number)
+digits-typed number = at (nat_le number 2147483647)
   where
-    both-false : (a b : Bool) → (a || b) ≡ false → (a ≡ false) × (b ≡ false)
-    both-false true b h = absurd (cc (h))
-    both-false false b h = (refl, h)
+    at : (b : Bool) → type_of (if b then value.Int (pos number) else value.Big (pos number)) ≡ Some (if b then sql.Int else sql.Big)
+    at true = refl
+    at false = refl
 
-never : {A : Type 0} (b : Bool) → b ≡ true → b ≡ false → A
-never true k l = absurd (cc (l))
-never false k l = absurd (cc (k))
+-- digits as a literal
+pub digits-tree : (number : ℕ) → of (type_of (digits_value number)) (n.Literal (digits_value number)) ≡ of (Some (digits_type number)) (n.Literal (digits_value number))
+digits-tree number = ap (λ t. of t (n.Literal (digits_value number))) (digits-typed number)
 
-pub makes : {s : Scope} {t : Typing} → Has s t → Known t → Makes s t
-makes {s} (h.digits {number = number}) u =
-    (of (type_of (digits_value number)) (n.Literal (digits_value number)), forms.made-Digits number s, digits-typed number)
-makes {s} (h.text {content = c}) u = (of (Some sql.Text) (n.Literal (value.Txt c)), forms.made-Text c s, refl)
-makes {s} (h.truth {b = b}) u = (of (Some sql.Bool) (n.Literal (value.Bool b)), forms.made-Truth b s, refl)
-makes {s} h.null u = (of None (n.Literal value.Null), forms.made-Null s, refl)
-makes {s} (h.name {q = qualifier} {found = found} {form = form} {t = t} e) u =
-    (of (Some t) form, forms.made-Name qualifier found s ∙ ap name_tree e, refl)
-makes {s} (h.sign {minus = minus} {a = a} {x = x} {t = t} k e) u =
-    let r = makes k (known (q.calls-Sign minus a) u) in
-    let form = n.Sign minus r.0 in
-    (of (Some t) form, forms.made-Sign minus a s ∙ of-one (made a s) r.0 (m.sign_tree minus) (of (Some t) form) r.1 (typed-form (typed (sign_type r.0.ty)) (Some t) form (ap (λ v. typed (sign_type v)) r.2 ∙ ap typed e)), refl)
-makes {s} (h.binary {o = o} {a = a} {b = b} {x = x} {y = y} {t = t} k l e) u =
-    let p = parted _ _ (q.calls-Binary o a b) u in
-    let r = makes k p.0 in
-    let r2 = makes l p.1 in
-    let form = n.Binary o r.0 r2.0 in (
-      of (Some t) form,
-      forms.made-Binary o a b s ∙ of-two (made a s) r.0 (made b s) r2.0 (m.binary_tree o) (of (Some t) form) r.1 r2.1
-          (typed-form (typed (binary_type o r.0.ty r2.0.ty)) (Some t) form (ap₂ (λ v z. typed (binary_type o v z)) r.2 r2.2 ∙ ap typed e)),
-      refl,
+result-types : (ws : List TypedWhen) → types (map (λ v. v.result) ws) ≡ map (λ v. v.result.ty) ws
+result-types [] = refl
+result-types (y ∷ ws) = ap (λ ts. y.result.ty ∷ ts) (result-types ws)
+
+results-typed : (ws : List TypedWhen) (z : Option Typed) → types (results ws z) ≡ with_otherwise (map (λ v. v.result.ty) ws) (option_map (λ e. e.ty) z)
+results-typed ws None = result-types ws
+results-typed ws (Some z) = map-append (λ e. e.ty) (map (λ v. v.result) ws) (z ∷ []) ∙ ap (λ ts. ts ++ z.ty ∷ []) (result-types ws)
+
+-- the type of a CASE
+pub case-typed : (x : Option Typed) (ys : List TypedWhen) (z : Option Typed) {t : Option SqlType} → type_of_case x ys z ≡ Some t
+    → case_type (option_map (λ e. e.ty) x) (map (λ v. v.cond.ty) ys) (types (results ys z)) ≡ Some t
+case-typed x ys z k = ap (case_type (option_map (λ e. e.ty) x) (map (λ v. v.cond.ty) ys)) (results-typed ys z) ∙ k
+
+call-made : (f : List ℕ) (star : Bool) (es : List Expr) (s : Scope) (o : Option AggFun) (p : Option Fun) → aggregate_of f ≡ o → function_of f ≡ p
+    → made (ex.Call f star es) s ≡ after (all_there (seen (not (is_some o) && s.windowed) s) (map made es)) (named_tree o p star)
+call-made f star es s o p k l =
+    forms.made-Call f star es s ∙ ap₂ (λ a b. after (all_there (seen (not (is_some a) && s.windowed) s) (map made es)) (named_tree a b star)) k l
+
+pub gives : {cs : List (Option SqlType)} {s : Scope} {p : Pair} → AreMeaningsTyped cs s → AreMeaningsTyped cs (inside s)
+    → Stands s p → Known p → Gives cs s p
+gives {cs} {s} f g (st.digits {number = number}) u = (
+  forms.made-Digits number s ∙ ap Some (digits-tree number),
+  subst (λ x. HasTypes cs (w.one x)) (digits-tree number) w.literal,
+)
+gives {cs} {s} f g (st.text {content = content}) u = (forms.made-Text content s, w.literal {x = value.Txt content})
+gives {cs} {s} f g (st.truth {b = b}) u = (forms.made-Truth b s, w.literal {x = value.Bool b})
+gives {cs} {s} f g st.null u = (forms.made-Null s, w.literal {x = value.Null})
+gives {cs} {s} f g (st.name {q = qualifier} {found = found} {form = form} {t = t} e) u =
+    (forms.made-Name qualifier found s ∙ ap name_tree e, f qualifier found form t e)
+gives {cs} {s} f g (st.sign {minus = minus} {a = a} {x = x} {t = t} i e) u =
+    let r = gives f g i (one-known (q.calls-Sign minus a) u) in
+    let form = n.Sign minus x in (
+      forms.made-Sign minus a s ∙ of-one (made a s) x (m.sign_tree minus) (of (Some t) form) r.0 (typed-form form (ap typed e)),
+      w.sign r.1 e,
     )
-makes {s} (h.not {a = a} {x = x} k e) u =
-    let r = makes k (known (q.calls-Not a) u) in
-    let form = n.Not r.0 in
-    (of (Some sql.Bool) form, forms.made-Not a s ∙ of-one (made a s) r.0 m.not_tree (of (Some sql.Bool) form) r.1 (truth-form (fits sql.Bool r.0.ty) (Some sql.Bool) form (ap (fits sql.Bool) r.2 ∙ e) refl), refl)
-makes {s} (h.is_null {negated = negated} {a = a} {x = x} k) u =
-    let r = makes k (known (q.calls-IsNull negated a) u) in
-    let form = n.IsNull negated r.0 in
-    (of (Some sql.Bool) form, forms.made-IsNull negated a s ∙ of-one (made a s) r.0 (m.is_null_tree negated) (of (Some sql.Bool) form) r.1 (refl), refl)
-makes {s} (h.between {negated = negated} {a = a} {low = b} {high = c} {x = x} {y = y} {z = z} k l j e) u =
-    let p = parted _ _ (q.calls-Between negated a b c) u in
-    let p2 = none-of is_unknown (calls a) (calls b) p.0 in
-    let r = makes k p2.0 in
-    let r2 = makes l p2.1 in
-    let r3 = makes j p.1 in
-    let form = n.Between negated r.0 r2.0 r3.0 in (
-      of (Some sql.Bool) form,
+gives {cs} {s} f g (st.binary {o = o} {a = a} {b = b} {x = x} {y = y} {t = t} i j e) u =
+    let p = two-known (calls a) (calls b) (q.calls-Binary o a b) u in
+    let r = gives f g i p.0 in
+    let r2 = gives f g j p.1 in
+    let form = n.Binary o x y in (
+      forms.made-Binary o a b s ∙ of-two (made a s) x (made b s) y (m.binary_tree o) (of (Some t) form) r.0 r2.0 (typed-form form (ap typed e)),
+      w.binary r.1 r2.1 e,
+    )
+gives {cs} {s} f g (st.not {a = a} {x = x} i e) u =
+    let r = gives f g i (one-known (q.calls-Not a) u) in
+    let form = n.Not x in
+    (forms.made-Not a s ∙ of-one (made a s) x m.not_tree (truth form) r.0 (truth-form form e), w.not r.1 e)
+gives {cs} {s} f g (st.is_null {negated = negated} {a = a} {x = x} i) u =
+    let r = gives f g i (one-known (q.calls-IsNull negated a) u) in
+    (forms.made-IsNull negated a s ∙ of-one (made a s) x (m.is_null_tree negated) (truth (n.IsNull negated x)) r.0 refl, w.is_null r.1)
+gives {cs} {s} f g (st.between {negated = negated} {a = a} {low = b} {high = c} {x = x} {y = y} {z = z} i j l e) u =
+    let p = three-known (calls a) (calls b) (calls c) (q.calls-Between negated a b c) u in
+    let r = gives f g i p.0 in
+    let r2 = gives f g j p.1 in
+    let r3 = gives f g l p.2 in
+    let form = n.Between negated x y z in (
       forms.made-Between negated a b c s
-          ∙ of-three (made a s) r.0 (made b s) r2.0 (made c s) r3.0 (m.between_tree negated) (of (Some sql.Bool) form) r.1 r2.1 r3.1
-          (truth-form (is_between_typed r.0.ty r2.0.ty r3.0.ty) (Some sql.Bool) form
-          (ap₂ (λ v w. is_between_typed v w r3.0.ty) r.2 r2.2 ∙ ap (is_between_typed x y) r3.2 ∙ e) refl),
-      refl,
+          ∙ of-three (made a s) x (made b s) y (made c s) z (m.between_tree negated) (truth form) r.0 r2.0 r3.0 (truth-form form e),
+      w.between r.1 r2.1 r3.1 e,
     )
-makes {s} (h.one_of {negated = negated} {a = a} {es = es} {x = x} {ts = ts} k l e) u =
-    let p = parted _ _ (q.calls-OneOf negated a es) u in
-    let r = makes k p.0 in
-    let r2 = makes l p.1 in
-    let form = n.OneOf negated r.0 r2.0 in (
-      of (Some sql.Bool) form,
+gives {cs} {s} f g (st.one_of {negated = negated} {a = a} {es = es} {x = x} {xs = xs} i j e) u =
+    let p = two-known (calls a) (all_of (map calls es)) (q.calls-OneOf negated a es) u in
+    let r = gives f g i p.0 in
+    let r2 = gives f g j p.1 in
+    let form = n.OneOf negated x xs in (
       forms.made-OneOf negated a es s
-          ∙ of-two (made a s) r.0 (all_there s (map made es)) r2.0 (m.one_of_tree negated) (of (Some sql.Bool) form) r.1 r2.1
-          (truth-form (is_in_typed r.0.ty (types r2.0)) (Some sql.Bool) form (ap₂ is_in_typed r.2 r2.2 ∙ e) refl),
-      refl,
+          ∙ of-two (made a s) x (all_there s (map made es)) xs (m.one_of_tree negated) (truth form) r.0 r2.0 (truth-form form e),
+      w.one_of r.1 r2.1 e,
     )
-makes {s} (h.like {negated = negated} {a = a} {pattern = pattern} {x = x} k e) u =
-    let r = makes k (known (q.calls-Like negated a pattern) u) in
-    let form = n.Like negated r.0 pattern in
-    (of (Some sql.Bool) form, forms.made-Like negated a pattern s ∙ of-one (made a s) r.0 (m.like_tree negated pattern) (of (Some sql.Bool) form) r.1 (truth-form (fits sql.Text r.0.ty) (Some sql.Bool) form (ap (fits sql.Text) r.2 ∙ e) refl), refl)
-makes {s} (h.cast {a = a} {to = to} {x = x} k e) u =
-    let r = makes k (known (q.calls-Cast a to) u) in
-    let form = n.Cast r.0 to in
-    (of (Some to) form, forms.made-Cast a to s ∙ of-one (made a s) r.0 (m.cast_tree to) (of (Some to) form) r.1 (cast-form (can_cast r.0.ty to) to (Some to) form (ap (λ v. can_cast v to) r.2 ∙ e) refl), refl)
-makes {s} (h.case {operand = a} {otherwise = b} {ws = ws} {x = x} {z = z} {conds = conds} {results = results} {t = t} k l j e) u =
-    let p = parted _ _ (q.calls-Case a ws b) u in
-    let p2 = none-of is_unknown (uses.perhaps (perhaps_folded calls a)) (all_of (map q.calls_when ws)) p.0 in
-    let r = makes k p2.0 in
-    let r2 = makes l p2.1 in
-    let r3 = makes j p.1 in
-    let form = n.Case r.0 r2.0 r3.0 in
-    let is : m.type_of_case r.0 r2.0 r3.0 ≡ Some t =
-    ap₂ (λ v cs. case_type v cs (with_otherwise (map (λ w. w.result.ty) r2.0) (option_map (λ e. e.ty) r3.0))) r.2 r2.2
-    ∙ ap₂ (λ rs v. case_type x conds (with_otherwise rs v)) r2.3 r3.2 ∙ e in (
-      of t form,
+gives {cs} {s} f g (st.like {negated = negated} {a = a} {pattern = pattern} {x = x} i e) u =
+    let r = gives f g i (one-known (q.calls-Like negated a pattern) u) in
+    let form = n.Like negated x pattern in
+    (forms.made-Like negated a pattern s ∙ of-one (made a s) x (m.like_tree negated pattern) (truth form) r.0 (truth-form form e), w.like r.1 e)
+gives {cs} {s} f g (st.cast {a = a} {to = to} {x = x} i e) u =
+    let r = gives f g i (one-known (q.calls-Cast a to) u) in
+    let tree = of (Some to) (n.Cast x to) in
+    (forms.made-Cast a to s ∙ of-one (made a s) x (m.cast_tree to) tree r.0 (ap (λ b. if b then Some tree else None) e), w.cast r.1 e)
+gives {cs} {s} f g (st.case {operand = a} {otherwise = b} {ws = ws} {x = x} {z = z} {ys = ys} {t = t} i j l e) u =
+    let p = three-known (uses.perhaps (perhaps_folded calls a)) (all_of (map q.calls_when ws)) (uses.perhaps (perhaps_folded calls b)) (q.calls-Case a ws b) u in
+    let r = gives f g i p.0 in
+    let r2 = gives f g j p.1 in
+    let r3 = gives f g l p.2 in
+    let form = n.Case x ys z in (
       forms.made-Case a ws b s
-          ∙ of-three (perhaps_there s (perhaps_folded made a)) r.0 (all_there s (map forms.made_when ws)) r2.0 (perhaps_there s (perhaps_folded made b)) r3.0
-          m.case_tree (of t form) r.1 r2.1 r3.1 (typed-form (m.type_of_case r.0 r2.0 r3.0) t form is),
-      refl,
+          ∙ of-three (perhaps_there s (perhaps_folded made a)) x (all_there s (map forms.made_when ws)) ys (perhaps_there s (perhaps_folded made b)) z
+          m.case_tree (of t form) r.0 r2.0 r3.0 (typed-form form e),
+      w.case r.1 r2.1 r3.1 (case-typed x ys z e),
     )
-makes {s} (h.call {f = f} {args = es} {found = found} {ts = ts} {t = t} g k e) u =
-    let r = makes k (within-known f false es u).1 in
-    let form = n.Call found r.0 in (
-      of t form,
-      call-made f false es s None (Some found) (no-aggregate f found g) g
-          ∙ of-one (all_there s (map made es)) r.0 (named_tree None (Some found) false) (of t form) r.1
-          (typed-form (fun_type found (types r.0)) t form (ap (fun_type found) r.2 ∙ e)),
-      refl,
+gives {cs} {s} f g (st.call {f = name} {args = es} {found = found} {xs = xs} {t = t} e i h) u =
+    let r = gives f g i (call-known name false es u).1 in
+    let form = n.Call found xs in (
+      call-made name false es s None (Some found) (no-aggregate name found e) e
+          ∙ of-one (all_there s (map made es)) xs (named_tree None (Some found) false) (of t form) r.0 (typed-form form h),
+      w.call r.1 h,
     )
-makes {s} (h.count_all {f = f} g) u =
-    (of (Some sql.Big) (n.Aggregate CountAll None), call-made f true [] s (Some Count) (function_of f) g refl, refl)
-makes {s} (h.aggregate {f = f} {a = a} {found = found} {x = x} {t = t} g k e) u =
-    let r = makes k (none-of is_unknown (calls a) [] (within-known f false (a ∷ []) u).1).0 in
-    let form = n.Aggregate found (Some r.0) in (
-      of t form,
-      call-made f false (a ∷ []) s (Some found) (function_of f) g refl
-          ∙ of-one (all_there (inside s) (made a ∷ [])) (r.0 ∷ []) (named_tree (Some found) (function_of f) false) (of t form)
-          (ap (λ o. after o (λ v. Some (v ∷ []))) r.1) (typed-form (agg_type found (Some r.0.ty)) t form (ap (λ v. agg_type found (Some v)) r.2 ∙ e)),
-      refl,
+gives {cs} {s} f g (st.count_all {f = name} e) u = (call-made name true [] s (Some Count) (function_of name) e refl, w.aggregate w.left_out refl)
+gives {cs} {s} f g (st.aggregate {f = name} {a = a} {found = found} {x = x} {t = t} e i h) u =
+    let r = gives g g i (two-known (calls a) [] refl (call-known name false (a ∷ []) u).1).0 in
+    let form = n.Aggregate found (Some x) in (
+      call-made name false (a ∷ []) s (Some found) (function_of name) e refl
+          ∙ of-one (all_there (inside s) (made a ∷ [])) (x ∷ []) (named_tree (Some found) (function_of name) false) (of t form)
+          (ap (λ o. after o (λ v. Some (v ∷ []))) r.0) (typed-form form h),
+      w.aggregate (w.there r.1) h,
     )
-makes {s} (h.unknown {f = f} {star = star} {args = es} g k) u = never (is_unknown f) g (within-known f star es u).0
-makes h.left_out u = (None, refl, refl)
-makes (h.there k) u =
-    let r = makes k u in
-    (Some r.0, ap (λ o. after o (λ v. Some (Some v))) r.1, ap Some r.2)
-makes h.none u = ([], refl, refl)
-makes {s} (h.more {a = a} {es = es} k l) u =
-    let p = none-of is_unknown (calls a) (all_of (map calls es)) u in
-    let r = makes k p.0 in
-    let r2 = makes l p.1 in
-    (r.0 ∷ r2.0, of-two (made a s) r.0 (all_there s (map made es)) r2.0 (λ v vs. Some (v ∷ vs)) (r.0 ∷ r2.0) r.1 r2.1 refl, ap₂ (λ v vs. v ∷ vs) r.2 r2.2)
-makes h.no_when u = ([], refl, refl, refl)
-makes {s} (h.more_whens {w = w} {ws = ws} k l j) u =
-    let p = none-of is_unknown (q.calls_when w) (all_of (map q.calls_when ws)) u in
-    let p2 = parted _ _ (q.calls-when w) p.0 in
-    let r = makes k p2.0 in
-    let r2 = makes l p2.1 in
-    let r3 = makes j p.1 in
-    let y = m.typed_when r.0 r2.0 in (
-      y ∷ r3.0,
-      of-two (forms.made_when w s) y (all_there s (map forms.made_when ws)) r3.0 (λ v vs. Some (v ∷ vs)) (y ∷ r3.0)
-          (forms.made-when w s ∙ of-two (made w.cond s) r.0 (made w.result s) r2.0 (λ v z. Some (m.typed_when v z)) y r.1 r2.1 refl) r3.1 refl,
-      ap₂ (λ v vs. v ∷ vs) r.2 r3.2,
-      ap₂ (λ v vs. v ∷ vs) r2.2 r3.3,
+gives f g (st.unknown {f = name} {star = star} {args = es} e i) u = absurd (both_ways (is_unknown name) (call-known name star es u).0 e)
+gives f g st.left_out u = (refl, w.left_out)
+gives f g (st.there i) u =
+    let r = gives f g i u in
+    (ap (λ o. after o (λ v. Some (Some v))) r.0, w.there r.1)
+gives f g st.none u = (refl, w.none)
+gives {cs} {s} f g (st.more {a = a} {es = es} {x = x} {xs = xs} i j) u =
+    let p = two-known (calls a) (all_of (map calls es)) refl u in
+    let r = gives f g i p.0 in
+    let r2 = gives f g j p.1 in
+    (of-two (made a s) x (all_there s (map made es)) xs (λ v vs. Some (v ∷ vs)) (x ∷ xs) r.0 r2.0 refl, w.more r.1 r2.1)
+gives f g st.no_when u = (refl, w.no_when)
+gives {cs} {s} f g (st.more_whens {w = v} {ws = ws} {y = y} {ys = ys} i j l) u =
+    let p = two-known (q.calls_when v) (all_of (map q.calls_when ws)) refl u in
+    let p2 = two-known (calls v.cond) (calls v.result) (q.calls-when v) p.0 in
+    let r = gives f g i p2.0 in
+    let r2 = gives f g j p2.1 in
+    let r3 = gives f g l p.1 in (
+      of-two (forms.made_when v s) y (all_there s (map forms.made_when ws)) ys (λ z zs. Some (z ∷ zs)) (y ∷ ys)
+          (forms.made-when v s ∙ of-two (made v.cond s) y.cond (made v.result s) y.result (λ z zs. Some (m.typed_when z zs)) y r.0 r2.0 refl) r3.0 refl,
+      w.more_whens r.1 r2.1 r3.1,
     )

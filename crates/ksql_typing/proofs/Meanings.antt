@@ -11,7 +11,7 @@ use Rattle.ksql_expr.specs.Typing.{HasTypes, of}
 use Rattle.ksql_names.specs.declared.scope.Scope.{Scope}
 use Rattle.ksql_names.specs.declared.scope.ScopeColumn.{ScopeColumn}
 use Rattle.ksql_names.specs.Scope.{Meaning, is_known_as, is_qualified, columns_known_as, first_alias, row_time, window_bounds, meanings, inside, column_types}
-use Rattle.ksql_typing.proofs.Trees.{AreMeaningsTyped}
+use Rattle.ksql_typing.proofs.Making.{AreMeaningsTyped}
 
 abbrev AreTyped : List (Option SqlType) → List Meaning → Type 0
 AreTyped cs [] = Unit {0}

@@ -10,27 +10,26 @@ use Rattle.ksql_names.specs.declared.scope.Scope.{Scope}
 use Rattle.ksql_type_sets.specs.Decisions.{has_value, can_be_true, do_agree, can_agree}
 use Rattle.ksql_typing.specs.Possible.{possible}
 use Rattle.ksql_type_sets.specs.Sets.{has, is_some_in, some_in}
-use Rattle.ksql_typing.specs.Typing.{HasType, HasSomeType, HasValue, CanBeTrue, Agree, CanAgree}
 use Rattle.ksql_names.specs.Uses.{has_unknown_name, has_ambiguous_name, has_unknown_function}
 use Rattle.ksql_typing.proofs.Deciding.{decides}
 use Rattle.ksql_typing.proofs.Having.{clear}
-use Rattle.ksql_typing.proofs.Possibly.{possibly}
 use Rattle.ksql_type_sets.proofs.Sets.{some-in, some-from, type-same, same-type}
 use Rattle.ksql_typing.specs.Judged.{judged}
-use Rattle.ksql_typing.specs.Standing.{IsTypedTree}
+use Rattle.ksql_typing.specs.Standing.{HasType, HasSomeType, HasValue, CanBeTrue, Agree, CanAgree, IsTypedTree}
 use Rattle.ksql_typing.specs.Typed.{AreNamesClear}
-use Rattle.ksql_typing.proofs.Answering.{made-is-tree, tree-of, some-type, some-in-set}
+use Rattle.ksql_typing.proofs.Answering.{in-set, some-type, some-in-set}
+use Rattle.ksql_typing.proofs.MadeTrees.{makes-tree}
 use Rattle.ksql_typing.proofs.OneTyping.{tree-made}
 
 -- ---- the types and the tree
 
 pub types : (s : Scope) (a : Expr) (t : Option SqlType) → IsTrue (has (judged a s).types t) ↔ HasType s a t
 unfolding judged
-types s a t = (decides a s t, possibly)
+types s a t = (decides a s t, in-set s a t)
 
 pub tree : (s : Scope) (a : Expr) (x : Typed) → ((judged a s).tree ≡ Some x) ↔ IsTypedTree s a x
 unfolding judged
-tree s a x = (made-is-tree s a x, λ h. (tree-made s a x h).0)
+tree s a x = (makes-tree a s x, tree-made s a x)
 
 pub unknown : (s : Scope) (a : Expr) → (judged a s).unknown ≡ has_unknown_name s a
 unfolding judged
@@ -42,18 +41,16 @@ ambiguous s a = refl
 
 pub accepted : (s : Scope) (a : Expr) (t : Option SqlType) → has_unknown_function a ≡ false → HasType s a t
     → (x : Typed) × IsTypedTree s a x × (x.ty ≡ t)
-accepted s a t k h =
-    let r = tree-of s a t k h in
-    (r.0, made-is-tree s a r.0 r.1, r.2)
+accepted s a t k h = (h.0, (h.1, k), h.2)
 
 pub tree_type : (s : Scope) (a : Expr) (x : Typed) → IsTypedTree s a x → HasType s a x.ty
-tree_type s a x h = (tree-made s a x h).2
+tree_type s a x h = (x, h.0, refl)
 
 pub known : (s : Scope) (a : Expr) (x : Typed) → IsTypedTree s a x → has_unknown_function a ≡ false
-known s a x h = (tree-made s a x h).1
+known s a x h = h.1
 
 pub names_clear : (s : Scope) (a : Expr) (t : Option SqlType) → HasType s a t → AreNamesClear s a
-names_clear s a t h = (clear (λ n. n == 0) refl h, clear (λ n. nat_lt 1 n) refl h)
+names_clear s a t h = (clear (λ n. n == 0) refl h.1, clear (λ n. nat_lt 1 n) refl h.1)
 
 -- ---- what is decided
 
@@ -69,14 +66,14 @@ pub value : (s : Scope) (a : Expr) → IsTrue (has_value (judged a s).types) ↔
 unfolding judged
 value s a = (
   λ k. let r = some-in (possible a s) is_some k in value-is s a r.0 (decides a s r.0 r.1) r.2,
-  λ h. some-from (possible a s) is_some (Some h.0) (possibly h.1) refl,
+  λ h. some-from (possible a s) is_some (Some h.0) (in-set s a (Some h.0) h.1) refl,
 )
 
 pub truth : (s : Scope) (a : Expr) → IsTrue (can_be_true (judged a s).types) ↔ CanBeTrue s a
 unfolding judged
 truth s a = (
   λ k. let r = some-in (possible a s) (fits sql.Bool) k in (r.0, decides a s r.0 r.1, r.2),
-  λ h. some-from (possible a s) (fits sql.Bool) h.0 (possibly h.1) h.2,
+  λ h. some-from (possible a s) (fits sql.Bool) h.0 (in-set s a h.0 h.1) h.2,
 )
 
 agree : (x y : Option SqlType) → do_agree x y ≡ true → Agree x y
@@ -96,6 +93,6 @@ agreement s a b = (
       let x = some-in (possible a s) (λ u. some_in (possible b s) (do_agree u)) k in
       let y = some-in (possible b s) (do_agree x.0) x.2 in
       (x.0, y.0, decides a s x.0 x.1, decides b s y.0 y.1, agree x.0 y.0 y.2),
-  λ h. some-from (possible a s) (λ u. some_in (possible b s) (do_agree u)) h.0 (possibly h.2)
-      (some-from (possible b s) (do_agree h.0) h.1 (possibly h.3) (agreed h.0 h.1 h.4)),
+  λ h. some-from (possible a s) (λ u. some_in (possible b s) (do_agree u)) h.0 (in-set s a h.0 h.2)
+      (some-from (possible b s) (do_agree h.0) h.1 (in-set s b h.1 h.3) (agreed h.0 h.1 h.4)),
 )

@@ -3,4 +3,3 @@ pub mod Made
 pub mod Possible
 pub mod Standing
 pub mod Typed
-pub mod Typing

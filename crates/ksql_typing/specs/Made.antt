@@ -1,5 +1,5 @@
 -- The typed tree of an expression, made from those of its parts; None where there is none.
-use Rattle.std.specs.Prelude.{ℕ, Bool, true, false, if◌then◌else◌, List, [], ◌∷◌, map, Option, Some, None, option_map}
+use Rattle.std.specs.Prelude.{ℕ, Bool, true, false, if◌then◌else◌, List, [], ◌∷◌, Option, Some, None}
 use Rattle.ksql_types.specs.declared.operator.BinaryOp.{BinaryOp}
 use Rattle.ksql_types.specs.declared.value.SqlType.{SqlType}
 use Rattle.ksql_types.specs.declared.value.SqlType.TheVariants as sql
@@ -15,14 +15,13 @@ use Rattle.ksql_expr.specs.declared.typed.Typed.{Typed}
 use Rattle.ksql_expr.specs.declared.typed.TypedNode.{TypedNode}
 use Rattle.ksql_expr.specs.declared.typed.TypedNode.TheVariants as n
 use Rattle.ksql_expr.specs.declared.typed.TypedWhen.{TypedWhen, roll-TypedWhen}
-use Rattle.ksql_expr.specs.Rules.{type_of, fits, binary_type, sign_type, can_cast, fun_type, agg_type, case_type, is_between_typed, is_in_typed, typed}
+use Rattle.ksql_expr.specs.Rules.{type_of, fits, binary_type, sign_type, can_cast, fun_type, agg_type, is_between_typed, is_in_typed, typed}
 use Rattle.ksql_expr.specs.Typing.{of, truth, types}
 use Rattle.ksql_names.specs.declared.scope.Scope.{Scope}
 use Rattle.ksql_names.specs.Functions.{function_of, aggregate_of}
 use Rattle.ksql_names.specs.Scope.{Meaning, meanings}
 use Rattle.ksql_typing.specs.Possible.{scope_within}
-use Rattle.ksql_typing.specs.Typing.{with_otherwise}
-use Rattle.ksql_typing.specs.Standing.{digits_value}
+use Rattle.ksql_typing.specs.Standing.{digits_value, type_of_case}
 
 -- ---- a form, made of typed parts
 
@@ -64,10 +63,6 @@ like_tree negated pattern x = truth_where (fits sql.Text x.ty) (n.Like negated x
 
 abbrev pub cast_tree : SqlType → Typed → Option Typed
 cast_tree to x = if can_cast x.ty to then Some (of (Some to) (n.Cast x to)) else None
-
-abbrev pub type_of_case : Option Typed → List TypedWhen → Option Typed → Option (Option SqlType)
-type_of_case x ws z =
-    case_type (option_map (λ e. e.ty) x) (map (λ w. w.cond.ty) ws) (with_otherwise (map (λ w. w.result.ty) ws) (option_map (λ e. e.ty) z))
 
 abbrev pub case_tree : Option Typed → List TypedWhen → Option Typed → Option Typed
 case_tree x ws z = with_type (type_of_case x ws z) (n.Case x ws z)

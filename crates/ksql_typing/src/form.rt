@@ -3,8 +3,7 @@
 ghost use Rattle.std.specs.Prelude.{◌≡◌, ◌≤◌, IfOk, map, option_map};
 ghost use Rattle.ksql_expr.specs.Typing.{types};
 ghost use Rattle.ksql_expr.specs.Rules.{typed as as_expression};
-ghost use Rattle.ksql_typing.specs.Typing.{with_otherwise};
-ghost use Rattle.ksql_typing.specs.Standing.{digits_value};
+ghost use Rattle.ksql_typing.specs.Standing.{digits_value, type_of_case, with_otherwise};
 ghost use Rattle.ksql_typing.specs.Made as spec;
 
 use ksql_expr::{
@@ -235,7 +234,7 @@ fn type_of_case(
     whens: &[TypedWhen],
     otherwise: &HeldTree,
 ) -> Result<Option<Option<SqlType>>, AllocError>
-    ensures { IfOk result (λ ty. ty ≡ spec.type_of_case arg.now whens.now otherwise.now) }
+    ensures { IfOk result (λ ty. ty ≡ type_of_case arg.now whens.now otherwise.now) }
 {
     let conds = conds_of(alloc, whens)?;
     let results = results_of(alloc, whens, type_of(otherwise))?;

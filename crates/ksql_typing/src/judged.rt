@@ -5,13 +5,12 @@ ghost use Rattle.ksql_types.specs.declared.value.Value.TheVariants as value;
 ghost use Rattle.ksql_names.specs.Functions as functions;
 ghost use Rattle.ksql_type_sets.specs.Sets as types;
 ghost use Rattle.ksql_names.specs.Senses.{sense, view};
-ghost use Rattle.ksql_typing.specs.Typing.{digits_type};
 ghost use Rattle.ksql_names.specs.Scope.{meanings, seen};
 ghost use Rattle.ksql_typing.specs.declared.judged.Judged.{Judged as OneJudged};
 ghost use Rattle.ksql_typing.specs.Judged as spec;
 ghost use Rattle.ksql_typing.specs.Judged.{AreOf, AreOfWhens, JudgedWhen, after};
 ghost use Rattle.ksql_expr.specs.Typing.{of};
-ghost use Rattle.ksql_typing.specs.Standing.{digits_value};
+ghost use Rattle.ksql_typing.specs.Standing.{digits_type, digits_value};
 ghost use Rattle.ksql_typing.specs.Made as made;
 
 use crate::form::{self, HeldTree};

@@ -4,18 +4,20 @@ ghost use Rattle.std.specs.Prelude.{◌≡◌, ◌↔◌, false, IsTrue, Option,
 ghost use Rattle.ksql_types.specs.declared.value.SqlType.{SqlType as OneType};
 ghost use Rattle.ksql_expressions.specs.declared.tree.Expr.{Expr as OneExpr};
 ghost use Rattle.ksql_expr.specs.declared.typed.Typed.{Typed as OneTyped};
+ghost use Rattle.ksql_expr.specs.Typing.{IsTyped};
 ghost use Rattle.ksql_names.specs.declared.scope.Scope.{Scope as OneScope};
 ghost use Rattle.ksql_type_sets.specs.Decisions as decided;
 ghost use Rattle.ksql_type_sets.specs.Sets.{has, is_some_in};
-ghost use Rattle.ksql_typing.specs.Typing.{HasType, HasSomeType, HasValue, CanBeTrue, CanAgree};
+ghost use Rattle.ksql_names.specs.Scope.{column_types};
 ghost use Rattle.ksql_names.specs.Uses.{has_unknown_function};
 ghost use Rattle.ksql_typing.specs.Judged.{judged};
-ghost use Rattle.ksql_typing.specs.Standing.{IsTypedTree};
+ghost use Rattle.ksql_typing.specs.Standing.{HasType, HasSomeType, HasValue, CanBeTrue, CanAgree, IsTypedTree};
 ghost use Rattle.ksql_typing.specs.Typed.{AreNamesClear};
 
 /// What is found out of an expression is exact: its types are those that it can have, and its tree is the one typed tree
 /// of the expression. There is a tree of each type of an expression whose functions are all known. The tree's type is
-/// one of the expression's types, its functions are known, and the names of an expression with a type are clear.
+/// one of the expression's types, its functions are known, it and its parts have their types on a row of the scope, and the
+/// names of an expression with a type are clear.
 pub fn types_are_decided()
     ensures types { (s : OneScope) (a : OneExpr) (t : Option OneType) → IsTrue (has (judged a s).types t) ↔ HasType s a t }
     ensures tree { (s : OneScope) (a : OneExpr) (x : OneTyped) → ((judged a s).tree ≡ Some x) ↔ IsTypedTree s a x }
@@ -24,6 +26,7 @@ pub fn types_are_decided()
         → (x : OneTyped) × IsTypedTree s a x × (x.ty ≡ t) }
     ensures tree_type { (s : OneScope) (a : OneExpr) (x : OneTyped) → IsTypedTree s a x → HasType s a x.ty }
     ensures known { (s : OneScope) (a : OneExpr) (x : OneTyped) → IsTypedTree s a x → has_unknown_function a ≡ false }
+    ensures checked { (s : OneScope) (a : OneExpr) (x : OneTyped) → IsTypedTree s a x → IsTyped (column_types s) x }
     ensures clear { (s : OneScope) (a : OneExpr) (t : Option OneType) → HasType s a t → AreNamesClear s a }
 {}
 

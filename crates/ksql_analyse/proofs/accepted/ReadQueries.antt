@@ -10,7 +10,7 @@ use Rattle.ksql_statements.specs.declared.tree.Select.{Select}
 use Rattle.ksql_names.specs.declared.scope.Scope.{Scope}
 use Rattle.ksql_names.specs.Functions.{is_unknown}
 use Rattle.ksql_names.specs.Uses.{calls}
-use Rattle.ksql_typing.specs.Typing.{CanAgree}
+use Rattle.ksql_typing.specs.Standing.{CanAgree}
 use Rattle.ksql_names.proofs.Equations as equation
 use Rattle.ksql_names.proofs.NameFlags.{none-of}
 use Rattle.ksql_typing.proofs.TypeLaws as laws

@@ -11,7 +11,7 @@ use Rattle.ksql_statements.specs.declared.tree.Select.{Select}
 use Rattle.ksql_names.specs.declared.scope.Scope.{Scope}
 use Rattle.ksql_type_sets.specs.Decisions as decided
 use Rattle.ksql_type_sets.specs.Sets.{is_some_in}
-use Rattle.ksql_typing.specs.Typing.{HasSomeType, HasValue, CanBeTrue, CanAgree}
+use Rattle.ksql_typing.specs.Standing.{HasSomeType, HasValue, CanBeTrue, CanAgree}
 use Rattle.ksql_names.specs.Uses.{IsSmall, has_unknown_function}
 use Rattle.ksql_names.specs.Functions.{is_unknown}
 use Rattle.ksql_names.proofs.Equations as equation

@@ -1,9 +1,10 @@
 -- What the typed tree of an expression holds, from what stands in the expression: aggregates, long texts and columns.
-use Rattle.std.proofs.Common.{◌≡◌, ℕ, ◌+◌, Bool, true, false, ◌&&◌, ◌||◌, if◌then◌else◌, List, [], ◌∷◌, ◌++◌, map, length, Option, is_some, nat_le, nat_lt, pos, refl, ap, ap₂, sym, ◌∙◌, subst, inl, inr}
+use Rattle.std.proofs.Common.{◌≡◌, ℕ, ◌+◌, Bool, true, false, ◌&&◌, ◌||◌, if◌then◌else◌, List, [], ◌∷◌, ◌++◌, map, length, Option, None, Some, is_some, nat_le, nat_lt, pos, refl, ap, ap₂, sym, ◌∙◌, subst, inl, inr}
 use Rattle.std.specs.List.{list_any, list_all}
-use Rattle.std.proofs.lemmas.Bool.{le-ltb, leb-true}
+use Rattle.std.proofs.lemmas.Bool.{both_ways, le-ltb, leb-true}
 use Rattle.std.proofs.lemmas.List.Folds.{list_any-append, list_all-append}
 use Rattle.ksql_types.specs.declared.value.SqlType.{SqlType}
+use Rattle.ksql_types.specs.declared.value.SqlType.TheVariants as sql
 use Rattle.ksql_types.specs.declared.value.Value.{Value}
 use Rattle.ksql_types.specs.declared.value.Value.TheVariants as value
 use Rattle.ksql_expressions.specs.declared.tree.Expr.{Expr}
@@ -17,7 +18,7 @@ use Rattle.ksql_expr.specs.declared.typed.TypedNode.TheOpen.{TypedNode-F}
 use Rattle.ksql_expr.specs.Aggregates.{holds, is_aggregate as is_aggregate_node, is_long_text, is_column, holds_aggregate, holds_long_text, holds_column, HoldsNoAggregate, HoldsShortTexts, HoldsColumn}
 use Rattle.ksql_expr.specs.Typing.{of}
 use Rattle.ksql_names.specs.declared.scope.Scope.{Scope}
-use Rattle.ksql_names.specs.Functions.{is_aggregate}
+use Rattle.ksql_names.specs.Functions.{is_aggregate, is_unknown}
 use Rattle.ksql_names.specs.Scope.{meanings}
 use Rattle.ksql_names.specs.Uses.{Use, names, calls, is_small, IsSmall, are_small, are_whens_small, is_small_perhaps, all_of, in_aggregate, small_step}
 use Rattle.ksql_names.specs.Uses as uses
@@ -29,7 +30,8 @@ use Rattle.ksql_expressions.proofs.Folds.{perhaps_folded}
 use Rattle.std.proofs.lemmas.Bool.{and_from, and_parts}
 use Rattle.ksql_names.proofs.Small as small
 use Rattle.ksql_typing.specs.Standing as st
-use Rattle.ksql_typing.specs.Standing.{Pair, Stands, digits_value, one, perhaps, each, whens}
+use Rattle.ksql_typing.specs.Standing.{Pair, Stands, IsTypedTree, digits_type, digits_value, one, perhaps, each, whens}
+use Rattle.ksql_typing.proofs.Known.{Known, one-known, two-known, three-known, call-known}
 use Rattle.ksql_analyse.proofs.forms.Holding as hold
 use Rattle.ksql_analyse.proofs.forms.Holding.{each_holds, whens_hold, part_holds}
 use Rattle.ksql_analyse.proofs.forms.Meant.{IsMeant, meant}
@@ -204,59 +206,63 @@ module _ (far : ℕ → Bool) (ok : Use → Bool) where
   plain-call : (f : List ℕ) (us : List Use) → is_aggregate f ≡ false → (if is_aggregate f then map in_aggregate us else us) ≡ us
   plain-call f us g = ap (λ (b : Bool). if b then map in_aggregate us else us) g
 
-  pub bears : {s : Scope} {p : Pair} → AreNear s → Stands s p → BearsPart p
-  bears w (st.digits {number = number} {t = t}) =
+  pub bears : {s : Scope} {p : Pair} → AreNear s → Stands s p → Known p → BearsPart p
+  bears w (st.digits {number = number}) u =
       moved [] _ [] _ (is_small (e.Digits number)) (is_small (e.Digits number)) _ _ (q.calls-Digits number) (q.names-Digits number) (λ k. k) (λ leaf. refl)
-      (of-literal t (digits_value number) _ (λ k. short-digits number))
-  bears w (st.text {content = content} {t = t}) =
+      (of-literal (Some (digits_type number)) (digits_value number) _ (λ k. short-digits number))
+  bears w (st.text {content = content}) u =
       moved [] _ [] _ (is_small (e.Text content)) (is_small (e.Text content)) _ _ (q.calls-Text content) (q.names-Text content) (λ k. k) (λ leaf. refl)
-      (of-literal t (value.Txt content) _ (text-small content))
-  bears w (st.truth {b = b} {t = t}) =
+      (of-literal (Some sql.Text) (value.Txt content) _ (text-small content))
+  bears w (st.truth {b = b}) u =
       moved [] _ [] _ (is_small (e.Truth b)) (is_small (e.Truth b)) _ _ (q.calls-Truth b) (q.names-Truth b) (λ k. k) (λ leaf. refl)
-      (of-literal t (value.Bool b) _ (λ k. refl))
-  bears w (st.null {t = t}) =
+      (of-literal (Some sql.Bool) (value.Bool b) _ (λ k. refl))
+  bears w st.null u =
       moved [] _ [] _ (is_small e.Null) (is_small e.Null) _ _ q.calls-Null q.names-Null (λ k. k) (λ leaf. refl)
-      (of-literal t value.Null _ (λ k. refl))
-  bears {s} w (st.name {q = qualifier} {found = found} {form = form} {meant = meaning} {t = t} k) =
+      (of-literal None value.Null _ (λ k. refl))
+  bears {s} w (st.name {q = qualifier} {found = found} {form = form} {t = t} k) h =
       let u : Use = record { within = false; qualifier = qualifier; name = found } in
       moved [] _ (u ∷ []) _ (is_small (e.Name qualifier found)) (is_small (e.Name qualifier found)) _ _ (q.calls-Name qualifier found) (q.names-Name qualifier found) (λ l. l) (λ leaf. refl)
-      (of-name s qualifier found form meaning t u _ (meant s qualifier found form meaning k) (λ l. w qualifier found form meaning l k))
-  bears w (st.sign {minus = minus} {a = a} {x = x} {t = t} k) =
+      (of-name s qualifier found form t (Some t) u _ (meant s qualifier found form t k) (λ l. w qualifier found form t l k))
+  bears w (st.sign {minus = minus} {a = a} {x = x} {t = t} k r) u =
       moved (calls a) _ (names a) _ (is_small a) _ (λ leaf. holds leaf x) _ (q.calls-Sign minus a) (q.names-Sign minus a)
-      (λ l. small.small-Sign (e.Sign minus a) l minus a refl) (λ leaf. hold.holds-Sign leaf t minus x) (bears w k)
-  bears w (st.binary {o = o} {a = a} {b = b} {x = x} {y = y} {t = t} k l) =
+      (λ l. small.small-Sign (e.Sign minus a) l minus a refl) (λ leaf. hold.holds-Sign leaf (Some t) minus x) (bears w k (one-known (q.calls-Sign minus a) u))
+  bears w (st.binary {o = o} {a = a} {b = b} {x = x} {y = y} {t = t} k l r) u =
+      let known = two-known (calls a) (calls b) (q.calls-Binary o a b) u in
       moved (calls a ++ calls b) _ (names a ++ names b) _ (is_small a && is_small b) _ (λ leaf. holds leaf x || holds leaf y) _ (q.calls-Binary o a b) (q.names-Binary o a b)
-      (λ c. let r = small.small-Binary (e.Binary o a b) c o a b refl in and_from (is_small a) (is_small b) r.0 r.1) (λ leaf. hold.holds-Binary leaf t o x y)
-      (both (calls a) (calls b) (names a) (names b) (is_small a) (is_small b) (λ leaf. holds leaf x) (λ leaf. holds leaf y) (bears w k) (bears w l))
-  bears w (st.not {a = a} {x = x} {t = t} k) =
+      (λ c. let r = small.small-Binary (e.Binary o a b) c o a b refl in and_from (is_small a) (is_small b) r.0 r.1) (λ leaf. hold.holds-Binary leaf (Some t) o x y)
+      (both (calls a) (calls b) (names a) (names b) (is_small a) (is_small b) (λ leaf. holds leaf x) (λ leaf. holds leaf y) (bears w k known.0) (bears w l known.1))
+  bears w (st.not {a = a} {x = x} k r) u =
       moved (calls a) _ (names a) _ (is_small a) _ (λ leaf. holds leaf x) _ (q.calls-Not a) (q.names-Not a)
-      (λ l. small.small-Not (e.Not a) l a refl) (λ leaf. hold.holds-Not leaf t x) (bears w k)
-  bears w (st.is_null {negated = m} {a = a} {x = x} {t = t} k) =
+      (λ l. small.small-Not (e.Not a) l a refl) (λ leaf. hold.holds-Not leaf (Some sql.Bool) x) (bears w k (one-known (q.calls-Not a) u))
+  bears w (st.is_null {negated = m} {a = a} {x = x} k) u =
       moved (calls a) _ (names a) _ (is_small a) _ (λ leaf. holds leaf x) _ (q.calls-IsNull m a) (q.names-IsNull m a)
-      (λ l. small.small-IsNull (e.IsNull m a) l m a refl) (λ leaf. hold.holds-IsNull leaf t m x) (bears w k)
-  bears w (st.between {negated = m} {a = a} {low = b} {high = c} {x = x} {y = y} {z = z} {t = t} k l j) =
+      (λ l. small.small-IsNull (e.IsNull m a) l m a refl) (λ leaf. hold.holds-IsNull leaf (Some sql.Bool) m x) (bears w k (one-known (q.calls-IsNull m a) u))
+  bears w (st.between {negated = m} {a = a} {low = b} {high = c} {x = x} {y = y} {z = z} k l j r) u =
+      let known = three-known (calls a) (calls b) (calls c) (q.calls-Between m a b c) u in
       moved (calls a ++ calls b ++ calls c) _ (names a ++ names b ++ names c) _ (is_small a && is_small b && is_small c) _
       (λ leaf. holds leaf x || holds leaf y || holds leaf z) _ (q.calls-Between m a b c) (q.names-Between m a b c)
       (λ d. let r = small.small-Between (e.Between m a b c) d m a b c refl in and_from (is_small a && is_small b) (is_small c) (and_from (is_small a) (is_small b) r.0 r.1) r.2)
-      (λ leaf. hold.holds-Between leaf t m x y z)
+      (λ leaf. hold.holds-Between leaf (Some sql.Bool) m x y z)
       (both (calls a ++ calls b) (calls c) (names a ++ names b) (names c) (is_small a && is_small b) (is_small c) (λ leaf. holds leaf x || holds leaf y) (λ leaf. holds leaf z)
-      (both (calls a) (calls b) (names a) (names b) (is_small a) (is_small b) (λ leaf. holds leaf x) (λ leaf. holds leaf y) (bears w k) (bears w l)) (bears w j))
-  bears w (st.one_of {negated = m} {a = a} {es = es} {x = x} {xs = xs} {t = t} k l) =
+      (both (calls a) (calls b) (names a) (names b) (is_small a) (is_small b) (λ leaf. holds leaf x) (λ leaf. holds leaf y) (bears w k known.0) (bears w l known.1)) (bears w j known.2))
+  bears w (st.one_of {negated = m} {a = a} {es = es} {x = x} {xs = xs} k l r) u =
+      let known = two-known (calls a) (all_of (map calls es)) (q.calls-OneOf m a es) u in
       moved (calls a ++ all_of (map calls es)) _ (names a ++ all_of (map names es)) _ (is_small a && are_small es) _ (λ leaf. holds leaf x || each_holds leaf xs) _
       (q.calls-OneOf m a es) (q.names-OneOf m a es)
-      (λ d. let r = small.small-OneOf (e.OneOf m a es) d m a es refl in and_from (is_small a) (are_small es) r.0 r.1) (λ leaf. hold.holds-OneOf leaf t m x xs)
-      (both (calls a) (all_of (map calls es)) (names a) (all_of (map names es)) (is_small a) (are_small es) (λ leaf. holds leaf x) (λ leaf. each_holds leaf xs) (bears w k) (bears w l))
-  bears w (st.like {negated = m} {a = a} {pattern = pattern} {x = x} {t = t} k) =
+      (λ d. let r = small.small-OneOf (e.OneOf m a es) d m a es refl in and_from (is_small a) (are_small es) r.0 r.1) (λ leaf. hold.holds-OneOf leaf (Some sql.Bool) m x xs)
+      (both (calls a) (all_of (map calls es)) (names a) (all_of (map names es)) (is_small a) (are_small es) (λ leaf. holds leaf x) (λ leaf. each_holds leaf xs) (bears w k known.0) (bears w l known.1))
+  bears w (st.like {negated = m} {a = a} {pattern = pattern} {x = x} k r) u =
       moved (calls a) _ (names a) _ (nat_le (length pattern) 65536 && is_small a) _ (λ leaf. leaf (TypedNode-F.Like m (holds leaf x) pattern) || holds leaf x) _
       (q.calls-Like m a pattern) (q.names-Like m a pattern)
       (λ l. and_from (nat_le (length pattern) 65536) (is_small a) (pattern-small m a pattern l) (small.small-Like (e.Like m a pattern) l m a pattern refl))
-      (λ leaf. hold.holds-Like leaf t m x pattern)
+      (λ leaf. hold.holds-Like leaf (Some sql.Bool) m x pattern)
       (both [] (calls a) [] (names a) (nat_le (length pattern) 65536) (is_small a) (λ leaf. leaf (TypedNode-F.Like m (holds leaf x) pattern)) (λ leaf. holds leaf x)
-      (of-pattern m pattern (λ leaf. holds leaf x)) (bears w k))
-  bears w (st.cast {a = a} {to = to} {x = x} {t = t} k) =
+      (of-pattern m pattern (λ leaf. holds leaf x)) (bears w k (one-known (q.calls-Like m a pattern) u)))
+  bears w (st.cast {a = a} {to = to} {x = x} k r) u =
       moved (calls a) _ (names a) _ (is_small a) _ (λ leaf. holds leaf x) _ (q.calls-Cast a to) (q.names-Cast a to)
-      (λ l. small.small-Cast (e.Cast a to) l a to refl) (λ leaf. hold.holds-Cast leaf t x to) (bears w k)
-  bears w (st.case {operand = a} {otherwise = b} {ws = ws} {x = x} {z = z} {ys = ys} {t = t} k l j) =
+      (λ l. small.small-Cast (e.Cast a to) l a to refl) (λ leaf. hold.holds-Cast leaf (Some to) x to) (bears w k (one-known (q.calls-Cast a to) u))
+  bears w (st.case {operand = a} {otherwise = b} {ws = ws} {x = x} {z = z} {ys = ys} {t = t} k l j r) u =
+      let known = three-known (uses.perhaps (perhaps_folded calls a)) (all_of (map q.calls_when ws)) (uses.perhaps (perhaps_folded calls b)) (q.calls-Case a ws b) u in
       moved (uses.perhaps (perhaps_folded calls a) ++ all_of (map q.calls_when ws) ++ uses.perhaps (perhaps_folded calls b)) _
       (uses.perhaps (perhaps_folded names a) ++ all_of (map q.names_when ws) ++ uses.perhaps (perhaps_folded names b)) _
       (is_small_perhaps a && are_whens_small ws && is_small_perhaps b) _ (λ leaf. part_holds leaf x || whens_hold leaf ys || part_holds leaf z) _
@@ -268,39 +274,43 @@ module _ (far : ℕ → Bool) (ok : Use → Bool) where
       (uses.perhaps (perhaps_folded names a) ++ all_of (map q.names_when ws)) (uses.perhaps (perhaps_folded names b))
       (is_small_perhaps a && are_whens_small ws) (is_small_perhaps b) (λ leaf. part_holds leaf x || whens_hold leaf ys) (λ leaf. part_holds leaf z)
       (both (uses.perhaps (perhaps_folded calls a)) (all_of (map q.calls_when ws)) (uses.perhaps (perhaps_folded names a)) (all_of (map q.names_when ws))
-      (is_small_perhaps a) (are_whens_small ws) (λ leaf. part_holds leaf x) (λ leaf. whens_hold leaf ys) (bears w k) (bears w l)) (bears w j))
-  bears w (st.call {f = f} {args = es} {found = found} {xs = xs} {t = t} g k) =
+      (is_small_perhaps a) (are_whens_small ws) (λ leaf. part_holds leaf x) (λ leaf. whens_hold leaf ys) (bears w k known.0) (bears w l known.1)) (bears w j known.2))
+  bears w (st.call {f = f} {args = es} {found = found} {xs = xs} {t = t} g k r) u =
       of-call f (all_of (map calls es)) _ (all_of (map names es)) _ (are_small es) _ (λ leaf. each_holds leaf xs) _ (q.calls-Call f false es)
       (q.names-Call f false es ∙ plain-call f (all_of (map names es)) (ap is_some (no-aggregate f found g)))
-      (λ l. small.small-Call (e.Call f false es) l f false es refl) (λ leaf. hold.holds-Call leaf t found xs) (bears w k)
-  bears w (st.count_all {f = f} {t = t} g) =
-      of-aggregate f Count [] _ _ _ _ (disjoint.is-aggregate f Count g) (q.calls-Call f true []) (hold.holds-CountAll is_long_text t CountAll)
-  bears w (st.aggregate {f = f} {a = a} {found = found} {x = x} {t = t} g k) =
+      (λ l. small.small-Call (e.Call f false es) l f false es refl) (λ leaf. hold.holds-Call leaf t found xs) (bears w k (call-known f false es u).1)
+  bears w (st.count_all {f = f} g) u =
+      of-aggregate f Count [] _ _ _ _ (disjoint.is-aggregate f Count g) (q.calls-Call f true []) (hold.holds-CountAll is_long_text (Some sql.Big) CountAll)
+  bears w (st.aggregate {f = f} {a = a} {found = found} {x = x} {t = t} g k r) u =
       of-aggregate f found (all_of (map calls (a ∷ []))) _ _ _ _ (disjoint.is-aggregate f found g) (q.calls-Call f false (a ∷ [])) (hold.holds-Aggregate is_long_text t found x)
-  bears w st.left_out = nothing true
-  bears w (st.there k) = bears w k
-  bears w st.none = nothing true
-  bears w (st.more {a = a} {es = es} {x = x} {xs = xs} k l) =
-      both (calls a) (all_of (map calls es)) (names a) (all_of (map names es)) (is_small a) (are_small es) (λ leaf. holds leaf x) (λ leaf. each_holds leaf xs) (bears w k) (bears w l)
-  bears w st.no_when = nothing true
-  bears w (st.more_whens {w = v} {ws = ws} {y = y} {ys = ys} k l j) =
+  bears w (st.unknown {f = f} {star = star} {args = es} g k) u = absurd (both_ways (is_unknown f) (call-known f star es u).0 g)
+  bears w st.left_out u = nothing true
+  bears w (st.there k) u = bears w k u
+  bears w st.none u = nothing true
+  bears w (st.more {a = a} {es = es} {x = x} {xs = xs} k l) u =
+      let known = two-known (calls a) (all_of (map calls es)) refl u in
+      both (calls a) (all_of (map calls es)) (names a) (all_of (map names es)) (is_small a) (are_small es) (λ leaf. holds leaf x) (λ leaf. each_holds leaf xs) (bears w k known.0) (bears w l known.1)
+  bears w st.no_when u = nothing true
+  bears w (st.more_whens {w = v} {ws = ws} {y = y} {ys = ys} k l j) u =
+      let known = two-known (q.calls_when v) (all_of (map q.calls_when ws)) refl u in
+      let own = two-known (calls v.cond) (calls v.result) (q.calls-when v) known.0 in
       both (q.calls_when v) (all_of (map q.calls_when ws)) (q.names_when v) (all_of (map q.names_when ws)) (is_small v.cond && is_small v.result) (are_whens_small ws)
       (λ leaf. hold.when_holds leaf y) (λ leaf. whens_hold leaf ys)
       (moved (calls v.cond ++ calls v.result) _ (names v.cond ++ names v.result) _ (is_small v.cond && is_small v.result) _ (λ leaf. holds leaf y.cond || holds leaf y.result) _
       (q.calls-when v) (q.names-when v) (λ c. c) (λ leaf. hold.holds-when leaf y)
-      (both (calls v.cond) (calls v.result) (names v.cond) (names v.result) (is_small v.cond) (is_small v.result) (λ leaf. holds leaf y.cond) (λ leaf. holds leaf y.result) (bears w k) (bears w l)))
-      (bears w j)
+      (both (calls v.cond) (calls v.result) (names v.cond) (names v.result) (is_small v.cond) (is_small v.result) (λ leaf. holds leaf y.cond) (λ leaf. holds leaf y.result) (bears w k own.0) (bears w l own.1)))
+      (bears w j known.1)
 
 -- ---- what follows
 
-pub no-aggregate-held : (s : Scope) (a : Expr) (x : Typed) → Stands s (one a x) → list_any is_aggregate (calls a) ≡ false → HoldsNoAggregate x
+pub no-aggregate-held : (s : Scope) (a : Expr) (x : Typed) → IsTypedTree s a x → list_any is_aggregate (calls a) ≡ false → HoldsNoAggregate x
 unfolding holds_aggregate
-no-aggregate-held s a x k h = (bears (λ i. false) (λ u. true) (λ qualifier name form t l m i o. refl) k).aggregates h
+no-aggregate-held s a x k h = (bears (λ i. false) (λ u. true) (λ qualifier name form t l m i o. refl) k.0 k.1).aggregates h
 
-pub short-texts-held : (s : Scope) (a : Expr) (x : Typed) → Stands s (one a x) → IsSmall a → HoldsShortTexts x
+pub short-texts-held : (s : Scope) (a : Expr) (x : Typed) → IsTypedTree s a x → IsSmall a → HoldsShortTexts x
 unfolding holds_long_text
-short-texts-held s a x k h = (bears (λ i. false) (λ u. true) (λ qualifier name form t l m i o. refl) k).texts h
+short-texts-held s a x k h = (bears (λ i. false) (λ u. true) (λ qualifier name form t l m i o. refl) k.0 k.1).texts h
 
-pub column-is-held : (s : Scope) (a : Expr) (x : Typed) → Stands s (one a x) → list_any is_aggregate (calls a) ≡ false → some (names a) ≡ true → HoldsColumn x
+pub column-is-held : (s : Scope) (a : Expr) (x : Typed) → IsTypedTree s a x → list_any is_aggregate (calls a) ≡ false → some (names a) ≡ true → HoldsColumn x
 unfolding holds_column
-column-is-held s a x k h l = (bears (λ i. false) (λ u. true) (λ qualifier name form t l m i o. refl) k).columns h ∙ l
+column-is-held s a x k h l = (bears (λ i. false) (λ u. true) (λ qualifier name form t l m i o. refl) k.0 k.1).columns h ∙ l

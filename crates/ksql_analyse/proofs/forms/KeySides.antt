@@ -12,17 +12,14 @@ use Rattle.ksql_expressions.specs.declared.tree.Expr.TheVariants as e
 use Rattle.ksql_expressions.specs.declared.tree.Expr.TheOpen.{Expr-F}
 use Rattle.ksql_expressions.specs.declared.tree.WhenText.{WhenText}
 use Rattle.ksql_expr.specs.declared.typed.Typed.{Typed}
-use Rattle.ksql_expr.specs.declared.typed.TypedNode.{TypedNode}
 use Rattle.ksql_expr.specs.declared.typed.TypedNode.TheVariants as n
 use Rattle.ksql_expr.specs.Typing.{of}
 use Rattle.ksql_names.specs.declared.scope.Scope.{Scope}
 use Rattle.ksql_names.specs.declared.scope.ScopeColumn.{ScopeColumn}
-use Rattle.ksql_names.specs.Scope.{is_known_as, is_qualified, meanings}
-use Rattle.ksql_typing.specs.Typing as h
-use Rattle.ksql_typing.specs.Typing.{Has, HasType}
+use Rattle.ksql_names.specs.Scope.{is_known_as, is_qualified}
 use Rattle.std.proofs.lemmas.Bool.{and_parts, and_from}
 use Rattle.ksql_typing.specs.Standing as st
-use Rattle.ksql_typing.specs.Standing.{Stands}
+use Rattle.ksql_typing.specs.Standing.{Stands, HasType}
 use Rattle.ksql_clauses.specs.declared.sources.Known.{Known}
 use Rattle.ksql_names.specs.Resolved.{resolved, full_name, written_for, is_row_time}
 use Rattle.ksql_clauses.specs.Sources.{scope_column}
@@ -133,40 +130,16 @@ key-tree s k a o i at x h =
     let g = stood-name s a x is.qualifier is.name is.is h in
     let known = known-by s is.qualifier is.name k.alias o.column (sym (r.resolved-Name s is.qualifier is.name) ∙ sym (ap (resolved s) is.is) ∙ o.is) in
     let m = meant-known s is.qualifier is.name g.0 g.1 g.2 i (scope_column k.alias o.column) at known in
-    (g.3.0, g.3.1 ∙ ap (of g.3.0) m.0)
+    (Some g.1, g.3 ∙ ap (of (Some g.1)) m.0)
 
 -- and its type that column's
-abbrev pub IsNamed : Scope → Expr-F Expr WhenText → Option SqlType → Type 0
-IsNamed s (Expr-F.Name q name) t = (form : TypedNode) × (u : SqlType) × (meanings s q name ≡ (form, u) ∷ []) × (t ≡ Some u)
-IsNamed s form t = Unit {0}
-
-pub named-out : {s : Scope} {a : Expr} {t : Option SqlType} → Has s (h.one a t) → IsNamed s (out-Expr a) t
-named-out {s} {t = u} (h.digits {number = number}) = subst (λ z. IsNamed s z u) (sym (e.outs-Digits number)) tt
-named-out {s} {t = u} (h.text {content = content}) = subst (λ z. IsNamed s z u) (sym (e.outs-Text content)) tt
-named-out {s} {t = u} (h.truth {b = b}) = subst (λ z. IsNamed s z u) (sym (e.outs-Truth b)) tt
-named-out {s} {t = u} h.null = subst (λ z. IsNamed s z u) (sym e.outs-Null) tt
-named-out {s} {t = u} (h.sign {minus = m} {a = a} k l) = subst (λ z. IsNamed s z u) (sym (e.outs-Sign m a)) tt
-named-out {s} {t = u} (h.binary {o = o} {a = a} {b = b} k l j) = subst (λ z. IsNamed s z u) (sym (e.outs-Binary o a b)) tt
-named-out {s} {t = u} (h.not {a = a} k l) = subst (λ z. IsNamed s z u) (sym (e.outs-Not a)) tt
-named-out {s} {t = u} (h.is_null {negated = m} {a = a} k) = subst (λ z. IsNamed s z u) (sym (e.outs-IsNull m a)) tt
-named-out {s} {t = u} (h.between {negated = m} {a = a} {low = b} {high = c} k l j i) = subst (λ z. IsNamed s z u) (sym (e.outs-Between m a b c)) tt
-named-out {s} {t = u} (h.one_of {negated = m} {a = a} {es = es} k l j) = subst (λ z. IsNamed s z u) (sym (e.outs-OneOf m a es)) tt
-named-out {s} {t = u} (h.like {negated = m} {a = a} {pattern = p} k l) = subst (λ z. IsNamed s z u) (sym (e.outs-Like m a p)) tt
-named-out {s} {t = u} (h.cast {a = a} {to = to} k l) = subst (λ z. IsNamed s z u) (sym (e.outs-Cast a to)) tt
-named-out {s} {t = u} (h.case {operand = a} {otherwise = b} {ws = ws} k l j i) = subst (λ z. IsNamed s z u) (sym (e.outs-Case a ws b)) tt
-named-out {s} {t = u} (h.call {f = f} {args = es} k l j) = subst (λ z. IsNamed s z u) (sym (e.outs-Call f false es)) tt
-named-out {s} {t = u} (h.count_all {f = f} k) = subst (λ z. IsNamed s z u) (sym (e.outs-Call f true [])) tt
-named-out {s} {t = u} (h.aggregate {f = f} {a = a} k l j) = subst (λ z. IsNamed s z u) (sym (e.outs-Call f false (a ∷ []))) tt
-named-out {s} {t = u} (h.unknown {f = f} {star = star} {args = es} k l) = subst (λ z. IsNamed s z u) (sym (e.outs-Call f star es)) tt
-named-out {s} {t = u} (h.name {q = q} {found = name} {form = form} {t = t} k) = subst (λ z. IsNamed s z u) (sym (e.outs-Name q name)) (form, t, k, refl)
-
 pub key-type : (s : Scope) (k : Known) (a : Expr) (o : IsOnlyKey s k a) (i : ℕ) → slice_get s.columns i ≡ Some (scope_column k.alias o.column) → (t : Option SqlType)
     → HasType s a t → t ≡ Some o.column.ty
 key-type s k a o i at t h =
     let is = was-name s a (Some k.alias) o.column.name o.is in
-    let g = subst (λ z. IsNamed s z t) (ap out-Expr is.is ∙ e.outs-Name is.qualifier is.name) (named-out h) in
+    let g = stood-name s a h.0 is.qualifier is.name is.is h.1 in
     let known = known-by s is.qualifier is.name k.alias o.column (sym (r.resolved-Name s is.qualifier is.name) ∙ sym (ap (resolved s) is.is) ∙ o.is) in
-    g.3 ∙ ap Some (meant-known s is.qualifier is.name g.0 g.1 g.2 i (scope_column k.alias o.column) at known).1
+    sym h.2 ∙ ap (λ y. y.ty) g.3 ∙ ap Some (meant-known s is.qualifier is.name g.0 g.1 g.2 i (scope_column k.alias o.column) at known).1
 
 -- ---- the sides of ON
 

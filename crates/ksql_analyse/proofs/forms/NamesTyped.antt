@@ -6,13 +6,15 @@ use Rattle.ksql_types.specs.declared.value.SqlType.{SqlType}
 use Rattle.ksql_types.specs.declared.value.SqlType.TheVariants as sql
 use Rattle.ksql_expressions.specs.declared.tree.Expr.{Expr}
 use Rattle.ksql_expressions.specs.declared.tree.Expr.TheVariants as e
+use Rattle.ksql_expr.specs.declared.typed.Typed.{Typed}
 use Rattle.ksql_expr.specs.declared.typed.TypedNode.TheVariants as n
+use Rattle.ksql_expr.specs.Typing.{of}
 use Rattle.ksql_types.specs.Names.{is_among}
 use Rattle.ksql_names.specs.declared.scope.Scope.{Scope}
 use Rattle.ksql_names.specs.declared.scope.ScopeColumn.{ScopeColumn}
 use Rattle.ksql_names.specs.Scope.{Meaning, is_qualified, is_known_as, columns_known_as, first_alias, row_time, window_bounds, meanings, seen, inside}
-use Rattle.ksql_typing.specs.Typing as h
-use Rattle.ksql_typing.specs.Typing.{Has, Typing, one, perhaps, each, whens, HasType}
+use Rattle.ksql_typing.specs.Standing as h
+use Rattle.ksql_typing.specs.Standing.{Stands, Pair, one, perhaps, each, whens, HasType}
 use Rattle.ksql_names.specs.Resolved.{resolved, resolved_when, full_name, written_for, is_row_time}
 use Rattle.ksql_names.proofs.Resolving as form
 use Rattle.std.proofs.lemmas.Bool.{and_parts}
@@ -192,24 +194,25 @@ module _ (r : Scope) (plain : HasPlainColumns r) where
   within : (s : Scope) → IsSeen s → IsSeen (inside s)
   within s v = (false, ap inside v.1)
 
-  abbrev Turned : Typing → Typing
-  Turned (one a t) = one (resolved r a) t
-  Turned (perhaps x t) = perhaps (option_map (resolved r) x) t
-  Turned (each es ts) = each (map (resolved r) es) ts
-  Turned (whens ws xs ys) = whens (map (resolved_when r) ws) xs ys
+  abbrev Turned : Pair → Pair
+  Turned (one a x) = one (resolved r a) x
+  Turned (perhaps a x) = perhaps (option_map (resolved r) a) x
+  Turned (each es xs) = each (map (resolved r) es) xs
+  Turned (whens ws ys) = whens (map (resolved_when r) ws) ys
 
-  named : (s : Scope) (q : Option (List ℕ)) (name : List ℕ) (m : Meaning) → IsSeen s → meanings s q name ≡ m ∷ [] → HasType s (resolved r (e.Name q name)) (Some m.1)
+  named : (s : Scope) (q : Option (List ℕ)) (name : List ℕ) (m : Meaning) → IsSeen s → meanings s q name ≡ m ∷ []
+      → Stands s (one (resolved r (e.Name q name)) (of (Some m.1) m.0))
   named s q name m v k =
       let here : meanings (seen v.0 r) q name ≡ m ∷ [] = subst (λ x. meanings x q name ≡ m ∷ []) v.1 k in
       let d = full-named (seen v.0 r) plain q name m here in
       let is : resolved r (e.Name q name) ≡ e.Name d.0 d.1 = form.resolved-Name r q name ∙ d.2 in
-      subst (λ x. HasType x (resolved r (e.Name q name)) (Some m.1)) (sym v.1)
-      (subst (λ a. HasType (seen v.0 r) a (Some m.1)) (sym is) (h.name d.3))
+      subst (λ x. Stands x (one (resolved r (e.Name q name)) (of (Some m.1) m.0))) (sym v.1)
+      (subst (λ a. Stands (seen v.0 r) (one a (of (Some m.1) m.0))) (sym is) (h.name d.3))
 
-  back : {s : Scope} {a b : Expr} {t : Option SqlType} → a ≡ b → Has s (one b t) → Has s (one a t)
-  back {s} {a} {b} {t} is k = subst (λ d. Has s (one d t)) (sym is) k
+  back : {s : Scope} {a b : Expr} {x : Typed} → a ≡ b → Stands s (one b x) → Stands s (one a x)
+  back {s} {a} {b} {x} is k = subst (λ d. Stands s (one d x)) (sym is) k
 
-  turned : {s : Scope} {t : Typing} → IsSeen s → Has s t → Has s (Turned t)
+  turned : {s : Scope} {p : Pair} → IsSeen s → Stands s p → Stands s (Turned p)
   turned {s} v (h.digits {number = number}) = back (form.resolved-Digits r number) h.digits
   turned {s} v (h.text {content = content}) = back (form.resolved-Text r content) h.text
   turned {s} v (h.truth {b = b}) = back (form.resolved-Truth r b) h.truth
@@ -236,10 +239,10 @@ module _ (r : Scope) (plain : HasPlainColumns r) where
   turned v h.none = h.none
   turned v (h.more k l) = h.more (turned v k) (turned v l)
   turned v h.no_when = h.no_when
-  turned {s} v (h.more_whens {w = w} {x = x} {y = y} k l j) =
+  turned {s} v (h.more_whens {w = w} {y = y} k l j) =
       h.more_whens
-      (subst (λ a. Has s (one a x)) (sym (ap (λ u. u.cond) (form.resolved-when r w))) (turned v k))
-      (subst (λ a. Has s (one a y)) (sym (ap (λ u. u.result) (form.resolved-when r w))) (turned v l)) (turned v j)
+      (subst (λ a. Stands s (one a y.cond)) (sym (ap (λ u. u.cond) (form.resolved-when r w))) (turned v k))
+      (subst (λ a. Stands s (one a y.result)) (sym (ap (λ u. u.result) (form.resolved-when r w))) (turned v l)) (turned v j)
 
   pub resolved-typed : (a : Expr) (t : Option SqlType) → HasType r a t → HasType r (resolved r a) t
-  resolved-typed a t k = turned (r.windowed, refl) k
+  resolved-typed a t k = (k.0, turned (r.windowed, refl) k.1, k.2)

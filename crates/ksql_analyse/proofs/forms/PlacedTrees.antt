@@ -23,7 +23,7 @@ use Rattle.ksql_names.specs.declared.scope.ScopeColumn.{ScopeColumn}
 use Rattle.ksql_names.specs.Scope.{Meaning, column_types}
 use Rattle.ksql_typing.specs.Standing as st
 use Rattle.ksql_typing.specs.Standing.{Stands, IsTypedTree}
-use Rattle.ksql_typing.proofs.OneTyping.{one-tree}
+use Rattle.ksql_typing.proofs.OneTyping.{checked, one-tree}
 use Rattle.ksql_grouping.specs.Grouping as exprs
 use Rattle.ksql_grouping.specs.Grouping.{is_window_bound}
 use Rattle.ksql_clauses.specs.declared.sources.Known.{Known}
@@ -36,7 +36,7 @@ use Rattle.ksql_analyse.specs.Judgement.{AreTypedTrees, AreAggs, agg_form, aggre
 use Rattle.ksql_analyse.proofs.lists.Appended.{behind-at, front-at}
 use Rattle.ksql_analyse.proofs.forms.Meant.{IsMeant, meant}
 use Rattle.ksql_analyse.proofs.forms.Once.{place-at}
-use Rattle.ksql_analyse.proofs.forms.OneStanding.{whole}
+use Rattle.ksql_typing.proofs.Inversion.{whole}
 use Rattle.ksql_analyse.proofs.forms.Reserved.{AreSound, reserved-nowhere}
 use Rattle.ksql_analyse.proofs.forms.ResolvedTypes.{HasNo}
 use Rattle.ksql_analyse.proofs.sound.SoundColumns.{each-append}
@@ -89,7 +89,7 @@ each-typed : (s : Scope) (cs : List (Option SqlType)) → ((x : Typed) → HasTy
 each-typed s cs more [] [] h = tt
 each-typed s cs more [] (x ∷ xs) h = absurd h
 each-typed s cs more (a ∷ es) [] h = absurd h
-each-typed s cs more (a ∷ es) (x ∷ xs) h = (more x h.0.1, each-typed s cs more es xs h.1)
+each-typed s cs more (a ∷ es) (x ∷ xs) h = (more x (checked s a x h.0), each-typed s cs more es xs h.1)
 
 -- ---- the bounds of a window
 
@@ -238,7 +238,7 @@ module _ (q : Select) (ks : List Known) (keys : List Typed) (gs : List Agg) (are
   bound (Some p) name x is h = absurd (cc (is))
   bound None name x is h =
       let g = stood-name s (e.Name None name) x None name refl h.0 in
-      at g.0 g.1 (ap (λ y. y.node) g.3.1) (meant s None name g.0 g.1 g.2)
+      at g.0 g.1 (ap (λ y. y.node) g.3) (meant s None name g.0 g.1 g.2)
     where
       reserved : (is_among reserved_columns name ≡ true) × (bytes_eq (codes "ROWKEY") name ≡ false) × (bytes_eq name (codes "ROWTIME") ≡ false)
       reserved = bound-name name is

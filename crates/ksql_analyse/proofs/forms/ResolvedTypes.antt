@@ -6,6 +6,7 @@ use Rattle.std.proofs.lemmas.Option.{same_Some}
 use Rattle.std.proofs.lemmas.Slice.Eq.{bytes_eq-Decides}
 use Rattle.ksql_types.specs.declared.value.SqlType.{SqlType}
 use Rattle.ksql_types.specs.declared.value.SqlType.TheVariants as sql
+use Rattle.ksql_expr.specs.declared.typed.Typed.{Typed}
 use Rattle.ksql_expr.specs.declared.typed.TypedNode.TheVariants as n
 use Rattle.ksql_expressions.specs.declared.tree.Expr.{Expr}
 use Rattle.ksql_expressions.specs.declared.tree.Expr.TheVariants as e
@@ -13,8 +14,8 @@ use Rattle.ksql_names.specs.declared.scope.Scope.{Scope}
 use Rattle.ksql_names.specs.declared.scope.ScopeColumn.{ScopeColumn}
 use Rattle.ksql_names.specs.Scope.{Meaning, meanings, inside, seen, columns_known_as, is_known_as, is_qualified, first_alias, row_time, window_bounds}
 use Rattle.std.proofs.lemmas.Bool.{and_parts}
-use Rattle.ksql_typing.specs.Typing as h
-use Rattle.ksql_typing.specs.Typing.{Has, HasType, Typing, one, perhaps, each, whens}
+use Rattle.ksql_typing.specs.Standing as h
+use Rattle.ksql_typing.specs.Standing.{Stands, HasType, Pair, one, perhaps, each, whens}
 use Rattle.ksql_names.specs.Resolved.{resolved, resolved_when, full_name, written_for, is_row_time}
 use Rattle.ksql_names.proofs.Resolving as r
 use Rattle.ksql_analyse.proofs.forms.KeySides.{first-passes}
@@ -197,16 +198,16 @@ module _ (s : Scope) (b : Bool) (no_time : HasNo (codes "ROWTIME") s.columns) wh
           let k = first-passes (is_known_as q name) s.columns c cs f in
           (c.alias, ap (written_for s q name) f, aliased q name m c k.0 k.1 k.2 h)
 
-abbrev Becomes : Scope → Typing → Typing
-Becomes s (one a t) = one (resolved s a) t
-Becomes s (perhaps x t) = perhaps (option_map (resolved s) x) t
-Becomes s (each es ts) = each (map (resolved s) es) ts
-Becomes s (whens ws xs ys) = whens (map (resolved_when s) ws) xs ys
+abbrev Becomes : Scope → Pair → Pair
+Becomes s (one a x) = one (resolved s a) x
+Becomes s (perhaps a x) = perhaps (option_map (resolved s) a) x
+Becomes s (each es xs) = each (map (resolved s) es) xs
+Becomes s (whens ws ys) = whens (map (resolved_when s) ws) ys
 
-as-one : {t : Scope} {a b : Expr} {u : Option SqlType} → a ≡ b → Has t (one b u) → Has t (one a u)
-as-one {t} {u = u} k = subst (λ x. Has t (one x u)) (sym k)
+as-one : {t : Scope} {a b : Expr} {x : Typed} → a ≡ b → Stands t (one b x) → Stands t (one a x)
+as-one {t} {x = x} k = subst (λ c. Stands t (one c x)) (sym k)
 
-pub resolves : (s : Scope) {t : Scope} {p : Typing} → AreWritten s t → AreWritten s (inside t) → Has t p → Has t (Becomes s p)
+pub resolves : (s : Scope) {t : Scope} {p : Pair} → AreWritten s t → AreWritten s (inside t) → Stands t p → Stands t (Becomes s p)
 resolves s v w (h.digits {number = n}) = as-one (r.resolved-Digits s n) h.digits
 resolves s v w (h.text {content = c}) = as-one (r.resolved-Text s c) h.text
 resolves s v w (h.truth {b = b}) = as-one (r.resolved-Truth s b) h.truth
@@ -234,10 +235,10 @@ resolves s v w (h.there k) = h.there (resolves s v w k)
 resolves s v w h.none = h.none
 resolves s v w (h.more k l) = h.more (resolves s v w k) (resolves s v w l)
 resolves s v w h.no_when = h.no_when
-resolves s {t} v w (h.more_whens {w = o} {ws = ws} {x = x} {y = y} {conds = cs} {results = rs} k l j) =
-    subst (λ z. Has t (whens (z ∷ map (resolved_when s) ws) (x ∷ cs) (y ∷ rs))) (sym (r.resolved-when s o))
+resolves s {t} v w (h.more_whens {w = o} {ws = ws} {y = y} {ys = ys} k l j) =
+    subst (λ z. Stands t (whens (z ∷ map (resolved_when s) ws) (y ∷ ys))) (sym (r.resolved-when s o))
     (h.more_whens (resolves s v w k) (resolves s v w l) (resolves s v w j))
 
 -- an expression with resolved names has its types
 pub resolved-type : (s : Scope) → HasNo (codes "ROWTIME") s.columns → (a : Expr) (t : Option SqlType) → HasType s a t → HasType s (resolved s a) t
-resolved-type s no_time a t h = resolves s (written s s.windowed no_time) (written s false no_time) h
+resolved-type s no_time a t h = (h.0, resolves s (written s s.windowed no_time) (written s false no_time) h.1, h.2)

@@ -16,7 +16,7 @@ use Rattle.ksql_expr.specs.declared.typed.TypedNode.TheVariants as n
 use Rattle.ksql_expr.specs.declared.typed.TypedWhen.{TypedWhen}
 use Rattle.ksql_expr.specs.Typing.{of}
 use Rattle.ksql_names.specs.declared.scope.Scope.{Scope}
-use Rattle.ksql_names.specs.Functions.{function_of, aggregate_of}
+use Rattle.ksql_names.specs.Functions.{function_of, aggregate_of, is_unknown}
 use Rattle.ksql_names.specs.Scope.{meanings, inside}
 use Rattle.ksql_typing.specs.Standing as st
 use Rattle.ksql_typing.specs.Standing.{Stands, digits_value, one, perhaps, each, whens}
@@ -25,7 +25,7 @@ use Rattle.ksql_typing.specs.Standing.{Stands, digits_value, one, perhaps, each,
 abbrev pub IsOf : Typed → TypedNode → Type 0
 IsOf x form = (t : Option SqlType) × (x ≡ of t form)
 
--- a call: of a function of values, of COUNT of `*`, or of an aggregate of one argument
+-- a call: of a function of values, of COUNT of `*`, of an aggregate of one argument, or of an unknown function
 pub record IsFunCall (s : Scope) (f : List ℕ) (star : Bool) (es : List Expr) (x : Typed) : Type 0 where
   pub found : Fun
   pub args : List Typed
@@ -55,7 +55,7 @@ Stood s (Expr-F.Digits number) x = IsOf x (n.Literal (digits_value number))
 Stood s (Expr-F.Text content) x = IsOf x (n.Literal (value.Txt content))
 Stood s (Expr-F.Truth b) x = IsOf x (n.Literal (value.Bool b))
 Stood s Expr-F.Null x = IsOf x (n.Literal value.Null)
-Stood s (Expr-F.Name q name) x = (form : TypedNode) × (meant : SqlType) × (meanings s q name ≡ (form, meant) ∷ []) × IsOf x form
+Stood s (Expr-F.Name q name) x = (form : TypedNode) × (t : SqlType) × (meanings s q name ≡ (form, t) ∷ []) × (x ≡ of (Some t) form)
 Stood s (Expr-F.Sign minus a) x = (y : Typed) × Stands s (one a y) × IsOf x (n.Sign minus y)
 Stood s (Expr-F.Binary o a b) x = (y z : Typed) × Stands s (one a y) × Stands s (one b z) × IsOf x (n.Binary o y z)
 Stood s (Expr-F.Not a) x = (y : Typed) × Stands s (one a y) × IsOf x (n.Not y)
@@ -67,36 +67,36 @@ Stood s (Expr-F.Like m a pattern) x = (y : Typed) × Stands s (one a y) × IsOf 
 Stood s (Expr-F.Cast a to) x = (y : Typed) × Stands s (one a y) × IsOf x (n.Cast y to)
 Stood s (Expr-F.Case a ws b) x =
     (y z : Option Typed) × (ys : List TypedWhen) × Stands s (perhaps a y) × Stands s (whens ws ys) × Stands s (perhaps b z) × IsOf x (n.Case y ys z)
-Stood s (Expr-F.Call f star es) x = IsFunCall s f star es x ⊎ IsCountAll f star es x ⊎ IsAggregateCall s f star es x
+Stood s (Expr-F.Call f star es) x = IsFunCall s f star es x ⊎ IsCountAll f star es x ⊎ IsAggregateCall s f star es x ⊎ (is_unknown f ≡ true)
 
 stood-out : {s : Scope} {a : Expr} {x : Typed} → Stands s (one a x) → Stood s (out-Expr a) x
-stood-out {s} {x = x} (st.digits {number = number} {t = t}) = subst (λ z. Stood s z x) (sym (e.outs-Digits number)) (t, refl)
-stood-out {s} {x = x} (st.text {content = content} {t = t}) = subst (λ z. Stood s z x) (sym (e.outs-Text content)) (t, refl)
-stood-out {s} {x = x} (st.truth {b = b} {t = t}) = subst (λ z. Stood s z x) (sym (e.outs-Truth b)) (t, refl)
-stood-out {s} {x = x} (st.null {t = t}) = subst (λ z. Stood s z x) (sym e.outs-Null) (t, refl)
-stood-out {s} {x = x} (st.name {q = q} {found = found} {form = form} {meant = meant} {t = t} k) =
-    subst (λ z. Stood s z x) (sym (e.outs-Name q found)) (form, meant, k, (t, refl))
-stood-out {s} {x = x} (st.sign {minus = minus} {a = a} {x = y} {t = t} k) = subst (λ z. Stood s z x) (sym (e.outs-Sign minus a)) (y, k, (t, refl))
-stood-out {s} {x = x} (st.binary {o = o} {a = a} {b = b} {x = y} {y = z} {t = t} k l) =
-    subst (λ z. Stood s z x) (sym (e.outs-Binary o a b)) (y, z, k, l, (t, refl))
-stood-out {s} {x = x} (st.not {a = a} {x = y} {t = t} k) = subst (λ z. Stood s z x) (sym (e.outs-Not a)) (y, k, (t, refl))
-stood-out {s} {x = x} (st.is_null {negated = m} {a = a} {x = y} {t = t} k) = subst (λ z. Stood s z x) (sym (e.outs-IsNull m a)) (y, k, (t, refl))
-stood-out {s} {x = x} (st.between {negated = m} {a = a} {low = b} {high = c} {x = y} {y = z} {z = w} {t = t} k l j) =
-    subst (λ z. Stood s z x) (sym (e.outs-Between m a b c)) (y, z, w, k, l, j, (t, refl))
-stood-out {s} {x = x} (st.one_of {negated = m} {a = a} {es = es} {x = y} {xs = ys} {t = t} k l) =
-    subst (λ z. Stood s z x) (sym (e.outs-OneOf m a es)) (y, ys, k, l, (t, refl))
-stood-out {s} {x = x} (st.like {negated = m} {a = a} {pattern = pattern} {x = y} {t = t} k) =
-    subst (λ z. Stood s z x) (sym (e.outs-Like m a pattern)) (y, k, (t, refl))
-stood-out {s} {x = x} (st.cast {a = a} {to = to} {x = y} {t = t} k) = subst (λ z. Stood s z x) (sym (e.outs-Cast a to)) (y, k, (t, refl))
-stood-out {s} {x = x} (st.case {operand = a} {otherwise = b} {ws = ws} {x = y} {z = z} {ys = ys} {t = t} k l j) =
-    subst (λ z. Stood s z x) (sym (e.outs-Case a ws b)) (y, z, ys, k, l, j, (t, refl))
-stood-out {s} {x = x} (st.call {f = f} {args = es} {found = found} {xs = xs} {t = t} g k) =
-    subst (λ z. Stood s z x) (sym (e.outs-Call f false es)) (inl (record { found = found; args = xs; named = g; plain = refl; stand = k; is = (t, refl) }))
-stood-out {s} {x = x} (st.count_all {f = f} {t = t} g) =
-    subst (λ z. Stood s z x) (sym (e.outs-Call f true [])) (inr (inl (record { named = g; starred = refl; bare = refl; is = (t, refl) })))
-stood-out {s} {x = x} (st.aggregate {f = f} {a = a} {found = found} {x = y} {t = t} g k) =
+stood-out {s} {x = x} (st.digits {number = number}) = subst (λ z. Stood s z x) (sym (e.outs-Digits number)) (x.ty, refl)
+stood-out {s} {x = x} (st.text {content = content}) = subst (λ z. Stood s z x) (sym (e.outs-Text content)) (x.ty, refl)
+stood-out {s} {x = x} (st.truth {b = b}) = subst (λ z. Stood s z x) (sym (e.outs-Truth b)) (x.ty, refl)
+stood-out {s} {x = x} st.null = subst (λ z. Stood s z x) (sym e.outs-Null) (x.ty, refl)
+stood-out {s} {x = x} (st.name {q = q} {found = found} {form = form} {t = t} k) = subst (λ z. Stood s z x) (sym (e.outs-Name q found)) (form, t, k, refl)
+stood-out {s} {x = x} (st.sign {minus = minus} {a = a} {x = y} k r) = subst (λ z. Stood s z x) (sym (e.outs-Sign minus a)) (y, k, (x.ty, refl))
+stood-out {s} {x = x} (st.binary {o = o} {a = a} {b = b} {x = y} {y = z} k l r) =
+    subst (λ z. Stood s z x) (sym (e.outs-Binary o a b)) (y, z, k, l, (x.ty, refl))
+stood-out {s} {x = x} (st.not {a = a} {x = y} k r) = subst (λ z. Stood s z x) (sym (e.outs-Not a)) (y, k, (x.ty, refl))
+stood-out {s} {x = x} (st.is_null {negated = m} {a = a} {x = y} k) = subst (λ z. Stood s z x) (sym (e.outs-IsNull m a)) (y, k, (x.ty, refl))
+stood-out {s} {x = x} (st.between {negated = m} {a = a} {low = b} {high = c} {x = y} {y = z} {z = w} k l j r) =
+    subst (λ z. Stood s z x) (sym (e.outs-Between m a b c)) (y, z, w, k, l, j, (x.ty, refl))
+stood-out {s} {x = x} (st.one_of {negated = m} {a = a} {es = es} {x = y} {xs = ys} k l r) =
+    subst (λ z. Stood s z x) (sym (e.outs-OneOf m a es)) (y, ys, k, l, (x.ty, refl))
+stood-out {s} {x = x} (st.like {negated = m} {a = a} {pattern = pattern} {x = y} k r) =
+    subst (λ z. Stood s z x) (sym (e.outs-Like m a pattern)) (y, k, (x.ty, refl))
+stood-out {s} {x = x} (st.cast {a = a} {to = to} {x = y} k r) = subst (λ z. Stood s z x) (sym (e.outs-Cast a to)) (y, k, (x.ty, refl))
+stood-out {s} {x = x} (st.case {operand = a} {otherwise = b} {ws = ws} {x = y} {z = z} {ys = ys} k l j r) =
+    subst (λ z. Stood s z x) (sym (e.outs-Case a ws b)) (y, z, ys, k, l, j, (x.ty, refl))
+stood-out {s} {x = x} (st.call {f = f} {args = es} {found = found} {xs = xs} g k r) =
+    subst (λ z. Stood s z x) (sym (e.outs-Call f false es)) (inl (record { found = found; args = xs; named = g; plain = refl; stand = k; is = (x.ty, refl) }))
+stood-out {s} {x = x} (st.count_all {f = f} g) =
+    subst (λ z. Stood s z x) (sym (e.outs-Call f true [])) (inr (inl (record { named = g; starred = refl; bare = refl; is = (x.ty, refl) })))
+stood-out {s} {x = x} (st.aggregate {f = f} {a = a} {found = found} {x = y} g k r) =
     subst (λ z. Stood s z x) (sym (e.outs-Call f false (a ∷ [])))
-    (inr (inr (record { found = found; arg = a; tree = y; named = g; plain = refl; alone = refl; stands = k; is = (t, refl) })))
+    (inr (inr (inl (record { found = found; arg = a; tree = y; named = g; plain = refl; alone = refl; stands = k; is = (x.ty, refl) }))))
+stood-out {s} {x = x} (st.unknown {f = f} {star = star} {args = es} g k) = subst (λ z. Stood s z x) (sym (e.outs-Call f star es)) (inr (inr (inr g)))
 
 -- of an expression that is of a form
 pub stood : (s : Scope) (a : Expr) (x : Typed) (form : Expr-F Expr WhenText) → out-Expr a ≡ form → Stands s (one a x) → Stood s form x

@@ -13,23 +13,24 @@ use Rattle.ksql_expr.specs.declared.typed.TypedNode.TheVariants as n
 use Rattle.ksql_expr.specs.declared.typed.TypedNode.TheOpen.{TypedNode-F}
 use Rattle.ksql_expr.specs.declared.typed.TypedWhen.{TypedWhen}
 use Rattle.ksql_expr.specs.Aggregates.{holds}
-use Rattle.ksql_expr.specs.Rules.{type_of, fits, binary_type, sign_type, can_cast, fun_type, case_type, is_between_typed, is_in_typed}
+use Rattle.ksql_expr.specs.Rules.{fits, binary_type, sign_type, can_cast, fun_type, case_type, is_between_typed, is_in_typed}
 use Rattle.ksql_expr.specs.Typing as w
-use Rattle.ksql_expr.specs.Typing.{HasTypes, of, types, results}
+use Rattle.ksql_expr.specs.Typing.{HasTypes, of, types}
 use Rattle.ksql_names.specs.declared.scope.Scope.{Scope}
-use Rattle.ksql_names.specs.Functions.{is_aggregate}
+use Rattle.ksql_names.specs.Functions.{is_aggregate, is_unknown}
 use Rattle.ksql_names.specs.Scope.{column_types}
-use Rattle.ksql_typing.specs.Typing.{with_otherwise}
-use Rattle.ksql_names.specs.Uses.{IsSmall, is_small, are_small, are_whens_small, is_small_perhaps}
-use Rattle.ksql_typing.proofs.Deciding.{typed-is}
+use Rattle.ksql_names.specs.Uses.{IsSmall, is_small, are_small, are_whens_small, is_small_perhaps, all_of, calls, perhaps}
 use Rattle.ksql_names.proofs.Disjoint.{no-aggregate}
-use Rattle.std.proofs.lemmas.Bool.{and_parts}
+use Rattle.std.proofs.lemmas.Bool.{and_parts, both_ways}
 use Rattle.ksql_names.proofs.Small as small
 use Rattle.ksql_typing.specs.Made.{typed_when}
 use Rattle.ksql_typing.specs.Standing as st
-use Rattle.ksql_typing.specs.Standing.{Stands, Pair, IsTypedTree, digits_value}
-use Rattle.ksql_typing.proofs.Inversion.{Checks, checks, inner}
-use Rattle.ksql_typing.proofs.Trees.{HaveTypes, results-typed}
+use Rattle.ksql_typing.specs.Standing.{Stands, Pair, IsTypedTree, digits_type, digits_value, type_of_case, with_otherwise}
+use Rattle.ksql_typing.proofs.Known.{AreKnown, Known, one-known, two-known, three-known, call-known}
+use Rattle.ksql_typing.proofs.Making.{case-typed, digits-tree}
+use Rattle.ksql_typing.proofs.OneTyping.{checked}
+use Rattle.ksql_names.proofs.Equations as q
+use Rattle.ksql_expressions.proofs.Folds.{perhaps_folded}
 use Rattle.ksql_grouping.specs.Grouping.{place_among, is_window_bound}
 use Rattle.ksql_trees.specs.Grouped as trees
 use Rattle.ksql_trees.specs.Grouped.{after, node_after, when_after}
@@ -38,9 +39,6 @@ use Rattle.ksql_analyse.proofs.lists.Distinct.{false-or}
 use Rattle.ksql_analyse.proofs.forms.Holding as hold
 use Rattle.ksql_analyse.proofs.forms.Holding.{each_holds, whens_hold, part_holds}
 use Rattle.ksql_analyse.proofs.forms.ReadyForms as f
-
-retyped : (cs : List (Option SqlType)) (form : TypedNode) (t u : Option SqlType) → t ≡ u → HasTypes cs (w.one (of u form)) → HasTypes cs (w.one (of t form))
-retyped cs form t u same h = subst (λ v. HasTypes cs (w.one (of v form))) (sym same) h
 
 -- a test that holds of no column, and of no literal and no pattern that keeps its limits
 pub record IsClear (leaf : TypedNode-F Bool Bool Bool → Bool) : Type 0 where
@@ -128,9 +126,9 @@ module _ (s : Scope) (groups aggs : List Expr) (columns : List TypedNode) (cs : 
   no-place x none has = let z : false ≡ true = sym (ap is_some none) ∙ has in absurd (cc (z))
 
   -- a group expression has a place; else there is what its parts become
-  at-place : (a : Expr) (x : Typed) → Stands s (st.one a x) → HasTypes (column_types s) (w.one x)
+  at-place : (a : Expr) (x : Typed) → Stands s (st.one a x) → AreKnown (calls a)
       → (place_among groups a ≡ None → trees.place_among columns x.node ≡ None → IsFit (late x)) → IsFit (late x)
-  at-place a x h k rest = at-column x k (λ none. at (place_among groups a) refl none)
+  at-place a x h k rest = at-column x (checked s a x (h, k)) (λ none. at (place_among groups a) refl none)
     where
       at : (o : Option ℕ) → place_among groups a ≡ o → trees.place_among columns x.node ≡ None → IsFit (late x)
       at None is none = rest is none
@@ -138,140 +136,130 @@ module _ (s : Scope) (groups aggs : List Expr) (columns : List TypedNode) (cs : 
 
   -- an aggregate has a place
   at-aggregate : (name : List ℕ) (star : Bool) (args : List Expr) (x : Typed) → is_aggregate name ≡ true
-      → f.IsReady groups aggs (e.Call name star args) → Stands s (st.one (e.Call name star args) x) → HasTypes (column_types s) (w.one x) → IsFit (late x)
-  at-aggregate name star args x is r h k = at-column x k (λ none. at (place_among aggs (e.Call name star args)) refl none)
+      → f.IsReady groups aggs (e.Call name star args) → IsTypedTree s (e.Call name star args) x → IsFit (late x)
+  at-aggregate name star args x is r h = at-column x (checked s (e.Call name star args) x h) (λ none. at (place_among aggs (e.Call name star args)) refl none)
     where
       at : (o : Option ℕ) → place_among aggs (e.Call name star args) ≡ o → trees.place_among columns x.node ≡ None → IsFit (late x)
-      at (Some i) found none = no-place x none (g.aggregate (e.Call name star args) x i found (h, k))
+      at (Some i) found none = no-place x none (g.aggregate (e.Call name star args) x i found h)
       at None found none =
           let z : false ≡ true = sym (ap is_some found) ∙ f.ready-Aggregate groups aggs name star args is r in
           absurd (cc (z))
 
-  pub fit : {p : Pair} → Stands s p → HaveTypes (column_types s) p → IsReadyPair p → IsSmallPair p → FitPair p
-  fit (st.digits {number = number} {t = t}) k r m =
+  pub fit : {p : Pair} → Stands s p → Known p → IsReadyPair p → IsSmallPair p → FitPair p
+  fit (st.digits {number = number}) k r m =
       let x = digits_value number in
+      let t = Some (digits_type number) in
       at-place (e.Digits number) (of t (n.Literal x)) st.digits k (λ h none.
       formed t (n.Literal x) (n.Literal x) (becoming.after-Literal columns (n.Literal x) x refl none) (
-        retyped cs (n.Literal x) t (type_of x) (subst (Checks (column_types s) t) (n.outs-Literal x) (checks k)) (w.literal {x = x}),
+        subst (λ y. HasTypes cs (w.one y)) (digits-tree number) (w.literal {x = x}),
         hold.holds-Literal leaf t x ∙ c.digits number,
       ))
-  fit (st.text {content = content} {t = t}) k r m =
+  fit (st.text {content = content}) k r m =
       let x = value.Txt content in
+      let t = Some sql.Text in
       at-place (e.Text content) (of t (n.Literal x)) st.text k (λ h none.
-      formed t (n.Literal x) (n.Literal x) (becoming.after-Literal columns (n.Literal x) x refl none) (
-        retyped cs (n.Literal x) t (Some sql.Text) (subst (Checks (column_types s) t) (n.outs-Literal x) (checks k)) (w.literal {x = x}),
-        hold.holds-Literal leaf t x ∙ c.text content m,
-      ))
-  fit (st.truth {b = b} {t = t}) k r m =
+      formed t (n.Literal x) (n.Literal x) (becoming.after-Literal columns (n.Literal x) x refl none) (w.literal {x = x}, hold.holds-Literal leaf t x ∙ c.text content m))
+  fit (st.truth {b = b}) k r m =
       let x = value.Bool b in
+      let t = Some sql.Bool in
       at-place (e.Truth b) (of t (n.Literal x)) st.truth k (λ h none.
-      formed t (n.Literal x) (n.Literal x) (becoming.after-Literal columns (n.Literal x) x refl none) (
-        retyped cs (n.Literal x) t (Some sql.Bool) (subst (Checks (column_types s) t) (n.outs-Literal x) (checks k)) (w.literal {x = x}),
-        hold.holds-Literal leaf t x ∙ c.truth b,
-      ))
-  fit (st.null {t = t}) k r m =
+      formed t (n.Literal x) (n.Literal x) (becoming.after-Literal columns (n.Literal x) x refl none) (w.literal {x = x}, hold.holds-Literal leaf t x ∙ c.truth b))
+  fit st.null k r m =
       let x = value.Null in
-      at-place e.Null (of t (n.Literal x)) st.null k (λ h none.
-      formed t (n.Literal x) (n.Literal x) (becoming.after-Literal columns (n.Literal x) x refl none) (
-        retyped cs (n.Literal x) t None (subst (Checks (column_types s) t) (n.outs-Literal x) (checks k)) (w.literal {x = x}),
-        hold.holds-Literal leaf t x ∙ c.null,
-      ))
-  fit (st.name {q = p} {found = name} {form = form} {meant = meant} {t = t} means) k r m =
-      at-place (e.Name p name) (of t form) (st.name means) k (λ h none.
-      no-place (of t form) none (g.bound p name (of t form) (f.ready-Name groups aggs p name h r) (st.name means, k)))
-  fit (st.sign {minus = minus} {a = a} {x = x} {t = t} i) k r m =
+      at-place e.Null (of None (n.Literal x)) st.null k (λ h none.
+      formed None (n.Literal x) (n.Literal x) (becoming.after-Literal columns (n.Literal x) x refl none) (w.literal {x = x}, hold.holds-Literal leaf None x ∙ c.null))
+  fit (st.name {q = p} {found = name} {form = form} {t = t} means) k r m =
+      let x = of (Some t) form in
+      at-place (e.Name p name) x (st.name means) k (λ h none.
+      no-place x none (g.bound p name x (f.ready-Name groups aggs p name h r) (st.name means, k)))
+  fit (st.sign {minus = minus} {a = a} {x = x} {t = t} i typed) k r m =
       let b = e.Sign minus a in
-      let d = subst (Checks (column_types s) t) (n.outs-Sign minus x) (checks k) in
-      at-place b (of t (n.Sign minus x)) (st.sign i) k (λ h none.
-      let y = fit i d.0 (f.ready-Sign groups aggs minus a h r) (small.small-Sign b m minus a refl) in
-      let u = typed-is (sign_type x.ty) t d.1 in
-      formed t (n.Sign minus x) (n.Sign minus (late x)) (becoming.after-Sign columns (n.Sign minus x) minus x refl none) (
-        retyped cs (n.Sign minus (late x)) t (Some u.0) u.2 (w.sign y.0 (ap sign_type (kept-type columns x) ∙ u.1)),
-        hold.holds-Sign leaf t minus (late x) ∙ y.1,
+      at-place b (of (Some t) (n.Sign minus x)) (st.sign i typed) k (λ h none.
+      let y = fit i (one-known (q.calls-Sign minus a) k) (f.ready-Sign groups aggs minus a h r) (small.small-Sign b m minus a refl) in
+      formed (Some t) (n.Sign minus x) (n.Sign minus (late x)) (becoming.after-Sign columns (n.Sign minus x) minus x refl none) (
+        w.sign y.0 (ap sign_type (kept-type columns x) ∙ typed),
+        hold.holds-Sign leaf (Some t) minus (late x) ∙ y.1,
       ))
-  fit (st.binary {o = o} {a = a} {b = a2} {x = x} {y = x2} {t = t} i j) k r m =
+  fit (st.binary {o = o} {a = a} {b = a2} {x = x} {y = x2} {t = t} i j typed) k r m =
       let b = e.Binary o a a2 in
-      let d = subst (Checks (column_types s) t) (n.outs-Binary o x x2) (checks k) in
-      at-place b (of t (n.Binary o x x2)) (st.binary i j) k (λ h none.
+      let d = two-known (calls a) (calls a2) (q.calls-Binary o a a2) k in
+      at-place b (of (Some t) (n.Binary o x x2)) (st.binary i j typed) k (λ h none.
       let ready = f.ready-Binary groups aggs o a a2 h r in
       let short = small.small-Binary b m o a a2 refl in
       let y = fit i d.0 ready.0 short.0 in
       let y2 = fit j d.1 ready.1 short.1 in
-      let u = typed-is (binary_type o x.ty x2.ty) t d.2 in
-      formed t (n.Binary o x x2) (n.Binary o (late x) (late x2)) (becoming.after-Binary columns (n.Binary o x x2) o x x2 refl none) (
-        retyped cs (n.Binary o (late x) (late x2)) t (Some u.0) u.2 (w.binary y.0 y2.0 (ap₂ (binary_type o) (kept-type columns x) (kept-type columns x2) ∙ u.1)),
-        hold.holds-Binary leaf t o (late x) (late x2) ∙ false-or (holds leaf (late x)) (holds leaf (late x2)) y.1 y2.1,
+      formed (Some t) (n.Binary o x x2) (n.Binary o (late x) (late x2)) (becoming.after-Binary columns (n.Binary o x x2) o x x2 refl none) (
+        w.binary y.0 y2.0 (ap₂ (binary_type o) (kept-type columns x) (kept-type columns x2) ∙ typed),
+        hold.holds-Binary leaf (Some t) o (late x) (late x2) ∙ false-or (holds leaf (late x)) (holds leaf (late x2)) y.1 y2.1,
       ))
-  fit (st.not {a = a} {x = x} {t = t} i) k r m =
+  fit (st.not {a = a} {x = x} i typed) k r m =
       let b = e.Not a in
-      let d = subst (Checks (column_types s) t) (n.outs-Not x) (checks k) in
-      at-place b (of t (n.Not x)) (st.not i) k (λ h none.
-      let y = fit i d.0 (f.ready-Not groups aggs a h r) (small.small-Not b m a refl) in
+      let t = Some sql.Bool in
+      at-place b (of t (n.Not x)) (st.not i typed) k (λ h none.
+      let y = fit i (one-known (q.calls-Not a) k) (f.ready-Not groups aggs a h r) (small.small-Not b m a refl) in
       formed t (n.Not x) (n.Not (late x)) (becoming.after-Not columns (n.Not x) x refl none) (
-        retyped cs (n.Not (late x)) t (Some sql.Bool) d.2 (w.not y.0 (ap (fits sql.Bool) (kept-type columns x) ∙ d.1)),
+        w.not y.0 (ap (fits sql.Bool) (kept-type columns x) ∙ typed),
         hold.holds-Not leaf t (late x) ∙ y.1,
       ))
-  fit (st.is_null {negated = o} {a = a} {x = x} {t = t} i) k r m =
+  fit (st.is_null {negated = o} {a = a} {x = x} i) k r m =
       let b = e.IsNull o a in
-      let d = subst (Checks (column_types s) t) (n.outs-IsNull o x) (checks k) in
+      let t = Some sql.Bool in
       at-place b (of t (n.IsNull o x)) (st.is_null i) k (λ h none.
-      let y = fit i d.0 (f.ready-IsNull groups aggs o a h r) (small.small-IsNull b m o a refl) in
-      formed t (n.IsNull o x) (n.IsNull o (late x)) (becoming.after-IsNull columns (n.IsNull o x) o x refl none) (
-        retyped cs (n.IsNull o (late x)) t (Some sql.Bool) d.1 (w.is_null y.0),
-        hold.holds-IsNull leaf t o (late x) ∙ y.1,
-      ))
-  fit (st.between {negated = o} {a = a} {low = a2} {high = a3} {x = x} {y = x2} {z = x3} {t = t} i j l) k r m =
+      let y = fit i (one-known (q.calls-IsNull o a) k) (f.ready-IsNull groups aggs o a h r) (small.small-IsNull b m o a refl) in
+      formed t (n.IsNull o x) (n.IsNull o (late x)) (becoming.after-IsNull columns (n.IsNull o x) o x refl none)
+      (w.is_null y.0, hold.holds-IsNull leaf t o (late x) ∙ y.1))
+  fit (st.between {negated = o} {a = a} {low = a2} {high = a3} {x = x} {y = x2} {z = x3} i j l typed) k r m =
       let b = e.Between o a a2 a3 in
-      let d = subst (Checks (column_types s) t) (n.outs-Between o x x2 x3) (checks k) in
-      at-place b (of t (n.Between o x x2 x3)) (st.between i j l) k (λ h none.
+      let t = Some sql.Bool in
+      let d = three-known (calls a) (calls a2) (calls a3) (q.calls-Between o a a2 a3) k in
+      at-place b (of t (n.Between o x x2 x3)) (st.between i j l typed) k (λ h none.
       let ready = f.ready-Between groups aggs o a a2 a3 h r in
       let short = small.small-Between b m o a a2 a3 refl in
       let y = fit i d.0 ready.0 short.0 in
       let y2 = fit j d.1 ready.1 short.1 in
       let y3 = fit l d.2 ready.2 short.2 in
-      let typed : is_between_typed (late x).ty (late x2).ty (late x3).ty ≡ true =
-      (λ u. is_between_typed (kept-type columns x u) (kept-type columns x2 u) (kept-type columns x3 u)) ∙ d.3 in
+      let same : is_between_typed (late x).ty (late x2).ty (late x3).ty ≡ is_between_typed x.ty x2.ty x3.ty =
+      λ u. is_between_typed (kept-type columns x u) (kept-type columns x2 u) (kept-type columns x3 u) in
       formed t (n.Between o x x2 x3) (n.Between o (late x) (late x2) (late x3)) (becoming.after-Between columns (n.Between o x x2 x3) o x x2 x3 refl none) (
-        retyped cs (n.Between o (late x) (late x2) (late x3)) t (Some sql.Bool) d.4 (w.between y.0 y2.0 y3.0 typed),
+        w.between y.0 y2.0 y3.0 (same ∙ typed),
         hold.holds-Between leaf t o (late x) (late x2) (late x3)
             ∙ false-or (holds leaf (late x) || holds leaf (late x2)) (holds leaf (late x3)) (false-or (holds leaf (late x)) (holds leaf (late x2)) y.1 y2.1) y3.1,
       ))
-  fit (st.one_of {negated = o} {a = a} {es = es} {x = x} {xs = xs} {t = t} i j) k r m =
+  fit (st.one_of {negated = o} {a = a} {es = es} {x = x} {xs = xs} i j typed) k r m =
       let b = e.OneOf o a es in
-      let d = subst (Checks (column_types s) t) (n.outs-OneOf o x xs) (checks k) in
-      at-place b (of t (n.OneOf o x xs)) (st.one_of i j) k (λ h none.
+      let t = Some sql.Bool in
+      let d = two-known (calls a) (all_of (map calls es)) (q.calls-OneOf o a es) k in
+      at-place b (of t (n.OneOf o x xs)) (st.one_of i j typed) k (λ h none.
       let ready = f.ready-OneOf groups aggs o a es h r in
       let short = small.small-OneOf b m o a es refl in
       let y = fit i d.0 ready.0 short.0 in
       let ys = fit j d.1 ready.1 short.1 in
       formed t (n.OneOf o x xs) (n.OneOf o (late x) (map late xs)) (becoming.after-OneOf columns (n.OneOf o x xs) o x xs refl none) (
-        retyped cs (n.OneOf o (late x) (map late xs)) t (Some sql.Bool) d.3
-            (w.one_of y.0 ys.0 (ap₂ is_in_typed (kept-type columns x) (kept-types columns xs) ∙ d.2)),
+        w.one_of y.0 ys.0 (ap₂ is_in_typed (kept-type columns x) (kept-types columns xs) ∙ typed),
         hold.holds-OneOf leaf t o (late x) (map late xs) ∙ false-or (holds leaf (late x)) (each_holds leaf (map late xs)) y.1 ys.1,
       ))
-  fit (st.like {negated = o} {a = a} {pattern = pattern} {x = x} {t = t} i) k r m =
+  fit (st.like {negated = o} {a = a} {pattern = pattern} {x = x} i typed) k r m =
       let b = e.Like o a pattern in
-      let d = subst (Checks (column_types s) t) (n.outs-Like o x pattern) (checks k) in
-      at-place b (of t (n.Like o x pattern)) (st.like i) k (λ h none.
-      let y = fit i d.0 (f.ready-Like groups aggs o a pattern h r) (small.small-Like b m o a pattern refl) in
+      let t = Some sql.Bool in
+      at-place b (of t (n.Like o x pattern)) (st.like i typed) k (λ h none.
+      let y = fit i (one-known (q.calls-Like o a pattern) k) (f.ready-Like groups aggs o a pattern h r) (small.small-Like b m o a pattern refl) in
       formed t (n.Like o x pattern) (n.Like o (late x) pattern) (becoming.after-Like columns (n.Like o x pattern) o x pattern refl none) (
-        retyped cs (n.Like o (late x) pattern) t (Some sql.Bool) d.2 (w.like y.0 (ap (fits sql.Text) (kept-type columns x) ∙ d.1)),
+        w.like y.0 (ap (fits sql.Text) (kept-type columns x) ∙ typed),
         hold.holds-Like leaf t o (late x) pattern
             ∙ false-or (leaf (TypedNode-F.Like o (holds leaf (late x)) pattern)) (holds leaf (late x)) (c.like o (holds leaf (late x)) a pattern m) y.1,
       ))
-  fit (st.cast {a = a} {to = to} {x = x} {t = t} i) k r m =
+  fit (st.cast {a = a} {to = to} {x = x} i typed) k r m =
       let b = e.Cast a to in
-      let d = subst (Checks (column_types s) t) (n.outs-Cast x to) (checks k) in
-      at-place b (of t (n.Cast x to)) (st.cast i) k (λ h none.
-      let y = fit i d.0 (f.ready-Cast groups aggs a to h r) (small.small-Cast b m a to refl) in
-      formed t (n.Cast x to) (n.Cast (late x) to) (becoming.after-Cast columns (n.Cast x to) x to refl none) (
-        retyped cs (n.Cast (late x) to) t (Some to) d.2 (w.cast y.0 (ap (λ v. can_cast v to) (kept-type columns x) ∙ d.1)),
-        hold.holds-Cast leaf t (late x) to ∙ y.1,
+      at-place b (of (Some to) (n.Cast x to)) (st.cast i typed) k (λ h none.
+      let y = fit i (one-known (q.calls-Cast a to) k) (f.ready-Cast groups aggs a to h r) (small.small-Cast b m a to refl) in
+      formed (Some to) (n.Cast x to) (n.Cast (late x) to) (becoming.after-Cast columns (n.Cast x to) x to refl none) (
+        w.cast y.0 (ap (λ v. can_cast v to) (kept-type columns x) ∙ typed),
+        hold.holds-Cast leaf (Some to) (late x) to ∙ y.1,
       ))
-  fit (st.case {operand = a} {otherwise = a2} {ws = vs} {x = x} {z = x2} {ys = xs} {t = t} i j l) k r m =
+  fit (st.case {operand = a} {otherwise = a2} {ws = vs} {x = x} {z = x2} {ys = xs} {t = t} i j l typed) k r m =
       let b = e.Case a vs a2 in
-      let d = subst (Checks (column_types s) t) (n.outs-Case x xs x2) (checks k) in
-      at-place b (of t (n.Case x xs x2)) (st.case i j l) k (λ h none.
+      let d = three-known (perhaps (perhaps_folded calls a)) (all_of (map q.calls_when vs)) (perhaps (perhaps_folded calls a2)) (q.calls-Case a vs a2) k in
+      at-place b (of t (n.Case x xs x2)) (st.case i j l typed) k (λ h none.
       let ready = f.ready-Case groups aggs a vs a2 h r in
       let short = small.small-Case b m a vs a2 refl in
       let y = fit i d.0 ready.0 short.0 in
@@ -280,35 +268,34 @@ module _ (s : Scope) (groups aggs : List Expr) (columns : List TypedNode) (cs : 
       let z = option_map late x in
       let zs = map (when_after columns) xs in
       let z2 = option_map late x2 in
-      let outcomes : types (results zs z2) ≡ types (results xs x2) =
-      results-typed zs z2 ∙ ap₂ with_otherwise (kept-results columns xs) (kept-part columns x2) ∙ sym (results-typed xs x2) in
-      let typed : case_type (option_map (λ v. v.ty) z) (map (λ v. v.cond.ty) zs) (types (results zs z2)) ≡ Some t =
-      (λ u. case_type (kept-part columns x u) (kept-conds columns xs u) (outcomes u)) ∙ d.3 in
+      let same : type_of_case z zs z2 ≡ type_of_case x xs x2 =
+      λ u. case_type (kept-part columns x u) (kept-conds columns xs u) (with_otherwise (kept-results columns xs u) (kept-part columns x2 u)) in
       formed t (n.Case x xs x2) (n.Case z zs z2) (becoming.after-Case columns (n.Case x xs x2) x xs x2 refl none) (
-        w.case y.0 ys.0 y2.0 typed,
+        w.case y.0 ys.0 y2.0 (case-typed z zs z2 (same ∙ typed)),
         hold.holds-Case leaf t z zs z2
             ∙ false-or (part_holds leaf z || whens_hold leaf zs) (part_holds leaf z2) (false-or (part_holds leaf z) (whens_hold leaf zs) y.1 ys.1) y2.1,
       ))
-  fit (st.call {f = name} {args = args} {found = found} {xs = xs} {t = t} is i) k r m =
+  fit (st.call {f = name} {args = args} {found = found} {xs = xs} {t = t} is i typed) k r m =
       let b = e.Call name false args in
-      let d = subst (Checks (column_types s) t) (n.outs-Call found xs) (checks k) in
       let plain : is_aggregate name ≡ false = ap is_some (no-aggregate name found is) in
-      at-place b (of t (n.Call found xs)) (st.call is i) k (λ h none.
-      let ys = fit i d.0 (f.ready-Call groups aggs name false args plain h r) (small.small-Call b m name false args refl) in
+      at-place b (of t (n.Call found xs)) (st.call is i typed) k (λ h none.
+      let ys = fit i (call-known name false args k).1 (f.ready-Call groups aggs name false args plain h r) (small.small-Call b m name false args refl) in
       formed t (n.Call found xs) (n.Call found (map late xs)) (becoming.after-Call columns (n.Call found xs) found xs refl none) (
-        w.call ys.0 (ap (fun_type found) (kept-types columns xs) ∙ d.1),
+        w.call ys.0 (ap (fun_type found) (kept-types columns xs) ∙ typed),
         hold.holds-Call leaf t found (map late xs) ∙ ys.1,
       ))
-  fit (st.count_all {f = name} {t = t} is) k r m = at-aggregate name true [] (of t (n.Aggregate CountAll None)) (ap is_some is) r (st.count_all is) k
-  fit (st.aggregate {f = name} {a = a} {found = found} {x = x} {t = t} is i) k r m =
-      at-aggregate name false (a ∷ []) (of t (n.Aggregate found (Some x))) (ap is_some is) r (st.aggregate is i) k
+  fit (st.count_all {f = name} is) k r m =
+      at-aggregate name true [] (of (Some sql.Big) (n.Aggregate CountAll None)) (ap is_some is) r (st.count_all is, k)
+  fit (st.aggregate {f = name} {a = a} {found = found} {x = x} {t = t} is i typed) k r m =
+      at-aggregate name false (a ∷ []) (of t (n.Aggregate found (Some x))) (ap is_some is) r (st.aggregate is i typed, k)
+  fit (st.unknown {f = name} {star = star} {args = args} is i) k r m = absurd (both_ways (is_unknown name) (call-known name star args k).0 is)
   fit st.left_out k r m = (w.left_out, refl)
   fit (st.there {a = a} i) k r m =
-      let y = fit i (inner k) (f.ready-there groups aggs a r) m in
+      let y = fit i k (f.ready-there groups aggs a r) m in
       (w.there y.0, y.1)
   fit st.none k r m = (w.none, refl)
   fit (st.more {a = a} {es = es} {x = x} {xs = xs} i j) k r m =
-      let d = inner k in
+      let d = two-known (calls a) (all_of (map calls es)) refl k in
       let ready = f.ready-more groups aggs a es r in
       let short = and_parts (is_small a) (are_small es) m in
       let y = fit i d.0 ready.0 short.0 in
@@ -316,13 +303,14 @@ module _ (s : Scope) (groups aggs : List Expr) (columns : List TypedNode) (cs : 
       (w.more y.0 ys.0, false-or (holds leaf (late x)) (each_holds leaf (map late xs)) y.1 ys.1)
   fit st.no_when k r m = (w.no_when, refl)
   fit (st.more_whens {w = v} {ws = vs} {y = x} {ys = xs} i j l) k r m =
-      let d = inner k in
+      let d = two-known (q.calls_when v) (all_of (map q.calls_when vs)) refl k in
+      let own = two-known (calls v.cond) (calls v.result) (q.calls-when v) d.0 in
       let ready = f.ready-whens groups aggs v vs r in
       let short = and_parts (is_small v.cond && is_small v.result) (are_whens_small vs) m in
       let both = and_parts (is_small v.cond) (is_small v.result) short.0 in
-      let y = fit i d.0 ready.0 both.0 in
-      let y2 = fit j d.1 ready.1 both.1 in
-      let ys = fit l d.2 ready.2 short.1 in
+      let y = fit i own.0 ready.0 both.0 in
+      let y2 = fit j own.1 ready.1 both.1 in
+      let ys = fit l d.1 ready.2 short.1 in
       let is = becoming.after-when columns x in (
         w.more_whens (subst (λ v. HasTypes cs (w.one v.cond)) (sym is) y.0) (subst (λ v. HasTypes cs (w.one v.result)) (sym is) y2.0) ys.0,
         false-or (hold.when_holds leaf (when_after columns x)) (whens_hold leaf (map (when_after columns) xs))

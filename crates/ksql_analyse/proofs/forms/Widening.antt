@@ -1,9 +1,7 @@
 -- A typed tree has its types where there are more columns after, and a tree that can name the bounds of windows is that
 -- of the expression without them.
-use Rattle.std.proofs.Common.{◌≡◌, ℕ, Bool, false, if◌then◌else◌, List, [], ◌∷◌, ◌++◌, map, Option, Some, None, ap, sym, ◌∙◌, subst}
-use Rattle.std.proofs.lemmas.List.{append-nil}
+use Rattle.std.proofs.Common.{◌≡◌, Bool, false, List, [], ◌∷◌, ◌++◌, Option, Some, None, sym, ◌∙◌}
 use Rattle.ksql_types.specs.declared.value.SqlType.{SqlType}
-use Rattle.ksql_types.specs.declared.value.SqlType.TheVariants as sql
 use Rattle.ksql_expressions.specs.declared.tree.Expr.{Expr}
 use Rattle.ksql_expr.specs.declared.typed.Typed.{Typed}
 use Rattle.ksql_expr.specs.Typing as w
@@ -12,7 +10,7 @@ use Rattle.ksql_names.specs.declared.scope.Scope.{Scope}
 use Rattle.ksql_names.specs.Scope.{Meaning, meanings, columns_known_as, row_time, window_bounds, seen, inside}
 use Rattle.ksql_typing.specs.Standing.{IsTypedTree}
 use Rattle.ksql_analyse.proofs.lists.Appended.{front-at}
-use Rattle.ksql_analyse.proofs.forms.OneStanding.{Agree, agree-itself, alike}
+use Rattle.ksql_typing.proofs.Across.{Agree, agree-itself, one-across}
 use Rattle.ksql_analyse.proofs.lists.EqualLists.{heads}
 
 pub widened : (ds : List (Option SqlType)) {cs : List (Option SqlType)} {p : Part} → HasTypes cs p → HasTypes (cs ++ ds) p
@@ -44,16 +42,12 @@ first-same (x ∷ xs) ys m o h k = sym (heads h) ∙ heads k
 
 seen-agree : (r : Scope) (v : Bool) → Agree (seen false r) (seen v r)
 unfolding meanings
-seen-agree r v (Some q) name form form2 t t2 h k =
+seen-agree r v (Some q) name o p h k =
     let first = columns_known_as (Some q) name 0 r.columns ++ row_time r (Some q) name in
-    ap (λ (m : Meaning). m.0) (first-same first [] (form, t) (form2, t2) h k)
-seen-agree r v None name form form2 t t2 h k =
+    first-same first [] o p h k
+seen-agree r v None name o p h k =
     let first = columns_known_as None name 0 r.columns ++ row_time r None name in
-    ap (λ (m : Meaning). m.0) (first-same first (window_bounds (seen v r) None name) (form, t) (form2, t2) h k)
+    first-same first (window_bounds (seen v r) None name) o p h k
 
 pub seen-same : (r : Scope) (v : Bool) (a : Expr) (x y : Typed) → IsTypedTree (seen false r) a x → IsTypedTree (seen v r) a y → x ≡ y
-seen-same r v a x y h k =
-    let front = map (λ c. Some c.column.ty) r.columns in
-    let more = if v then Some sql.Big ∷ Some sql.Big ∷ [] else [] in
-    let typed : HasTypes (front ++ more) (w.one x) = widened more (subst (λ cs. HasTypes cs (w.one x)) (append-nil front) h.1) in
-    alike (front ++ more) (record { here = seen-agree r v; within = agree-itself (inside r) }) h.0 y k.0 typed k.1
+seen-same r v a x y h k = one-across (seen false r) (seen v r) (record { here = seen-agree r v; within = agree-itself (inside r) }) a x y h k

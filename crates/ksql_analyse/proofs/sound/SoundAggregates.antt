@@ -1,15 +1,13 @@
 -- The aggregates of a grouped query are sound.
-use Rattle.std.proofs.Common.{◌≡◌, ℕ, zero, suc, ◌<◌, arith, Bool, true, false, not, ◌&&◌, if◌then◌else◌, List, [], ◌∷◌, length, map, Option, Some, None, refl, ap, sym, ◌∙◌, subst, inl, inr}
-use Rattle.std.specs.Prelude.{slice_get, option_map, bytes_eq}
-use Rattle.std.specs.List.{list_any, list_all}
-use Rattle.std.proofs.lemmas.Bool.{false≢true, lt-ltb}
-use Rattle.std.proofs.lemmas.List.{length-map}
+use Rattle.std.proofs.Common.{◌≡◌, ℕ, Bool, true, false, ◌&&◌, if◌then◌else◌, List, [], ◌∷◌, map, Option, Some, None, is_some, refl, ap, sym, ◌∙◌, subst, inl, inr}
+use Rattle.std.specs.Prelude.{option_map, bytes_eq}
+use Rattle.std.specs.List.{list_any}
+use Rattle.std.proofs.lemmas.Bool.{false≢true}
+use Rattle.std.proofs.lemmas.List.{append-nil}
 use Rattle.std.proofs.lemmas.Option.{same_Some}
 use Rattle.std.proofs.lemmas.Slice.Eq.{bytes_eq-Decides}
 use Rattle.ksql_types.specs.declared.relation.Kind.{Kind}
 use Rattle.ksql_types.specs.declared.relation.Kind.TheVariants as kind
-use Rattle.ksql_types.specs.declared.value.SqlType.{SqlType}
-use Rattle.ksql_types.specs.declared.value.SqlType.TheVariants as sql
 use Rattle.ksql_expressions.specs.declared.tree.Expr.{Expr, out-Expr, roll-Expr, roll-out-Expr}
 use Rattle.ksql_expressions.specs.declared.tree.Expr.TheVariants as e
 use Rattle.ksql_expressions.specs.declared.tree.Expr.TheOpen.{Expr-F}
@@ -21,7 +19,6 @@ use Rattle.ksql_expr.specs.declared.typed.Typed.{Typed}
 use Rattle.ksql_expr.specs.declared.typed.TypedNode.{out-TypedNode}
 use Rattle.ksql_expr.specs.declared.typed.TypedNode.TheVariants as n
 use Rattle.ksql_expr.specs.declared.typed.TypedNode.TheOpen.{TypedNode-F}
-use Rattle.ksql_expr.specs.Aggregates.{holds}
 use Rattle.ksql_expr.specs.Rules.{agg_type}
 use Rattle.ksql_expr.specs.Typing as w
 use Rattle.ksql_expr.specs.Typing.{HasTypes, of}
@@ -29,23 +26,22 @@ use Rattle.ksql_program.specs.declared.query.Agg.{Agg}
 use Rattle.ksql_types.specs.Names.{is_among}
 use Rattle.ksql_program.specs.Sound.{IsAggOver, IsOverTable, IsArgument, IsSoundOver, argument_type}
 use Rattle.ksql_names.specs.declared.scope.Scope.{Scope}
-use Rattle.ksql_names.specs.declared.scope.ScopeColumn.{ScopeColumn}
 use Rattle.ksql_names.specs.Functions.{aggregates, aggregate_of, is_aggregate}
 use Rattle.ksql_names.specs.Scope.{column_types, inside}
-use Rattle.ksql_names.specs.Uses.{IsSmall, is_small, are_small, names, Use}
+use Rattle.ksql_names.specs.Uses.{IsSmall, is_small, are_small, calls, all_of}
 use Rattle.ksql_names.proofs.Small as small
 use Rattle.std.proofs.lemmas.Bool.{and_parts}
-use Rattle.ksql_typing.specs.Standing as st
-use Rattle.ksql_typing.specs.Standing.{Stands, IsTypedTree}
+use Rattle.ksql_typing.specs.Standing.{IsTypedTree}
+use Rattle.ksql_typing.proofs.Known.{AreKnown, two-known, call-known}
+use Rattle.ksql_typing.proofs.OneTyping.{checked}
+use Rattle.ksql_names.proofs.Disjoint.{unknown-none}
 use Rattle.ksql_typing.proofs.Inversion.{Checks, checks}
 use Rattle.ksql_expressions.specs.Parts.{any_of}
 use Rattle.ksql_grouping.specs.Grouping.{has_aggregate, has_nested_aggregate, is_aggregate_call, ordered_aggregates}
 use Rattle.ksql_grouping.proofs.Calls as called
 use Rattle.ksql_grouping.proofs.Calls.{calls_one}
-use Rattle.ksql_analyse.proofs.forms.Bearing.{reach, bears, no-aggregate-held, short-texts-held, AreNear}
+use Rattle.ksql_analyse.proofs.forms.Bearing.{no-aggregate-held, short-texts-held}
 use Rattle.ksql_analyse.proofs.forms.Handing.{IsFlat, CallsNone, nested-Call}
-use Rattle.ksql_analyse.proofs.forms.Meant.{IsMeant, meant, same-column}
-use Rattle.ksql_analyse.proofs.forms.Narrowing.{narrowed-front, is_past}
 use Rattle.ksql_analyse.proofs.sound.SoundTrees.{IsPlain}
 use Rattle.ksql_analyse.proofs.forms.Stood.{Stood, stood}
 use Rattle.ksql_analyse.proofs.sound.SoundPlain.{typed_column}
@@ -120,42 +116,14 @@ over-kind f false k e h = subst (λ x. IsAggOver x f) e (h refl)
 
 -- ---- an aggregate's argument
 
-near-all : (s : Scope) → s.windowed ≡ false → AreNear (is_past (length s.columns)) (λ u. true) s
-near-all s flat p name form t ok m i is = at (meant s p name form t m)
-  where
-    bounded : (cs : List ScopeColumn) (j : ℕ) (c : ScopeColumn) → slice_get cs j ≡ Some c → j < length cs
-    bounded [] j c h = absurd (cc (h))
-    bounded (d ∷ cs) zero c h = omega arith
-    bounded (d ∷ cs) (suc j) c h = let z = bounded cs j c h in omega arith
-
-    at : IsMeant s p name form t → is_past (length s.columns) i ≡ false
-    at (inl k) =
-        let less = bounded s.columns k.index k.found k.at in
-        let same : i ≡ k.index = same-column i k.index (sym is ∙ k.is) in
-        let z : i < length s.columns = omega arith in
-        ap not (lt-ltb i (length s.columns) z)
-    at (inr (inl k)) = absurd (cc (sym k.is ∙ is))
-    at (inr (inr k)) = absurd (false≢true (sym flat ∙ k.windowed))
-
-pub part-typed : {cs : List (Option SqlType)} {x : Typed} → HasTypes cs (w.perhaps (Some x)) → HasTypes cs (w.one x)
-part-typed (w.there k) = k
-
-argument-sound : (over : Kind) (s : Scope) → IsScopeOver over s → (a : Expr) (x : Typed) → IsPlain a → Stands (inside s) (st.one a x)
-    → HasTypes (column_types s) (w.one x) → IsSoundOver over (map typed_column s.columns) x
-argument-sound over s scope a x p h k =
-    let held = bears (is_past (length s.columns)) (λ u. true) (near-all (inside s) refl) h in
-    let count = length-map s.columns typed_column in
-    record {
-      typed = narrowed-front (map typed_column s.columns) (if s.windowed then Some sql.Big ∷ Some sql.Big ∷ [] else []) x k (held.aggregates p.0)
-          (ap (λ z. holds (reach (is_past z)) x) count ∙ held.near p.0 (all-ok (names a)));
-      plain = no-aggregate-held (inside s) a x h p.0;
-      short = short-texts-held (inside s) a x h p.1;
-      timeless = time-over over (inside s) a x scope h;
-    }
-  where
-    all-ok : (us : List Use) → list_all (λ u. true) us ≡ true
-    all-ok [] = refl
-    all-ok (u ∷ us) = all-ok us
+argument-sound : (over : Kind) (s : Scope) → IsScopeOver over s → (a : Expr) (x : Typed) → IsPlain a → IsTypedTree (inside s) a x
+    → IsSoundOver over (map typed_column s.columns) x
+argument-sound over s scope a x p h = record {
+  typed = subst (λ cs. HasTypes cs (w.one x)) (append-nil (map typed_column s.columns)) (checked (inside s) a x h);
+  plain = no-aggregate-held (inside s) a x h p.0;
+  short = short-texts-held (inside s) a x h p.1;
+  timeless = time-over over (inside s) a x scope h;
+}
 
 -- ---- an aggregate, typed
 
@@ -194,6 +162,11 @@ agg-sound over s a g kinds alone short free x h node = at (stood s a x (Expr-F.C
         let all = subst (λ es. are_small es ≡ true) k (small.small-Call a short alone.name alone.star alone.args alone.is) in
         (and_parts (is_small b) true all).0
 
+    known-argument : (b : Expr) → alone.args ≡ b ∷ [] → AreKnown (calls b)
+    known-argument b k =
+        let all = (call-known alone.name alone.star alone.args (subst (λ z. AreKnown (calls z)) alone.is h.1)).1 in
+        (two-known (calls b) [] refl (subst (λ es. AreKnown (all_of (map calls es))) k all)).0
+
     at : Stood s (Expr-F.Call alone.name alone.star alone.args) x → IsSoundAgg over s g
     at (inl c) = absurd (cc (sym node ∙ ap (λ y. y.node) c.is.1))
     at (inr (inl c)) =
@@ -202,11 +175,11 @@ agg-sound over s a g kinds alone short free x h node = at (stood s a x (Expr-F.C
           over_kind = over-kind g.fun s.stream over kinds (λ m. subst IsOverTable (sym same.0) tt);
           argument = subst (IsArgument over (map typed_column s.columns)) (sym same.1) tt;
         }
-    at (inr (inr c)) =
+    at (inr (inr (inl c))) =
         let same = same-aggregate g.fun c.found g.arg (Some c.tree) (sym node ∙ ap (λ y. y.node) c.is.1) in
-        let checked = subst (Checks (column_types s) x.ty) (ap out-TypedNode (ap (λ y. y.node) c.is.1) ∙ n.outs-Aggregate c.found (Some c.tree)) (checks h.1) in
         record {
           over_kind = over-kind g.fun s.stream over kinds (λ m. subst IsOverTable (sym same.0) (fit c.found c.named m));
           argument = subst (IsArgument over (map typed_column s.columns)) (sym same.1)
-              (argument-sound over s (scope-over s over kinds) c.arg c.tree (arguments-plain alone.args alone.flat c.arg c.alone, small-argument c.arg c.alone) c.stands (part-typed checked.0));
+              (argument-sound over s (scope-over s over kinds) c.arg c.tree (arguments-plain alone.args alone.flat c.arg c.alone, small-argument c.arg c.alone) (c.stands, known-argument c.arg c.alone));
         }
+    at (inr (inr (inr u))) = absurd (false≢true (sym (ap is_some (unknown-none alone.name u).1) ∙ alone.aggregate))

@@ -30,6 +30,7 @@ use Rattle.ksql_names.specs.declared.scope.Scope.{Scope}
 use Rattle.ksql_names.specs.Functions.{is_aggregate}
 use Rattle.ksql_names.specs.Uses.{IsSmall}
 use Rattle.ksql_typing.specs.Standing.{IsTypedTree}
+use Rattle.ksql_typing.proofs.OneTyping.{checked}
 use Rattle.ksql_grouping.specs.Grouping.{has_aggregate, has_bare_column, aggregates_of, ordered_aggregates, place_among}
 use Rattle.ksql_grouping.proofs.Calls as called
 use Rattle.ksql_clauses.specs.declared.items.Named.{Named}
@@ -228,7 +229,7 @@ aggs-sound over s types same kinds (a ∷ es) (x ∷ xs) [] t h f = absurd (cc (
 aggs-sound over s types same kinds (a ∷ es) (x ∷ xs) (g ∷ gs) t h f =
     let node = heads h in
     let k = agg-sound over s a g kinds f.0.0 f.0.1 f.0.2 x t.0 node in
-    sound.more k.over_kind (subst (λ ts. sound.IsArgument over ts g.arg) same k.argument) (agg-typed s g x t.0.1 node)
+    sound.more k.over_kind (subst (λ ts. sound.IsArgument over ts g.arg) same k.argument) (agg-typed s g x (checked s a x t.0) node)
     (aggs-sound over s types same kinds es xs gs t.1 (tails h) f.1)
 
 -- ---- expressions over the rows after a grouping

@@ -28,7 +28,7 @@ use Rattle.ksql_program.specs.Sound as sound
 use Rattle.ksql_program.specs.Sound.{AreColumns, IsWindowed, IsCondition, Makes, window_types, grouped_kind}
 use Rattle.ksql_names.specs.declared.scope.Scope.{Scope}
 use Rattle.ksql_names.specs.Uses.{IsSmall, calls}
-use Rattle.ksql_typing.specs.Typing.{CanBeTrue}
+use Rattle.ksql_typing.specs.Standing.{CanBeTrue}
 use Rattle.ksql_grouping.specs.Grouping.{has_aggregate, has_nested_aggregate, has_bare_column, aggregates_of, ordered_aggregates}
 use Rattle.ksql_clauses.specs.declared.items.Named.{Named}
 use Rattle.ksql_clauses.specs.declared.sources.Known.{Known}

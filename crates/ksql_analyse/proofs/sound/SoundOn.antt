@@ -25,10 +25,11 @@ use Rattle.ksql_program.specs.Sound.{IsJoined, JoinsStream, JoinsTable, IsSoundO
 use Rattle.ksql_names.specs.declared.scope.Scope.{Scope}
 use Rattle.ksql_names.specs.declared.scope.ScopeColumn.{ScopeColumn}
 use Rattle.ksql_names.specs.Scope.{is_known_as}
-use Rattle.ksql_typing.specs.Typing.{HasType, Agree, CanAgree}
+use Rattle.ksql_typing.specs.Standing.{HasType, Agree, CanAgree}
 use Rattle.ksql_names.specs.Uses.{names}
 use Rattle.std.proofs.lemmas.Bool.{and_parts}
 use Rattle.ksql_typing.specs.Standing.{IsTypedTree}
+use Rattle.ksql_typing.proofs.OneTyping.{checked}
 use Rattle.ksql_clauses.specs.declared.sources.Known.{Known}
 use Rattle.ksql_clauses.specs.Sources.{is_stream, is_windowed, from_scope, rowkey, scope_column}
 use Rattle.ksql_rules.specs.Breaks.{IfThere}
@@ -110,13 +111,13 @@ module _ (q : Select) (l r : Known) where
   -- an expression of the left relation's columns
   over-left : bytes_eq l.alias r.alias ≡ false → (a : Expr) (x : Typed) → IsPlain a → IsTypedTree s a x → is_of_left s l a ≡ true → IsSoundOver kind.Stream left_types x
   over-left apart a x p h ok =
-      let held = bears (is_past (length left_types)) (is_left_name s l) (left-near apart) h.0 in
+      let held = bears (is_past (length left_types)) (is_left_name s l) (left-near apart) h.0 h.1 in
       let all = (and_parts (nat_lt 0 (length (names a))) (list_all (is_left_name s l) (names a)) ok).1 in
       record {
         typed = narrowed-front left_types (sound.column_types (columns r.relation) ++ map typed_column (rowkey q (l ∷ r ∷ []))) x
-            (subst (λ ts. HasTypes ts (w.one x)) (types-apart q l r) h.1) (held.aggregates p.0) (held.near p.0 all);
-        plain = no-aggregate-held s a x h.0 p.0;
-        short = short-texts-held s a x h.0 p.1;
+            (subst (λ ts. HasTypes ts (w.one x)) (types-apart q l r) (checked s a x h)) (held.aggregates p.0) (held.near p.0 all);
+        plain = no-aggregate-held s a x h p.0;
+        short = short-texts-held s a x h p.1;
         timeless = λ other. absurd (other refl);
       }
 
@@ -173,7 +174,7 @@ module _ (q : Select) (l r : Known) where
         record {
           left_stream = stream-kind l.relation stream;
           over_left = over-left apart a on p h ok;
-          some_column = column-is-held s a on h.0 p.0 (some-names (names a) (and_parts (nat_lt 0 (length (names a))) (list_all (is_left_name s l) (names a)) ok).0);
+          some_column = column-is-held s a on h p.0 (some-names (names a) (and_parts (nat_lt 0 (length (names a))) (list_all (is_left_name s l) (names a)) ok).0);
           one_key = ap length other.keys;
           like_key = like on.ty refl;
         }
@@ -197,7 +198,7 @@ module _ (q : Select) (l r : Known) where
           left_table = table-kind l.relation stream windowed;
           by_key = ap (λ y. y.node) tree.1;
           typed = narrowed-front left_types (sound.column_types (columns r.relation) ++ map typed_column (rowkey q (l ∷ r ∷ []))) on
-              (subst (λ ts. HasTypes ts (w.one on)) (types-apart q l r) h.1)
+              (subst (λ ts. HasTypes ts (w.one on)) (types-apart q l r) (checked s a on h))
               (ap (holds is_aggregate) tree.1 ∙ hold.holds-Column is_aggregate tree.0 0)
               (ap (holds (reach (is_past (length left_types)))) tree.1 ∙ hold.holds-Column (reach (is_past (length left_types))) tree.0 0
               ∙ ap not (lt-ltb 0 (length left_types) some-left));

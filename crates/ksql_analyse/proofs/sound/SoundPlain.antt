@@ -184,7 +184,7 @@ column-tree s alias c i at a x is h =
     let k = stood-name s a x (Some alias) c.name is h in
     let known : is_known_as (Some alias) c.name (scope_column alias c) ≡ true =
     and_from (bytes_eq alias alias) (bytes_eq c.name c.name) ((bytes_eq-Decides alias alias).1 refl) ((bytes_eq-Decides c.name c.name).1 refl) in
-    ap (λ y. y.node) k.3.1 ∙ (meant-known s (Some alias) c.name k.0 k.1 k.2 i (scope_column alias c) at known).0
+    ap (λ y. y.node) k.3 ∙ (meant-known s (Some alias) c.name k.0 k.1 k.2 i (scope_column alias c) at known).0
 
 -- the key's columns of one relation, from an index on
 keys-from : (s : Scope) (alias : List ℕ) (i : ℕ) (cs : List Column) → ((j : ℕ) (c : Column) → slice_get cs j ≡ Some c → slice_get s.columns (i + j) ≡ Some (scope_column alias c))

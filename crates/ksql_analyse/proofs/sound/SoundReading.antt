@@ -31,7 +31,7 @@ use Rattle.ksql_types.specs.Columns.{columns}
 use Rattle.ksql_program.specs.Sound.{IsKeyed, IsTablesKey}
 use Rattle.ksql_names.specs.Functions.{is_aggregate}
 use Rattle.ksql_names.specs.Uses.{calls}
-use Rattle.ksql_typing.specs.Typing.{CanAgree}
+use Rattle.ksql_typing.specs.Standing.{CanAgree}
 use Rattle.ksql_names.proofs.Equations as equation
 use Rattle.ksql_names.proofs.Small as small
 use Rattle.ksql_typing.specs.Standing as st
@@ -237,7 +237,7 @@ module _ (before : List Item) (q : Select) (l r : Known) (j : JoinText) (joins :
         → x.node ≡ n.Column (length (columns l.relation) + length (columns r.relation))
     rowkey-column o full h c x m v =
         let g = stood-name (item_scope q (l ∷ r ∷ [])) c.expr x None (codes "ROWKEY") (same-one c (e.Name None (codes "ROWKEY")) m) v in
-        ap (λ y. y.node) g.3.1
+        ap (λ y. y.node) g.3
         ∙ (meant-known (item_scope q (l ∷ r ∷ [])) None (codes "ROWKEY") g.0 g.1 g.2 (length (columns l.relation) + length (columns r.relation)) (rowkey_of o)
         (rowkey-at q l r o full h) ((bytes_eq-Decides (codes "ROWKEY") (codes "ROWKEY")).1 refl)).0
 

@@ -1,7 +1,6 @@
 -- The typed trees of expressions without aggregates and with short literals are sound; a condition is one.
 use Rattle.std.proofs.Common.{◌≡◌, Bool, true, false, List, [], ◌∷◌, ◌++◌, map, Option, Some, None, refl, ap, sym, ◌∙◌, subst}
 use Rattle.std.specs.List.{list_any, AllByRecursion as Each}
-use Rattle.std.proofs.lemmas.Option.{same_Some}
 use Rattle.ksql_types.specs.declared.relation.Column.{Column}
 use Rattle.ksql_types.specs.declared.relation.Kind.{Kind}
 use Rattle.ksql_types.specs.declared.value.SqlType.{SqlType}
@@ -12,11 +11,10 @@ use Rattle.ksql_expr.specs.Rules.{fits}
 use Rattle.ksql_program.specs.Sound.{IsSoundOver, AreColumns, IsCondition}
 use Rattle.ksql_names.specs.declared.scope.Scope.{Scope}
 use Rattle.ksql_names.specs.Scope.{column_types}
-use Rattle.ksql_typing.specs.Typing.{HasType, CanBeTrue}
+use Rattle.ksql_typing.specs.Standing.{HasType, CanBeTrue}
 use Rattle.ksql_names.specs.Uses.{IsSmall}
 use Rattle.ksql_typing.specs.Standing.{IsTypedTree}
-use Rattle.ksql_typing.proofs.Making.{makes}
-use Rattle.ksql_typing.proofs.OneTyping.{tree-made}
+use Rattle.ksql_typing.proofs.OneTyping.{checked, one-tree}
 use Rattle.ksql_grouping.specs.Grouping.{has_aggregate}
 use Rattle.ksql_clauses.specs.Sources.{there}
 use Rattle.ksql_rules.specs.Breaks.{IfThere}
@@ -31,10 +29,10 @@ IsPlain a = (has_aggregate a ≡ false) × IsSmall a
 
 pub tree-sound : (over : Kind) (s : Scope) → IsScopeOver over s → (a : Expr) (x : Typed) → IsPlain a → IsTypedTree s a x → IsSoundOver over (column_types s) x
 tree-sound over s scope a x p h = record {
-  typed = h.1;
-  plain = no-aggregate-held s a x h.0 p.0;
-  short = short-texts-held s a x h.0 p.1;
-  timeless = time-over over s a x scope h.0;
+  typed = checked s a x h;
+  plain = no-aggregate-held s a x h p.0;
+  short = short-texts-held s a x h p.1;
+  timeless = time-over over s a x scope h;
 }
 
 -- the columns of some expressions
@@ -59,10 +57,7 @@ stable false h = absurd (h (λ k. cc (k)))
 
 -- a tree has each type that its expression can have
 pub type-is : (s : Scope) (a : Expr) (x : Typed) (t : Option SqlType) → IsTypedTree s a x → HasType s a t → x.ty ≡ t
-type-is s a x t h k =
-    let m = tree-made s a x h in
-    let o = makes k m.1 in
-    ap (λ y. y.ty) (same_Some x o.0 (sym m.0 ∙ o.1)) ∙ o.2
+type-is s a x t h k = ap (λ y. y.ty) (one-tree s a x k.0 h (k.1, h.1)) ∙ k.2
 
 pub condition-sound : (over : Kind) (s : Scope) → IsScopeOver over s → (types : List (Option SqlType)) → column_types s ≡ types
     → (a : Option Expr) (x : Option Typed) → IsTypedPart s a x → Each IsPlain (there a) → ¬ ¬ IfThere (CanBeTrue s) a → IsCondition over types x

@@ -1,5 +1,5 @@
 use Rattle.std.proofs.Common.{length}
-use Rattle.ksql_names.proofs.possible.+joint_types.Given as goal
+use Rattle.ksql_type_sets.proofs.possible.+joint_types.Given as goal
 
 abbrev pub decreases-joint_types : goal.decreases-joint_types
 decreases-joint_types l = length l.results.now
