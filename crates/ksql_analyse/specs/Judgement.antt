@@ -43,7 +43,7 @@ use Rattle.ksql_rules.specs.Lowest.{IsAccepted, IsRefused}
 use Rattle.ksql_clauses.specs.Properties.{topic_in, partitions_in, format_in}
 use Rattle.ksql_names.specs.Resolved.{resolved}
 use Rattle.ksql_clauses.specs.declared.sources.Known.{Known}
-use Rattle.ksql_clauses.specs.Sources.{all_known, from_scope, item_scope, reads_stream}
+use Rattle.ksql_clauses.specs.Sources.{all_known, from_scope, item_scope, on_scope, reads_stream}
 use Rattle.ksql_typing.specs.Standing.{IsTypedTree}
 use Rattle.ksql_clauses.specs.Windows.{window_of}
 use Rattle.ksql_analyse.specs.declared.fault.AnalyseFault.{AnalyseFault}
@@ -83,7 +83,7 @@ IsFrom q ks (from.One number) = (k : Known) × (ks ≡ k ∷ []) × (number ≡ 
 IsFrom q ks (from.Join k left right on) =
     (l : Known) × (r : Known) × (ks ≡ l ∷ r ∷ []) × (option_map (λ j. join_kind j.kind) q.join ≡ Some k)
     × (left ≡ l.relation.number) × (right ≡ r.relation.number)
-    × (a : Expr) × (join_key q ks ≡ Some a) × IsTypedTree (from_scope q ks) a on
+    × (sides : Expr × Expr) × (join_key q ks ≡ Some sides) × IsTypedTree (on_scope q ks) sides.0 on
 
 -- the typed tree of a part that may be left out
 abbrev pub IsTypedPart : Scope → Option Expr → Option Typed → Type 0

@@ -1,3 +1,4 @@
+pub mod Accepted
 pub mod Few
 pub mod Judgement
 pub mod Next

@@ -1,35 +1,28 @@
 //! What a query reads, as a part of its program.
 
-ghost use Rattle.std.specs.Prelude.{◌≡◌, ◌≤◌, ◌-◌, ◌^◌, ◌∷◌, [], IfOk, length};
-ghost use Rattle.ksql_clauses.specs.Sources as sources;
+ghost use Rattle.std.specs.Prelude.{◌≡◌, ◌∷◌, [], IfOk};
+ghost use Rattle.ksql_rules.specs.Findings.{AreFindings};
 ghost use Rattle.ksql_analyse.specs.Judgement as spec;
 ghost use Rattle.ksql_analyse.specs.Readable.{IsReadable};
 
 use crate::trees::tree_of;
 use ksql_clauses::Known;
-use ksql_names::Scope;
 use ksql_program::{From, JoinKind};
-use ksql_rules::join_key;
-use ksql_statements::{JoinWord, Select};
+use ksql_rules::Findings;
+use ksql_statements::JoinWord;
 use std::alloc::{AllocError, Global};
 
 /// What a query reads: one relation, or two that are joined.
-pub(crate) fn from_of(
-    alloc: Global,
-    scope: &Scope,
-    select: &Select,
-    known: &[Known],
-) -> Result<From, AllocError>
-    requires of_from { scope.now ≡ sources.from_scope select.now known.now }
-    requires readable { IsReadable select.now known.now }
-    requires columns { length scope.now.columns ≤ 2 ^ 32 - 2 }
-    ensures { IfOk result (λ from. spec.IsFrom select.now known.now from) }
+pub(crate) fn from_of(alloc: Global, findings: &Findings) -> Result<From, AllocError>
+    requires found { AreFindings findings.now }
+    requires readable { IsReadable findings.now.select.now findings.now.known.items }
+    ensures { IfOk result (λ from. spec.IsFrom findings.now.select.now findings.now.known.items from) }
 {
-    match known {
+    match findings.known.as_slice() {
         [one] => Ok(From::One {
             relation: one.relation.number,
         }),
-        [left, right] => joined(alloc, scope, select, known, left, right),
+        [left, right] => joined(alloc, findings, left, right),
         _ => unreachable!(),
     }
 }
@@ -37,29 +30,26 @@ pub(crate) fn from_of(
 /// A join of two relations.
 fn joined(
     alloc: Global,
-    scope: &Scope,
-    select: &Select,
-    known: &[Known],
+    findings: &Findings,
     left: &Known,
     right: &Known,
 ) -> Result<From, AllocError>
-    requires of_from { scope.now ≡ sources.from_scope select.now known.now }
-    requires two { known.now ≡ left.now ∷ right.now ∷ [] }
-    requires readable { IsReadable select.now known.now }
-    requires columns { length scope.now.columns ≤ 2 ^ 32 - 2 }
-    ensures { IfOk result (λ from. spec.IsFrom select.now known.now from) }
+    requires found { AreFindings findings.now }
+    requires two { findings.now.known.items ≡ left.now ∷ right.now ∷ [] }
+    requires readable { IsReadable findings.now.select.now findings.now.known.items }
+    ensures { IfOk result (λ from. spec.IsFrom findings.now.select.now findings.now.known.items from) }
 {
-    let Some(join) = &select.join else {
+    let Some(join) = &findings.select.join else {
         unreachable!()
     };
-    let Some(key) = join_key(alloc, scope, select, known)? else {
+    let Some((side, _)) = findings.key else {
         unreachable!()
     };
     Ok(From::Join {
         kind: join_kind(join.kind),
         left: left.relation.number,
         right: right.relation.number,
-        on: tree_of(alloc, scope, key)?,
+        on: tree_of(alloc, &findings.on_scope, side)?,
     })
 }
 

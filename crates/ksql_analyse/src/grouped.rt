@@ -1,8 +1,7 @@
 //! What a grouped query makes of its rows.
 
-ghost use Rattle.std.specs.Prelude.{◌≡◌, ◌≤◌, ◌-◌, ◌^◌, ◌++◌, [], All, IfOk, length, map, option_map};
+ghost use Rattle.std.specs.Prelude.{◌≡◌, ◌≤◌, ◌-◌, ◌^◌, ◌++◌, [], All, IfOk, length, map, option_copied, option_map};
 ghost use Rattle.std.specs.List.{flat_map};
-ghost use Rattle.ksql_names.specs.Resolved.{resolved as resolved_in};
 ghost use Rattle.ksql_clauses.specs.Sources.{there};
 ghost use Rattle.ksql_grouping.specs.Grouping as groups;
 ghost use Rattle.ksql_expr.specs.declared.typed.TypedNode.TheVariants as node;
@@ -15,38 +14,19 @@ use ksql_clauses::Named;
 use ksql_expr::{Typed, TypedNode};
 use ksql_expressions::Expr;
 use ksql_grouping::{aggregates_of, once};
-use ksql_names::{Scope, resolved};
+use ksql_names::Scope;
 use ksql_program::Agg;
 use ksql_trees::after;
 use ksql_types::{Boxed, CopyOf};
 use std::alloc::{AllocError, Global};
 
-/// Each expression with resolved names.
-pub(crate) fn all_resolved(
-    alloc: Global,
-    scope: &Scope,
-    exprs: &[Expr],
-) -> Result<Vec<Expr>, AllocError>
-    ensures { IfOk result (λ found. found.items ≡ map (resolved_in scope.now) exprs.now) }
-{
-    let mut found = Vec::new(alloc);
-    for expr in exprs {
-        found.push(resolved(alloc, scope, expr)?)?;
-    }
-    Ok(found)
-}
-
-/// A part that may be left out, with resolved names.
-pub(crate) fn part_resolved(
-    alloc: Global,
-    scope: &Scope,
-    part: &Option<Expr>,
-) -> Result<Option<Expr>, AllocError>
-    ensures { IfOk result (λ found. found ≡ option_map (resolved_in scope.now) part.now) }
+/// A part that may be left out, lent.
+pub(crate) fn lent(part: &Option<Boxed<Expr>>) -> Option<&Expr>
+    ensures { option_copied result ≡ part.now }
 {
     match part {
-        None => Ok(None),
-        Some(expr) => Ok(Some(resolved(alloc, scope, expr)?)),
+        None => None,
+        Some(expr) => Some(expr.get()),
     }
 }
 
@@ -54,9 +34,10 @@ pub(crate) fn part_resolved(
 pub(crate) fn aggregate_exprs(
     alloc: Global,
     columns: &[Named],
-    having: &Option<Expr>,
+    having: Option<&Expr>,
 ) -> Result<Vec<Expr>, AllocError>
-    ensures { IfOk result (λ found. found.items ≡ groups.once_from [] (flat_map groups.aggregates_of (spec.exprs columns.now ++ there having.now))) }
+    ensures { IfOk result (λ found. found.items
+        ≡ groups.once_from [] (flat_map groups.aggregates_of (spec.exprs columns.now ++ there (option_copied having.entry)))) }
 {
     let mut all = Vec::new(alloc);
     for column in columns {

@@ -1,6 +1,7 @@
 //! The item of a statement.
 
 ghost use Rattle.std.specs.Prelude.{All, IfOk};
+ghost use Rattle.ksql_rules.specs.Bodies.{IsBodyOf};
 ghost use Rattle.ksql_rules.specs.Limits.{IsRelationWithin, IsWithinLimits};
 ghost use Rattle.ksql_rules.specs.Lowest.{IsAccepted};
 ghost use Rattle.ksql_analyse.specs.Few.{HasFewCalls};
@@ -10,12 +11,19 @@ ghost use Rattle.ksql_analyse.specs.Plain.{HasPlainNames};
 use crate::declaration::declared_relation;
 use crate::query::query_of;
 use ksql_program::Item;
-use ksql_statements::{Statement, StatementBody};
+use ksql_rules::Body;
+use ksql_statements::Statement;
 use ksql_types::Catalog;
 use std::alloc::{AllocError, Global};
 
-/// The item of an accepted statement.
-pub fn item_of(alloc: Global, catalog: &Catalog, statement: &Statement) -> Result<Item, AllocError>
+/// The item of an accepted statement, of what is found out of its body.
+pub(crate) fn item_of(
+    alloc: Global,
+    catalog: &Catalog,
+    statement: &Statement,
+    body: &Body,
+) -> Result<Item, AllocError>
+    requires body { IsBodyOf body.now catalog.now statement.now.body }
     requires accepted { IsAccepted catalog.now statement.now }
     requires limits { IsWithinLimits statement.now }
     requires relations { All IsRelationWithin catalog.now }
@@ -23,20 +31,14 @@ pub fn item_of(alloc: Global, catalog: &Catalog, statement: &Statement) -> Resul
     requires few { HasFewCalls statement.now.body }
     ensures { IfOk result (λ item. IsItemOf catalog.now statement.now item) }
 {
-    match &statement.body {
-        StatementBody::Declared { columns, props } => {
-            let number = catalog.items().len() as u32;
-            let relation = declared_relation(
-                alloc,
-                number,
-                statement,
-                columns.items(),
-                props.items(),
-            )?;
+    let number = catalog.items().len() as u32;
+    match body {
+        Body::Declared(columns, props) => {
+            let relation = declared_relation(alloc, number, statement, columns, props)?;
             Ok(Item::Declared(relation))
         }
-        StatementBody::Query { props, select } => {
-            let query = query_of(alloc, catalog, statement, props.items(), select)?;
+        Body::Query(props, findings) => {
+            let query = query_of(alloc, number, statement, props, findings)?;
             Ok(Item::Started(query))
         }
     }

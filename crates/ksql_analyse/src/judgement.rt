@@ -14,7 +14,7 @@ ghost use Rattle.ksql_analyse.specs.Next.{IsFaultOf};
 use crate::fault::AnalyseFault;
 use crate::item::item_of;
 use ksql_program::{Item, Program, relation_of};
-use ksql_rules::lowest_code;
+use ksql_rules::{Verdict, judge_statement};
 use ksql_statements::Statement;
 use ksql_types::{AddRefusal, Catalog, CopyOf, Items, Relation};
 use std::alloc::{AllocError, Global};
@@ -55,13 +55,13 @@ fn judged(
     ensures found { IfOk result (λ item. IsItemOf catalog.now statement.now item) }
     ensures fault { IfErr result (λ fault. IsFaultOf catalog.now statement.now number fault) }
 {
-    if let Some(code) = lowest_code(alloc, catalog, statement)? {
-        return Err(AnalyseFault::Refused {
+    match judge_statement(alloc, catalog, statement)? {
+        Verdict::Refused(code) => Err(AnalyseFault::Refused {
             statement: number,
             code,
-        });
+        }),
+        Verdict::Accepted(body) => Ok(item_of(alloc, catalog, statement, body.get())?),
     }
-    Ok(item_of(alloc, catalog, statement)?)
 }
 
 /// Puts an item after the others, and its relation into the catalog.

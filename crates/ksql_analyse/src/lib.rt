@@ -9,7 +9,6 @@ mod item;
 mod judgement;
 mod laws;
 mod query;
-mod reading;
 mod result;
 mod shape;
 mod soundness;

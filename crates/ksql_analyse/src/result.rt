@@ -3,21 +3,76 @@
 ghost use Rattle.std.specs.Prelude.{◌≡◌, ◌<◌, ◌^◌, IfOk, Some, codes, if◌then◌else◌, is_some, map, true, unwrap_or};
 ghost use Rattle.ksql_clauses.specs.Properties as properties;
 ghost use Rattle.ksql_rules.specs.Breaks as breaks;
+ghost use Rattle.ksql_rules.specs.Findings.{AreFindings};
+ghost use Rattle.ksql_analyse.specs.Accepted.{IsAcceptedQuery, IsMade};
 ghost use Rattle.ksql_analyse.specs.Judgement as spec;
 ghost use Rattle.ksql_analyse.specs.Typable.{AreColumnTrees, IsValue};
 
-use ksql_clauses::{Known, Named, format_in, has_topic, partitions_in, reads_stream, topic_in};
+use ksql_clauses::{Known, Named, has_topic, partitions_in, reads_stream, topic_in};
 use ksql_expr::Typed;
-use ksql_statements::{Property, Select};
-use ksql_types::{Chars, Column, Columns, CopyOf, Format, Items, Kind, Relation, Schema};
+use ksql_program::Shape;
+use ksql_rules::{Findings, is_grouped, result_format};
+use ksql_statements::{Property, Select, Statement};
+use ksql_types::{Chars, Column, Columns, CopyOf, Items, Kind, Relation, Schema};
 use std::alloc::{AllocError, Global};
 
-/// The columns of these names and of these types.
-pub(crate) fn columns_of(
+/// The relation of a query's result, where it makes this of its rows.
+pub(crate) fn result_of(
     alloc: Global,
-    named: &[&Named],
-    trees: &[Typed],
-) -> Result<Columns, AllocError>
+    number: u32,
+    statement: &Statement,
+    props: &[Property],
+    findings: &Findings,
+    shape: &Shape,
+) -> Result<Relation, AllocError>
+    requires query { IsAcceptedQuery statement.now props.now findings.now }
+    requires made { IsMade findings.now.select.now findings.now.known.items shape.now }
+    ensures { IfOk result (λ r. spec.IsResult number statement.now props.now findings.now.select.now findings.now.known.items shape.now r) }
+{
+    let known = &findings.known;
+    let schema = schema_of(alloc, findings, shape)?;
+    let topic = result_topic(alloc, &statement.name, props)?;
+    Ok(Relation {
+        number,
+        name: statement.name.copy(alloc)?,
+        kind: result_kind(findings.select, known),
+        schema,
+        topic,
+        partitions: result_partitions(props, known),
+        format: result_format(props, known),
+        declared: false,
+    })
+}
+
+/// The columns of a result of this shape.
+fn schema_of(alloc: Global, findings: &Findings, shape: &Shape) -> Result<Schema, AllocError>
+    requires found { AreFindings findings.now }
+    requires made { IsMade findings.now.select.now findings.now.known.items shape.now }
+    ensures keyed { let q = findings.now.select.now in let ks = findings.now.known.items in
+        IfOk result (λ s. spec.AreColumnsOf (breaks.key_columns q ks) (spec.shape_keys shape.now) s.keys) }
+    ensures valued { let q = findings.now.select.now in let ks = findings.now.known.items in
+        IfOk result (λ s. spec.AreColumnsOf (breaks.value_columns q ks) (spec.shape_values shape.now) s.values) }
+{
+    let keys = findings.key_columns(alloc)?;
+    let values = findings.value_columns(alloc)?;
+    match shape {
+        Shape::Plain {
+            keys: key_trees,
+            values: value_trees,
+        }
+        | Shape::Group {
+            keys: key_trees,
+            values: value_trees,
+            ..
+        } => Ok(Schema {
+            keys: columns_of(alloc, &keys, key_trees.items())?,
+            values: columns_of(alloc, &values, value_trees.items())?,
+        }),
+    }
+}
+
+/// The columns of these names and of these types.
+fn columns_of(alloc: Global, named: &[&Named], trees: &[Typed]) -> Result<Columns, AllocError>
     requires { AreColumnTrees (map (λ c. c.now) named.now) trees.now }
     ensures { IfOk result (λ columns. spec.AreColumnsOf (map (λ c. c.now) named.now) trees.now columns) }
 {
@@ -43,10 +98,10 @@ fn column_of(alloc: Global, name: &Chars, tree: &Typed) -> Result<Column, AllocE
 }
 
 /// The kind of a query's result.
-pub(crate) fn result_kind(select: &Select, known: &[Known]) -> Kind
+fn result_kind(select: &Select, known: &[Known]) -> Kind
     ensures { result ≡ spec.result_kind select.now known.now }
 {
-    let grouped = !select.group.items().is_empty();
+    let grouped = is_grouped(select);
     if grouped && select.window.is_some() {
         return Kind::Windowed;
     }
@@ -57,11 +112,7 @@ pub(crate) fn result_kind(select: &Select, known: &[Known]) -> Kind
 }
 
 /// The topic of a query's result.
-pub(crate) fn result_topic(
-    alloc: Global,
-    name: &Chars,
-    props: &[Property],
-) -> Result<Chars, AllocError>
+fn result_topic(alloc: Global, name: &Chars, props: &[Property]) -> Result<Chars, AllocError>
     requires { is_some (properties.value_of (codes "KAFKA_TOPIC") props.now) ≡ true → is_some (properties.topic_in props.now) ≡ true }
     ensures { IfOk result (λ topic. Some topic ≡ (if is_some (properties.value_of (codes "KAFKA_TOPIC") props.now) then properties.topic_in props.now else Some name.now)) }
 {
@@ -75,7 +126,7 @@ pub(crate) fn result_topic(
 }
 
 /// How many partitions a query's result has: as the properties say, or else as its left source.
-pub(crate) fn result_partitions(props: &[Property], known: &[Known]) -> u32
+fn result_partitions(props: &[Property], known: &[Known]) -> u32
     requires { unwrap_or (properties.partitions_in props.now) 1 < 2 ^ 32 }
     ensures { result ≡ unwrap_or (properties.partitions_in props.now) (spec.left_partitions known.now) }
 {
@@ -91,16 +142,5 @@ fn left_partitions(known: &[Known]) -> u32
     match known {
         [left, ..] => left.relation.partitions,
         [] => 1,
-    }
-}
-
-/// The format of a query's result: its own, or that of its left source.
-pub(crate) fn result_format(props: &[Property], known: &[Known]) -> Format
-    ensures { result ≡ breaks.result_format props.now known.now }
-{
-    let own = format_in(props);
-    match known {
-        [left, ..] => own.unwrap_or(left.relation.format),
-        [] => own.unwrap_or(Format::Json),
     }
 }

@@ -1,115 +1,69 @@
 //! What a query makes of its rows.
 
-ghost use Rattle.std.specs.Prelude.{◌≡◌, ◌≤◌, ◌-◌, ◌^◌, All, IfOk, IsTrue, false, length, map, not, option_map};
-ghost use Rattle.ksql_clauses.specs.Items as items;
-ghost use Rattle.ksql_names.specs.Resolved.{resolved as resolved_in};
+ghost use Rattle.std.specs.Prelude.{◌≡◌, ◌≤◌, ◌-◌, ◌^◌, All, IfOk, IsTrue, false, length, map, not, option_copied, option_map};
 ghost use Rattle.ksql_clauses.specs.Windows as windows;
 ghost use Rattle.ksql_clauses.specs.Sources as sources;
 ghost use Rattle.ksql_rules.specs.Breaks as breaks;
+ghost use Rattle.ksql_analyse.specs.Accepted.{IsMade, IsReady};
 ghost use Rattle.ksql_analyse.specs.Judgement as spec;
-ghost use Rattle.ksql_analyse.specs.Typable.{AreColumnTrees, IsGroupTypable, IsTypable, IsValued};
+ghost use Rattle.ksql_analyse.specs.Typable.{AreColumnTrees, IsTypable, IsValued};
 
-use crate::grouped::{
-    aggregate_exprs, aggs_of, all_resolved, grouped_columns, part_after, part_resolved, trees_after,
-};
-use crate::reading::Reading;
+use crate::grouped::{aggregate_exprs, aggs_of, grouped_columns, lent, part_after, trees_after};
 use crate::trees::{column_trees, part_tree, trees_of};
 use ksql_clauses::{Named, window_of};
 use ksql_expr::{Typed, TypedNode};
 use ksql_expressions::Expr;
 use ksql_names::Scope;
 use ksql_program::{Agg, Shape};
-use ksql_statements::{Select, WindowText};
+use ksql_rules::{Findings, is_grouped};
+use ksql_statements::WindowText;
 use ksql_types::{Items, Window};
 use std::alloc::{AllocError, Global};
 
-/// The keys and the values of a query without a grouping.
-pub(crate) fn plain_shape(
-    alloc: Global,
-    reading: &Reading,
-    select: &Select,
-    keys: &[&Named],
-    values: &[&Named],
-) -> Result<Shape, AllocError>
-    requires plain { IsTrue (not (breaks.is_grouped select.now)) }
-    requires of_items { reading.now.late ≡ sources.item_scope select.now reading.now.known.items }
-    requires few { length reading.now.late.columns ≤ 2 ^ 32 - 2 }
-    requires keys { map (λ c. c.now) keys.now ≡ breaks.key_columns select.now reading.now.known.items }
-    requires values { map (λ c. c.now) values.now ≡ breaks.value_columns select.now reading.now.known.items }
-    requires valued_keys { All (λ c. IsValued reading.now.late c.now.expr) keys.now }
-    requires valued_values { All (λ c. IsValued reading.now.late c.now.expr) values.now }
-    ensures shape { IfOk result (λ made. spec.IsShape select.now reading.now.known.items made) }
-    ensures keyed { IfOk result (λ made. AreColumnTrees (map (λ c. c.now) keys.now) (spec.shape_keys made)) }
-    ensures valued { IfOk result (λ made. AreColumnTrees (map (λ c. c.now) values.now) (spec.shape_values made)) }
+/// What a query makes of its rows.
+pub(crate) fn shape_of(alloc: Global, findings: &Findings) -> Result<Shape, AllocError>
+    requires { IsReady findings.now }
+    ensures { IfOk result (λ made. IsMade findings.now.select.now findings.now.known.items made) }
 {
-    let keys = column_trees(alloc, &reading.late, keys)?;
-    let values = column_trees(alloc, &reading.late, values)?;
+    if is_grouped(findings.select) {
+        grouped_shape(alloc, findings)
+    } else {
+        plain_shape(alloc, findings)
+    }
+}
+
+/// The keys and the values of a query without a grouping.
+fn plain_shape(alloc: Global, findings: &Findings) -> Result<Shape, AllocError>
+    requires ready { IsReady findings.now }
+    requires plain { IsTrue (not (breaks.is_grouped findings.now.select.now)) }
+    ensures { IfOk result (λ made. IsMade findings.now.select.now findings.now.known.items made) }
+{
+    let key_columns = findings.key_columns(alloc)?;
+    let value_columns = findings.value_columns(alloc)?;
+    let keys = column_trees(alloc, &findings.item_scope, &key_columns)?;
+    let values = column_trees(alloc, &findings.item_scope, &value_columns)?;
     Ok(Shape::Plain {
         keys: Items::of(keys),
         values: Items::of(values),
     })
 }
 
-/// The group expressions and the aggregates of a query, and HAVING, with resolved names.
-#[derive(Drop)]
-struct Grouping {
-    groups: Vec<Expr>,
-    aggs: Vec<Expr>,
-    having: Option<Expr>,
-}
-
-fn grouping_of(alloc: Global, reading: &Reading, select: &Select) -> Result<Grouping, AllocError>
-    requires of_from { reading.now.from ≡ sources.from_scope select.now reading.now.known.items }
-    requires of_items { reading.now.late ≡ sources.item_scope select.now reading.now.known.items }
-    requires columns { reading.now.columns.items ≡ items.result_columns select.now reading.now.known.items }
-    ensures groups { IfOk result (λ g. g.groups.items ≡ breaks.group_exprs select.now reading.now.known.items) }
-    ensures aggs { IfOk result (λ g. g.aggs.items ≡ spec.aggregate_exprs select.now reading.now.known.items) }
-    ensures having { IfOk result (λ g. g.having ≡ option_map (resolved_in (sources.item_scope select.now reading.now.known.items)) select.now.having) }
-{
-    let groups = all_resolved(alloc, &reading.from, select.group.items())?;
-    let having = part_resolved(alloc, &reading.late, &select.having)?;
-    let aggs = aggregate_exprs(alloc, reading.columns.as_slice(), &having)?;
-    Ok(Grouping {
-        groups,
-        aggs,
-        having,
-    })
-}
-
 /// The keys, the aggregates and the values of a grouped query, its window and HAVING.
-pub(crate) fn grouped_shape(
-    alloc: Global,
-    reading: &Reading,
-    select: &Select,
-    values: &[&Named],
-) -> Result<Shape, AllocError>
-    requires grouped { IsTrue (breaks.is_grouped select.now) }
-    requires typable { IsGroupTypable select.now reading.now.known.items }
-    requires valued_values { All (λ c. IsValued reading.now.late c.now.expr) values.now }
-    requires window { breaks.has_large_window select.now.window ≡ false }
-    requires of_from { reading.now.from ≡ sources.from_scope select.now reading.now.known.items }
-    requires of_items { reading.now.late ≡ sources.item_scope select.now reading.now.known.items }
-    requires columns { reading.now.columns.items ≡ items.result_columns select.now reading.now.known.items }
-    requires few { length (sources.from_columns select.now reading.now.known.items) ≤ 2 ^ 32 - 2 }
-    requires values { map (λ c. c.now) values.now ≡ breaks.value_columns select.now reading.now.known.items }
-    ensures shape { IfOk result (λ made. spec.IsShape select.now reading.now.known.items made) }
-    ensures keyed { IfOk result (λ made. AreColumnTrees (breaks.key_columns select.now reading.now.known.items) (spec.shape_keys made)) }
-    ensures valued { IfOk result (λ made. AreColumnTrees (breaks.value_columns select.now reading.now.known.items) (spec.shape_values made)) }
+fn grouped_shape(alloc: Global, findings: &Findings) -> Result<Shape, AllocError>
+    requires ready { IsReady findings.now }
+    requires grouped { IsTrue (breaks.is_grouped findings.now.select.now) }
+    ensures { IfOk result (λ made. IsMade findings.now.select.now findings.now.known.items made) }
 {
-    let grouping = grouping_of(alloc, reading, select)?;
-    let keys = trees_of(alloc, &reading.from, grouping.groups.as_slice())?;
-    let aggs = aggs_of(alloc, &reading.late, grouping.aggs.as_slice())?;
-    let after = after_grouping(
-        alloc,
-        &reading.late,
-        keys.as_slice(),
-        aggs.as_slice(),
-        &grouping.having,
-        values,
-    )?;
+    let scope = &findings.item_scope;
+    let having = lent(&findings.having);
+    let exprs = aggregate_exprs(alloc, &findings.columns, having)?;
+    let keys = trees_of(alloc, &findings.scope, &findings.groups)?;
+    let aggs = aggs_of(alloc, scope, &exprs)?;
+    let values = findings.value_columns(alloc)?;
+    let after = after_grouping(alloc, scope, &keys, &aggs, having, &values)?;
     Ok(Shape::Group {
         keys: Items::of(keys),
-        window: window_in(&select.window),
+        window: window_in(&findings.select.window),
         aggs: Items::of(aggs),
         having: after.having,
         values: Items::of(after.values),
@@ -129,14 +83,14 @@ fn after_grouping(
     scope: &Scope,
     keys: &[Typed],
     aggs: &[Agg],
-    having: &Option<Expr>,
+    having: Option<&Expr>,
     values: &[&Named],
 ) -> Result<After, AllocError>
-    requires having { All (IsTypable scope.now) (sources.there having.now) }
+    requires having { All (IsTypable scope.now) (sources.there (option_copied having)) }
     requires values { All (λ c. IsValued scope.now c.now.expr) values.now }
     requires scope { length scope.now.columns ≤ 2 ^ 32 - 2 }
     requires columns { length (spec.grouped_columns scope.now keys.now aggs.now) ≤ 2 ^ 32 }
-    ensures having { IfOk result (λ made. spec.IsPartAfter (spec.grouped_columns scope.now keys.now aggs.now) scope.now having.now made.having) }
+    ensures having { IfOk result (λ made. spec.IsPartAfter (spec.grouped_columns scope.now keys.now aggs.now) scope.now (option_copied having.entry) made.having) }
     ensures values { IfOk result (λ made. spec.AreTreesAfter (spec.grouped_columns scope.now keys.now aggs.now) scope.now (spec.exprs (map (λ c. c.now) values.now)) made.values.items) }
     ensures valued { IfOk result (λ made. AreColumnTrees (map (λ c. c.now) values.now) made.values.items) }
 {
@@ -148,15 +102,15 @@ fn after_grouping(
 fn after_of(
     alloc: Global,
     scope: &Scope,
-    having: &Option<Expr>,
+    having: Option<&Expr>,
     values: &[&Named],
     columns: &[TypedNode],
 ) -> Result<After, AllocError>
-    requires having { All (IsTypable scope.now) (sources.there having.now) }
+    requires having { All (IsTypable scope.now) (sources.there (option_copied having)) }
     requires values { All (λ c. IsValued scope.now c.now.expr) values.now }
     requires scope { length scope.now.columns ≤ 2 ^ 32 - 2 }
     requires columns { length columns.now ≤ 2 ^ 32 }
-    ensures having { IfOk result (λ made. spec.IsPartAfter columns.now scope.now having.now made.having) }
+    ensures having { IfOk result (λ made. spec.IsPartAfter columns.now scope.now (option_copied having.entry) made.having) }
     ensures values { IfOk result (λ made. spec.AreTreesAfter columns.now scope.now (spec.exprs (map (λ c. c.now) values.now)) made.values.items) }
     ensures valued { IfOk result (λ made. AreColumnTrees (map (λ c. c.now) values.now) made.values.items) }
 {

@@ -121,13 +121,17 @@ rowkey q ks = if is_full q then map rowkey_of (take 1 (key_columns_of ks)) else 
 abbrev pub from_columns : Select → List Known → List ScopeColumn
 from_columns q ks = flat_map scope_columns ks ++ rowkey q ks
 
--- what names can stand for in ON, WHERE, GROUP BY and PARTITION BY
+-- what names can stand for in WHERE, GROUP BY and PARTITION BY
 abbrev pub from_scope : Select → List Known → Scope
 from_scope q ks = record { columns = from_columns q ks; stream = reads_stream ks; windowed = false }
 
 -- and in the items and in HAVING
 abbrev pub item_scope : Select → List Known → Scope
 item_scope q ks = record (from_scope q ks) { windowed = is_some q.window }
+
+-- what names can stand for in ON: today what they stand for in WHERE, GROUP BY and PARTITION BY
+abbrev pub on_scope : Select → List Known → Scope
+on_scope q ks = from_scope q ks
 
 -- ---- the expressions of a query
 

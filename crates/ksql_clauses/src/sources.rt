@@ -133,7 +133,7 @@ fn is_full_join(join: &JoinText) -> bool
     matches!(join.kind, JoinWord::Full)
 }
 
-/// What names can stand for in ON, WHERE, GROUP BY and PARTITION BY.
+/// What names can stand for in WHERE, GROUP BY and PARTITION BY.
 pub fn from_scope(alloc: Global, select: &Select, known: &[Known]) -> Result<Scope, AllocError>
     ensures { IfOk result (λ scope. scope ≡ spec.from_scope select.now known.now) }
 {
@@ -142,6 +142,13 @@ pub fn from_scope(alloc: Global, select: &Select, known: &[Known]) -> Result<Sco
         stream: reads_stream(known),
         windowed: false,
     })
+}
+
+/// What names can stand for in ON.
+pub fn on_scope(alloc: Global, select: &Select, known: &[Known]) -> Result<Scope, AllocError>
+    ensures { IfOk result (λ scope. scope ≡ spec.on_scope select.now known.now) }
+{
+    from_scope(alloc, select, known)
 }
 
 /// What names can stand for in the items and in HAVING.

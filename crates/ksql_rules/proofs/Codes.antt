@@ -1,6 +1,6 @@
 -- The first of some codes whose rule is broken, from that of the codes after the first.
-use Rattle.std.proofs.Common.{◌≡◌, ℕ, ◌-◌, ◌≤◌, suc, Bool, true, false, List, [], ◌∷◌, length, get_or, take, drop, Option, Some, None, IsTrue, inr, arith, ap, ◌∙◌, subst}
-use Rattle.std.specs.Prelude.{◌↔◌, ◌⊎◌, IfSome}
+use Rattle.std.proofs.Common.{◌≡◌, ◌-◌, ◌≤◌, Bool, false, List, [], ◌∷◌, length, get_or, take, drop, Option, Some, None, IsTrue, inr, arith, ap, ◌∙◌, subst}
+use Rattle.std.specs.Prelude.{◌↔◌, IfSome}
 use Rattle.std.proofs.Math.Seq.{take-length}
 use Rattle.ksql_types.specs.declared.code.Code.{Code}
 use Rattle.ksql_types.specs.declared.code.Code.TheVariants.{Syntax}

@@ -1,19 +1,18 @@
 -- What is decided by the sets of types is whether a query is typed.
-use Rattle.std.proofs.Common.{◌≡◌, Bool, true, false, ◌&&◌, List, [], ◌∷◌, Option, Some, None, IsTrue, refl, sym, subst}
+use Rattle.std.proofs.Common.{◌≡◌, Bool, ◌&&◌, List, [], ◌∷◌, Option, Some, None, IsTrue, refl, sym, subst}
 use Rattle.std.specs.Prelude.{◌↔◌}
 use Rattle.std.specs.List.{list_all}
 use Rattle.ksql_expressions.specs.declared.tree.Expr.{Expr}
 use Rattle.ksql_statements.specs.declared.tree.Select.{Select}
 use Rattle.ksql_names.specs.declared.scope.Scope.{Scope}
 use Rattle.ksql_type_sets.specs.Sets.{is_some_in}
-use Rattle.ksql_typing.specs.Standing.{CanBeTrue, CanAgree, HasValue}
+use Rattle.ksql_typing.specs.Standing.{CanBeTrue, CanAgree}
 use Rattle.std.proofs.lemmas.Bool.{and_parts, and_from}
 use Rattle.ksql_typing.specs.Judged.{judged}
 use Rattle.ksql_typing.proofs.TypeLaws as law
-use Rattle.ksql_clauses.specs.declared.items.Named.{Named}
 use Rattle.ksql_clauses.specs.declared.sources.Known.{Known}
 use Rattle.ksql_clauses.specs.Items.{result_columns}
-use Rattle.ksql_clauses.specs.Sources.{from_scope, item_scope, early_exprs, late_exprs, on_exprs}
+use Rattle.ksql_clauses.specs.Sources.{from_scope, on_scope, item_scope, early_exprs, late_exprs, on_exprs}
 use Rattle.ksql_rules.specs.Breaks.{Each, IfThere, IsQueryTyped}
 use Rattle.ksql_rules.specs.Decided.{fits_truth, is_valued, do_sides_agree, does_on_agree}
 use Rattle.ksql_rules.specs.Keys.{on_sides}
@@ -48,7 +47,7 @@ module _ (q : Select) (ks : List Known) where
   fit = fits_truth (from_scope q ks) q.filter && fits_truth (item_scope q ks) q.having
 
   abbrev pub last : Bool
-  last = list_all (is_valued (item_scope q ks)) (result_columns q ks) && does_on_agree (from_scope q ks) q
+  last = list_all (is_valued (item_scope q ks)) (result_columns q ks) && does_on_agree (on_scope q ks) q
 
   is-typed : IsTrue ((early && late && fit) && last) → IsQueryTyped q ks
   is-typed h =
@@ -56,14 +55,14 @@ module _ (q : Select) (ks : List Known) where
       let b = and_parts (early && late) fit a.0 in
       let c = and_parts early late b.0 in
       let d = and_parts (fits_truth (from_scope q ks) q.filter) (fits_truth (item_scope q ks) q.having) b.1 in
-      let e = and_parts (list_all (is_valued (item_scope q ks)) (result_columns q ks)) (does_on_agree (from_scope q ks) q) a.1 in
+      let e = and_parts (list_all (is_valued (item_scope q ks)) (result_columns q ks)) (does_on_agree (on_scope q ks) q) a.1 in
       record {
         early = (each-decided _ (λ x. is_some_in (judged x (from_scope q ks)).types) (law.some_type (from_scope q ks)) (early_exprs q)).0 c.0;
         late = (each-decided _ (λ x. is_some_in (judged x (item_scope q ks)).types) (law.some_type (item_scope q ks)) (late_exprs q)).0 c.1;
         where_true = (truth-decided (from_scope q ks) q.filter).0 d.0;
         having_true = (truth-decided (item_scope q ks) q.having).0 d.1;
         valued = (each-decided _ (is_valued (item_scope q ks)) (λ x. law.value (item_scope q ks) x.expr) (result_columns q ks)).0 e.0;
-        on_agrees = (each-decided _ (λ on. do_sides_agree (from_scope q ks) (on_sides on)) (λ on. sides-decided (from_scope q ks) (on_sides on)) (on_exprs q)).0 e.1;
+        on_agrees = (each-decided _ (λ on. do_sides_agree (on_scope q ks) (on_sides on)) (λ on. sides-decided (on_scope q ks) (on_sides on)) (on_exprs q)).0 e.1;
       }
 
   typed-is : IsQueryTyped q ks → IsTrue ((early && late && fit) && last)
@@ -76,9 +75,9 @@ module _ (q : Select) (ks : List Known) where
       (and_from (fits_truth (from_scope q ks) q.filter) (fits_truth (item_scope q ks) q.having)
       ((truth-decided (from_scope q ks) q.filter).1 h.where_true)
       ((truth-decided (item_scope q ks) q.having).1 h.having_true)))
-      (and_from (list_all (is_valued (item_scope q ks)) (result_columns q ks)) (does_on_agree (from_scope q ks) q)
+      (and_from (list_all (is_valued (item_scope q ks)) (result_columns q ks)) (does_on_agree (on_scope q ks) q)
       ((each-decided _ (is_valued (item_scope q ks)) (λ x. law.value (item_scope q ks) x.expr) (result_columns q ks)).1 h.valued)
-      ((each-decided _ (λ on. do_sides_agree (from_scope q ks) (on_sides on)) (λ on. sides-decided (from_scope q ks) (on_sides on)) (on_exprs q)).1 h.on_agrees))
+      ((each-decided _ (λ on. do_sides_agree (on_scope q ks) (on_sides on)) (λ on. sides-decided (on_scope q ks) (on_sides on)) (on_exprs q)).1 h.on_agrees))
 
   pub query-decided : IsTrue ((early && late && fit) && last) ↔ IsQueryTyped q ks
   query-decided = (is-typed, typed-is)

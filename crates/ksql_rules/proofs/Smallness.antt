@@ -1,5 +1,5 @@
 -- The expressions of a result keep the limits of those of the items.
-use Rattle.std.proofs.Common.{◌≡◌, ℕ, suc, Bool, ◌&&◌, List, [], ◌∷◌, ◌++◌, nat_le, length, true, false, map, Option, Some, None, All, refl, ap, ap₂, sym, ◌∙◌}
+use Rattle.std.proofs.Common.{◌≡◌, ℕ, suc, Bool, ◌&&◌, List, [], ◌∷◌, nat_le, length, true, false, map, Option, Some, None, All, refl, ap, ap₂, sym, ◌∙◌}
 use Rattle.std.specs.Prelude.{filter, bytes_eq, option_map, unwrap_or}
 use Rattle.std.specs.List.{flat_map, AllByRecursion as Each}
 use Rattle.std.proofs.lemmas.List.Elements.{All-nil, All-cons, All-head, All-tail, All-append}

@@ -21,7 +21,6 @@ use Rattle.ksql_statements.specs.declared.tree.WindowText.{WindowText}
 use Rattle.ksql_types.specs.declared.code.Code.{Code}
 use Rattle.ksql_types.specs.declared.code.Code.TheVariants as code
 use Rattle.ksql_types.specs.Names.{are_column_names, is_topic_name}
-use Rattle.ksql_types.specs.Columns.{columns}
 use Rattle.ksql_grouping.specs.Grouping.{has_aggregate, has_ordered_aggregate, has_nested_aggregate, has_bare_column}
 use Rattle.ksql_clauses.specs.declared.items.Named.{Named}
 use Rattle.ksql_clauses.specs.declared.sources.Known.{Known}
@@ -29,7 +28,7 @@ use Rattle.ksql_clauses.specs.Items.{result_columns, is_alias, is_join}
 use Rattle.ksql_rules.specs.Keys.{on_sides, join_key, key_places}
 use Rattle.ksql_clauses.specs.Properties.{are_bad, digits_in, format_in, name_of, topic_in, value_of}
 use Rattle.ksql_names.specs.Resolved.{resolved}
-use Rattle.ksql_clauses.specs.Sources.{all_known, has_unknown_source, have_one_alias, is_windowed, reads_stream, joined_streams, is_full, from_scope, item_scope, there, late_exprs, early_exprs, on_exprs}
+use Rattle.ksql_clauses.specs.Sources.{all_known, has_unknown_source, have_one_alias, is_windowed, reads_stream, joined_streams, is_full, from_scope, item_scope, on_scope, there, late_exprs, early_exprs, on_exprs}
 use Rattle.ksql_typing.specs.Standing.{HasType, HasValue, CanBeTrue, CanAgree}
 use Rattle.ksql_names.specs.Uses.{has_unknown_name, has_ambiguous_name, has_unknown_function}
 use Rattle.ksql_clauses.specs.Windows.{is_too_large, is_bad}
@@ -137,7 +136,7 @@ pub record IsQueryTyped (q : Select) (ks : List Known) : Type 0 where
   pub where_true : IfThere (CanBeTrue (from_scope q ks)) q.filter
   pub having_true : IfThere (CanBeTrue (item_scope q ks)) q.having
   pub valued : Each (λ c. HasValue (item_scope q ks) c.expr) (result_columns q ks)
-  pub on_agrees : Each (λ on. IfThere (CanAgree (from_scope q ks)) (on_sides on)) (on_exprs q)
+  pub on_agrees : Each (λ on. IfThere (CanAgree (on_scope q ks)) (on_sides on)) (on_exprs q)
 
 -- ---- WrongKind
 

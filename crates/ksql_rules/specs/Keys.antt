@@ -1,9 +1,7 @@
 -- The key of a query's result (the keys of results are this dialect's own rule).
-use Rattle.std.specs.Prelude.{◌≡◌, ℕ, ◌+◌, ◌==◌, Bool, true, false, not, ◌&&◌, ◌||◌, nat_lt, if◌then◌else◌, List, [], ◌∷◌, ◌++◌, length, map, filter, Option, Some, None, is_some, is_none, option_map, codes, bytes_eq}
-use Rattle.std.specs.List.{list_any, list_all, flat_map}
-use Rattle.ksql_types.specs.declared.operator.BinaryOp.{BinaryOp}
+use Rattle.std.specs.Prelude.{ℕ, ◌+◌, ◌==◌, Bool, false, ◌&&◌, nat_lt, if◌then◌else◌, List, [], ◌∷◌, length, map, filter, Option, Some, None, option_map, codes, bytes_eq}
+use Rattle.std.specs.List.{list_any, list_all}
 use Rattle.ksql_types.specs.declared.operator.BinaryOp.TheVariants as op
-use Rattle.ksql_types.specs.declared.relation.Column.{Column}
 use Rattle.ksql_expressions.specs.declared.tree.Expr.{Expr, out-Expr}
 use Rattle.ksql_expressions.specs.declared.tree.Expr.TheVariants as e
 use Rattle.ksql_expressions.specs.declared.tree.Expr.TheOpen.{Expr-F}
@@ -19,7 +17,7 @@ use Rattle.ksql_clauses.specs.Items.{result_columns}
 use Rattle.ksql_names.specs.Resolved.{resolved}
 use Rattle.ksql_expressions.specs.Same.{same_expr}
 use Rattle.ksql_names.specs.Scope.{is_known_as, row_time}
-use Rattle.ksql_clauses.specs.Sources.{is_stream, joined_streams, join_word, from_scope}
+use Rattle.ksql_clauses.specs.Sources.{is_stream, join_word, from_scope, on_scope}
 use Rattle.ksql_names.specs.Uses.{Use, names}
 
 -- ---- ON
@@ -44,17 +42,18 @@ is_only_key s k a = of (key_exprs k)
     of (key ∷ []) = same_expr (resolved s a) key
     of _ = false
 
+-- whether a column that is known by this alias is the relation's
+abbrev pub is_alias_of : Known → Option (List ℕ) → Bool
+is_alias_of k None = false
+is_alias_of k (Some alias) = bytes_eq alias k.alias
+
 -- whether a name is that of the left relation's column, or of its time
 abbrev pub is_left_name : Scope → Known → Use → Bool
 is_left_name s k u = of (filter (is_known_as u.qualifier u.name) s.columns)
   where
     of : List ScopeColumn → Bool
     of [] = length (row_time s u.qualifier u.name) == 1
-    of (c ∷ cs) = known_by c.alias
-      where
-        known_by : Option (List ℕ) → Bool
-        known_by None = false
-        known_by (Some alias) = bytes_eq alias k.alias
+    of (c ∷ cs) = is_alias_of k c.alias
 
 -- whether an expression has a column, and none but the left relation's
 abbrev pub is_of_left : Scope → Known → Expr → Bool
@@ -69,18 +68,21 @@ is_left_side s l a = if is_stream l.relation then is_of_left s l a else is_only_
 abbrev pub are_sides : Scope → Known → Known → Expr → Expr → Bool
 are_sides s l r a b = is_left_side s l a && is_only_key s r b
 
--- the left side's join key where ON is of the form `a = b`, in one of the two orders
-abbrev pub left_key : Scope → Known → Known → Option (Expr × Expr) → Option Expr
-left_key s l r None = None
-left_key s l r (Some sides) =
-    if are_sides s l r sides.0 sides.1 then Some sides.0 else if are_sides s l r sides.1 sides.0 then Some sides.1 else None
+-- the two sides of ON, the left relation's first, where they are of this form in one of the two orders
+abbrev pub key_sides : Scope → Known → Known → Option (Expr × Expr) → Option (Expr × Expr)
+key_sides s l r None = None
+key_sides s l r (Some sides) =
+    if are_sides s l r sides.0 sides.1 then Some (sides.0, sides.1)
+    else if are_sides s l r sides.1 sides.0 then Some (sides.1, sides.0)
+    else None
 
-abbrev pub join_key : Select → List Known → Option Expr
+-- the key of a join: both sides of ON, the left relation's first, where ON is `a = b` of the stated form
+abbrev pub join_key : Select → List Known → Option (Expr × Expr)
 join_key q (l ∷ r ∷ more) = of (option_map (λ j. j.on) q.join)
   where
-    of : Option Expr → Option Expr
+    of : Option Expr → Option (Expr × Expr)
     of None = None
-    of (Some on) = left_key (from_scope q (l ∷ r ∷ more)) l r (on_sides on)
+    of (Some on) = key_sides (on_scope q (l ∷ r ∷ more)) l r (on_sides on)
 join_key q _ = None
 
 -- ---- the key that a result needs: for each of its columns the expressions of which one has to stand among the items
@@ -100,36 +102,34 @@ tables_need Inner l r = beside (key_exprs l) (key_exprs r)
 tables_need Left l r = alone (key_exprs l)
 tables_need Full l r = (e.Name None (codes "ROWKEY") ∷ []) ∷ []
 
--- of a stream and a table, where the stream's side of ON is this
-abbrev pub stream_needs : JoinWord → Known → Expr → List (List Expr)
-stream_needs Inner r a = (a ∷ key_exprs r) ∷ []
-stream_needs _ r a = (a ∷ []) ∷ []
+-- of a stream and a table, where the stream's side of ON is this; nothing where ON isn't of the stated form
+abbrev pub stream_needs : JoinWord → Known → Option Expr → List (List Expr)
+stream_needs word r None = []
+stream_needs Inner r (Some a) = (a ∷ key_exprs r) ∷ []
+stream_needs word r (Some a) = (a ∷ []) ∷ []
 
--- of a join
-abbrev pub join_needs : Select → List Known → List (List Expr)
-join_needs q (l ∷ r ∷ more) = of (join_word q)
+-- the left side of a join's key, with resolved names
+abbrev pub left_side : Select → List Known → Option Expr
+left_side q ks = option_map (λ sides. resolved (on_scope q ks) sides.0) (join_key q ks)
+
+-- of what a query reads: one source, a stream and a table, or two tables
+abbrev pub sources_need : Select → List Known → List (List Expr)
+sources_need q [] = []
+sources_need q (k ∷ []) = alone (key_exprs k)
+sources_need q (l ∷ r ∷ more) = of (join_word q)
   where
     of : Option JoinWord → List (List Expr)
     of None = []
-    of (Some word) = by_side (join_key q (l ∷ r ∷ more))
-      where
-        by_side : Option Expr → List (List Expr)
-        by_side None = if is_stream l.relation then [] else tables_need word l r
-        by_side (Some a) = if is_stream l.relation then stream_needs word r (resolved (from_scope q (l ∷ r ∷ more)) a) else tables_need word l r
-join_needs q (k ∷ []) = alone (key_exprs k)
-join_needs q [] = []
+    of (Some word) = if is_stream l.relation then stream_needs word r (left_side q (l ∷ r ∷ more)) else tables_need word l r
 
 -- of a query: its group expressions, else that of PARTITION BY, else what its sources need
 abbrev pub needs : Select → List Known → List (List Expr)
-needs q ks = grouped q.group
+needs q ks = of q.group q.partition
   where
-    partitioned : Option Expr → List (List Expr)
-    partitioned None = join_needs q ks
-    partitioned (Some p) = alone (resolved (from_scope q ks) p ∷ [])
-
-    grouped : List Expr → List (List Expr)
-    grouped [] = partitioned q.partition
-    grouped (g ∷ gs) = alone (map (resolved (from_scope q ks)) (g ∷ gs))
+    of : List Expr → Option Expr → List (List Expr)
+    of (g ∷ gs) p = alone (map (resolved (from_scope q ks)) (g ∷ gs))
+    of [] (Some p) = alone (resolved (from_scope q ks) p ∷ [])
+    of [] None = sources_need q ks
 
 -- whether a column is one of these expressions
 abbrev pub is_one_of : List Expr → Named → Bool

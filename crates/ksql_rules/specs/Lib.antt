@@ -6,3 +6,4 @@ pub mod Keys
 pub mod Limits
 pub mod Lowest
 pub mod Sought
+pub mod Verdicts

@@ -1,6 +1,6 @@
 -- What statements and relations keep of the limits before the judgement looks at them: names of at most 128 bytes, texts
 -- of at most 65,536, digits of at most 9223372036854775807, and at most 64 columns.
-use Rattle.std.specs.Prelude.{ℕ, ◌≤◌, ⊤, All, List, length, Option, Some, None}
+use Rattle.std.specs.Prelude.{◌≤◌, ⊤, All, length, Some}
 use Rattle.ksql_types.specs.declared.relation.Relation.{Relation}
 use Rattle.ksql_statements.specs.declared.tree.Select.{Select}
 use Rattle.ksql_statements.specs.declared.tree.SelectItem.{SelectItem}

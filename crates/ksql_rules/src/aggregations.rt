@@ -1,10 +1,9 @@
 //! How a query uses aggregates.
 
-ghost use Rattle.std.specs.Prelude.{◌≡◌, ◌||◌, IfOk, map, option_map};
+ghost use Rattle.std.specs.Prelude.{◌≡◌, ◌||◌};
 ghost use Rattle.std.specs.List.{list_any};
 ghost use Rattle.ksql_names.specs.Uses as uses;
 ghost use Rattle.ksql_grouping.specs.Grouping as grouping;
-ghost use Rattle.ksql_names.specs.Resolved as names;
 ghost use Rattle.ksql_clauses.specs.Sources as sources;
 ghost use Rattle.ksql_rules.specs.Breaks as spec;
 ghost use Rattle.ksql_rules.specs.Findings.{AreFindings};
@@ -18,8 +17,7 @@ use ksql_grouping::{
     has_aggregate, has_bare_column, has_nested_aggregate, has_ordered_aggregate,
     has_unknown_function,
 };
-use ksql_names::{Scope, resolved};
-use std::alloc::{AllocError, Global};
+use ksql_types::Boxed;
 
 fn one_has_aggregate(exprs: &[&Expr]) -> bool
     ensures { result ≡ list_any (λ a. grouping.has_aggregate a.now) exprs.now }
@@ -45,17 +43,6 @@ fn one_has_unknown(exprs: &[&Expr]) -> bool
     exprs.iter().any(|expr| has_unknown_function(expr))
 }
 
-/// Some expressions with resolved names.
-pub fn each_resolved(alloc: Global, scope: &Scope, exprs: &[Expr]) -> Result<Vec<Expr>, AllocError>
-    ensures { IfOk result (λ each. each.items ≡ map (names.resolved scope.now) exprs.now) }
-{
-    let mut each = Vec::new(alloc);
-    for expr in exprs {
-        each.push(resolved(alloc, scope, expr)?)?;
-    }
-    Ok(each)
-}
-
 fn one_is_bare(groups: &[Expr], columns: &[Named]) -> bool
     ensures { result ≡ list_any (λ c. grouping.has_bare_column groups.now c.expr) columns.now }
 {
@@ -64,34 +51,25 @@ fn one_is_bare(groups: &[Expr], columns: &[Named]) -> bool
         .any(|column| has_bare_column(groups, &column.expr))
 }
 
-fn is_having_bare(
-    alloc: Global,
-    scope: &Scope,
-    groups: &[Expr],
-    having: &Option<Expr>,
-) -> Result<bool, AllocError>
-    ensures { IfOk result (λ bare. bare
-        ≡ list_any (grouping.has_bare_column groups.now) (sources.there (option_map (names.resolved scope.now) having.now))) }
+fn is_having_bare(groups: &[Expr], having: &Option<Boxed<Expr>>) -> bool
+    ensures { result ≡ list_any (grouping.has_bare_column groups.now) (sources.there having.now) }
 {
     match having {
-        None => Ok(false),
-        Some(having) => {
-            let having = resolved(alloc, scope, having)?;
-            Ok(has_bare_column(groups, &having))
-        }
+        None => false,
+        Some(having) => has_bare_column(groups, having.get()),
     }
 }
 
 /// Whether a column of the result, or HAVING, has a column that is neither in an aggregate nor in a group expression.
-fn has_bare(alloc: Global, findings: &Findings) -> Result<bool, AllocError>
+fn has_bare(findings: &Findings) -> bool
     requires { AreFindings findings.now }
     ensures { let q = findings.now.select.now in let ks = findings.now.known.items in
-        IfOk result (λ bare. bare ≡ list_any (grouping.has_bare_column (spec.group_exprs q ks)) (spec.shown_exprs q ks)) }
+        result ≡ list_any (grouping.has_bare_column (spec.group_exprs q ks)) (spec.shown_exprs q ks) }
 {
-    let select = findings.select;
-    let groups = each_resolved(alloc, &findings.scope, select.group.items())?;
-    let having = is_having_bare(alloc, &findings.item_scope, &groups, &select.having)?;
-    Ok(either(one_is_bare(&groups, &findings.columns), having))
+    either(
+        one_is_bare(&findings.groups, &findings.columns),
+        is_having_bare(&findings.groups, &findings.having),
+    )
 }
 
 /// Whether an aggregate stands in the items or HAVING.
@@ -123,17 +101,17 @@ fn has_ordered(findings: &Findings) -> bool
 }
 
 /// Whether a query uses aggregates where it can't, or groups without them.
-pub fn misuses_aggregates(alloc: Global, findings: &Findings) -> Result<bool, AllocError>
+pub fn misuses_aggregates(findings: &Findings) -> bool
     requires { AreFindings findings.now }
-    ensures { IfOk result (λ misused. misused ≡ spec.misuses_aggregates findings.now.select.now findings.now.known.items) }
+    ensures { result ≡ spec.misuses_aggregates findings.now.select.now findings.now.known.items }
 {
     let select = findings.select;
-    let bare = has_bare(alloc, findings)?;
+    let bare = has_bare(findings);
     let aggregated = is_aggregated(findings);
     let ungrouped = !is_grouped(select) && (aggregated || select.having.is_some());
     let grouped = is_grouped(select) && (!aggregated || select.partition.is_some() || bare);
     let ordered = !reads_stream(&findings.known) && has_ordered(findings);
-    Ok(has_misplaced(findings) || ungrouped || grouped || ordered)
+    has_misplaced(findings) || ungrouped || grouped || ordered
 }
 
 fn has_unknown(findings: &Findings) -> bool

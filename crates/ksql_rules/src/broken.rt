@@ -81,7 +81,7 @@ fn query_breaks(
         Code::KeyMissing => Ok(lacks_key(findings)),
         Code::JoinNotOnKey => Ok(is_not_on_key(findings)),
         Code::PartitionMismatch => Ok(have_other_partitions(known)),
-        Code::AggregateMisuse => misuses_aggregates(alloc, findings),
+        Code::AggregateMisuse => Ok(misuses_aggregates(findings)),
         Code::BadWindow => Ok(is_bad_window(select, known)),
         Code::Unsupported => Ok(is_query_unsupported(findings)),
         Code::BadProperty => is_query_bad(alloc, &statement.name, props, findings),

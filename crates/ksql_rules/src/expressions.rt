@@ -1,11 +1,14 @@
 //! The expressions of a query.
 
-ghost use Rattle.std.specs.Prelude.{◌≡◌, ◌++◌, IfOk, map};
+ghost use Rattle.std.specs.Prelude.{◌≡◌, ◌++◌, IfOk, map, option_map};
 ghost use Rattle.std.specs.List.{flat_map};
+ghost use Rattle.ksql_names.specs.Resolved as names;
 ghost use Rattle.ksql_clauses.specs.Sources as sources;
 
 use ksql_expressions::Expr;
+use ksql_names::{Scope, resolved};
 use ksql_statements::{Select, SelectItem};
+use ksql_types::Boxed;
 use std::alloc::{AllocError, Global};
 
 fn with_part<'a>(
@@ -67,4 +70,29 @@ pub fn late_exprs<'a>(alloc: Global, select: &'a Select) -> Result<Vec<&'a Expr>
 {
     let found = item_exprs(alloc, select.items.items())?;
     with_part(found, &select.having)
+}
+
+/// Some expressions with resolved names.
+pub fn each_resolved(alloc: Global, scope: &Scope, exprs: &[Expr]) -> Result<Vec<Expr>, AllocError>
+    ensures { IfOk result (λ each. each.items ≡ map (names.resolved scope.now) exprs.now) }
+{
+    let mut each = Vec::new(alloc);
+    for expr in exprs {
+        each.push(resolved(alloc, scope, expr)?)?;
+    }
+    Ok(each)
+}
+
+/// A part that may be left out, with resolved names.
+pub fn part_resolved(
+    alloc: Global,
+    scope: &Scope,
+    part: &Option<Expr>,
+) -> Result<Option<Boxed<Expr>>, AllocError>
+    ensures { IfOk result (λ found. found ≡ option_map (names.resolved scope.now) part.now) }
+{
+    match part {
+        None => Ok(None),
+        Some(expr) => Ok(Some(Boxed::of(alloc, resolved(alloc, scope, expr)?)?)),
+    }
 }

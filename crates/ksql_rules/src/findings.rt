@@ -4,18 +4,19 @@ ghost use Rattle.std.specs.Prelude.{◌≡◌, ◌-◌, ◌^◌, ◌≤◌, All,
 ghost use Rattle.ksql_names.specs.Uses.{IsSmall};
 ghost use Rattle.ksql_typing.specs.Judged as typing;
 ghost use Rattle.ksql_clauses.specs.Sources as sources;
+ghost use Rattle.ksql_rules.specs.Breaks as breaks;
 ghost use Rattle.ksql_rules.specs.Decided as decided;
 ghost use Rattle.ksql_rules.specs.Findings.{AreFindings, IsFound};
 ghost use Rattle.ksql_rules.specs.Limits.{IsQueryWithin, IsRelationWithin};
 
-use crate::expressions::{early_exprs, late_exprs};
-use crate::keys::{join_key, key_places};
-use ksql_clauses::{Known, Named, all_known, from_scope, item_scope, result_columns};
+use crate::expressions::{each_resolved, early_exprs, late_exprs, part_resolved};
+use crate::keys::{columns_at, columns_besides, join_key, key_places, needs};
+use ksql_clauses::{Known, Named, all_known, from_scope, item_scope, on_scope, result_columns};
 use ksql_expressions::Expr;
 use ksql_names::Scope;
 use ksql_statements::Select;
 use ksql_type_sets::{Types, has_some_type};
-use ksql_types::Catalog;
+use ksql_types::{Boxed, Catalog};
 use ksql_typing::judgement::{Judged, judge};
 use std::alloc::{AllocError, Global};
 
@@ -28,22 +29,43 @@ pub struct Found {
     pub typed: bool,
 }
 
-/// A query and what is found out of it: its sources that are in the catalog; what names can stand for in the items and
-/// HAVING, and elsewhere; its expressions, those of the items and HAVING last; the columns of its result, and the places
-/// of the key's; whether ON is of the stated form.
+/// A query and what is found out of it: its sources that are in the catalog; what names can stand for in ON, in the items
+/// and HAVING, and elsewhere; its expressions, those of the items and HAVING last; the columns of its result, and the
+/// places of the key's; both sides of a join's key, the left relation's first; GROUP BY and HAVING with resolved names.
 #[derive(Drop)]
 pub struct Findings<'a> {
     pub select: &'a Select,
     pub known: Vec<Known>,
     pub scope: Scope,
+    pub on_scope: Scope,
     pub item_scope: Scope,
     pub early: Vec<&'a Expr>,
     pub late: Vec<&'a Expr>,
     pub columns: Vec<Named>,
     pub places: Vec<Option<usize>>,
-    pub on_key: bool,
+    pub key: Option<(&'a Expr, &'a Expr)>,
+    pub groups: Vec<Expr>,
+    pub having: Option<Boxed<Expr>>,
     pub in_early: Found,
     pub in_late: Found,
+}
+
+impl Findings<'_> {
+    /// The columns of the result's key.
+    pub fn key_columns(&self, alloc: Global) -> Result<Vec<&Named>, AllocError>
+        requires { AreFindings self.now }
+        ensures { IfOk result (λ found. map (λ c. c.now) found.items ≡ breaks.key_columns self.now.select.now self.now.known.items) }
+    {
+        columns_at(alloc, &self.columns, &self.places)
+    }
+
+    /// The other columns of the result.
+    pub fn value_columns(&self, alloc: Global) -> Result<Vec<&Named>, AllocError>
+        requires { AreFindings self.now }
+        ensures { IfOk result (λ found. map (λ c. c.now) found.items ≡ breaks.value_columns self.now.select.now self.now.known.items) }
+    {
+        columns_besides(alloc, &self.columns, &self.places)
+    }
 }
 
 /// What is found out of an expression in a scope.
@@ -102,24 +124,31 @@ pub fn find_out<'a>(
 {
     let known = all_known(alloc, catalog, select)?;
     let scope = from_scope(alloc, select, &known)?;
+    let on_scope = on_scope(alloc, select, &known)?;
     let item_scope = item_scope(alloc, select, &known)?;
     let early = early_exprs(alloc, select)?;
     let late = late_exprs(alloc, select)?;
     let columns = result_columns(alloc, select, &known, &item_scope)?;
-    let places = key_places(alloc, &scope, select, &known, &columns)?;
-    let on_key = join_key(alloc, &scope, select, &known)?.is_some();
+    let key = join_key(alloc, &on_scope, select, &known)?;
+    let needs = needs(alloc, &scope, &on_scope, select, &known, key)?;
+    let places = key_places(alloc, &needs, &columns)?;
+    let groups = each_resolved(alloc, &scope, select.group.items())?;
     let in_early = found_in(alloc, &scope, &early)?;
     let in_late = found_in(alloc, &item_scope, &late)?;
+    let having = part_resolved(alloc, &item_scope, &select.having)?;
     Ok(Findings {
         select,
         known,
         scope,
+        on_scope,
         item_scope,
         early,
         late,
         columns,
         places,
-        on_key,
+        key,
+        groups,
+        having,
         in_early,
         in_late,
     })

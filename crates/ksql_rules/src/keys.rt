@@ -2,7 +2,6 @@
 
 ghost use Rattle.std.specs.Prelude.{◌≡◌, ◌++◌, ◌∷◌, [], IfOk, None, Some, codes, map, option_and_then, option_copied, option_map, slice_get};
 ghost use Rattle.std.specs.List.{list_any};
-ghost use Rattle.ksql_clauses.specs.Items as items;
 ghost use Rattle.ksql_names.specs.Resolved as names;
 ghost use Rattle.ksql_clauses.specs.Sources as sources;
 ghost use Rattle.ksql_rules.specs.Breaks as breaks;
@@ -13,7 +12,7 @@ use ksql_clauses::{Known, Named, is_stream};
 use ksql_expressions::{Expr, same_expr};
 use ksql_names::{Scope, resolved};
 use ksql_statements::{JoinWord, Select};
-use ksql_types::{BinaryOp, Chars, Column, CopyOf};
+use ksql_types::{BinaryOp, Boxed, Chars, Column, CopyOf};
 use std::alloc::{AllocError, Global};
 
 /// The two sides of `a = b`.
@@ -48,9 +47,9 @@ fn is_only_key(alloc: Global, scope: &Scope, known: &Known, expr: &Expr) -> Resu
 {
     match known.relation.schema.keys.items() {
         [key] => {
-            let key = column_expr(alloc, &known.alias, key)?;
-            let expr = resolved(alloc, scope, expr)?;
-            Ok(same_expr(&expr, &key))
+            let key = Boxed::of(alloc, column_expr(alloc, &known.alias, key)?)?;
+            let expr = Boxed::of(alloc, resolved(alloc, scope, expr)?)?;
+            Ok(same_expr(expr.get(), key.get()))
         }
         _ => Ok(false),
     }
@@ -88,34 +87,37 @@ fn are_sides(
     Ok(left_is && right_is)
 }
 
-fn left_key<'a>(
+/// The two sides of ON, the left relation's first, where they are of the stated form in one of the two orders.
+fn key_sides<'a>(
     alloc: Global,
     scope: &Scope,
     left: &Known,
     right: &Known,
     a: &'a Expr,
     b: &'a Expr,
-) -> Result<Option<&'a Expr>, AllocError>
-    ensures { IfOk result (λ key. option_copied key ≡ spec.left_key scope.now left.now right.now (Some (a.now, b.now))) }
+) -> Result<Option<(&'a Expr, &'a Expr)>, AllocError>
+    ensures { IfOk result (λ key. option_map (λ sides. (sides.0.now, sides.1.now)) key
+        ≡ spec.key_sides scope.now left.now right.now (Some (a.now, b.now))) }
 {
     if are_sides(alloc, scope, left, right, a, b)? {
-        return Ok(Some(a));
+        return Ok(Some((a, b)));
     }
     if are_sides(alloc, scope, left, right, b, a)? {
-        return Ok(Some(b));
+        return Ok(Some((b, a)));
     }
     Ok(None)
 }
 
-/// The left side's join key where ON is of the form `a = b`, in one of the two orders. The scope is that of FROM.
+/// The key of a join: both sides of ON, the left relation's first, where ON is `a = b` of the stated form. The scope is
+/// that of ON.
 pub fn join_key<'a>(
     alloc: Global,
-    scope: &Scope,
+    on_scope: &Scope,
     select: &'a Select,
     known: &[Known],
-) -> Result<Option<&'a Expr>, AllocError>
-    requires { scope.now ≡ sources.from_scope select.now known.now }
-    ensures { IfOk result (λ key. option_copied key ≡ spec.join_key select.now known.now) }
+) -> Result<Option<(&'a Expr, &'a Expr)>, AllocError>
+    requires { on_scope.now ≡ sources.on_scope select.now known.now }
+    ensures { IfOk result (λ key. option_map (λ sides. (sides.0.now, sides.1.now)) key ≡ spec.join_key select.now known.now) }
 {
     let [left, right, ..] = known else {
         return Ok(None);
@@ -125,7 +127,7 @@ pub fn join_key<'a>(
     };
     match on_sides(&join.on) {
         None => Ok(None),
-        Some((a, b)) => left_key(alloc, scope, left, right, a, b),
+        Some((a, b)) => key_sides(alloc, on_scope, left, right, a, b),
     }
 }
 
@@ -227,7 +229,7 @@ fn stream_needs(
     right: &Known,
     side: Expr,
 ) -> Result<Vec<Vec<Expr>>, AllocError>
-    ensures { IfOk result (λ needs. map (λ es. es.items) needs.items ≡ spec.stream_needs word right.now side) }
+    ensures { IfOk result (λ needs. map (λ es. es.items) needs.items ≡ spec.stream_needs word right.now (Some side)) }
 {
     let mut one = alone(alloc, side)?;
     if matches!(word, JoinWord::Inner) {
@@ -240,15 +242,17 @@ fn stream_needs(
     Ok(needs)
 }
 
-/// What the key of a query without GROUP BY and PARTITION BY needs. The scope is that of FROM.
-fn join_needs(
+/// What the key of a query without GROUP BY and PARTITION BY needs, where a join has this key. The scope is that of ON.
+fn sources_need(
     alloc: Global,
-    scope: &Scope,
+    on_scope: &Scope,
     select: &Select,
     known: &[Known],
+    key: Option<(&Expr, &Expr)>,
 ) -> Result<Vec<Vec<Expr>>, AllocError>
-    requires { scope.now ≡ sources.from_scope select.now known.now }
-    ensures { IfOk result (λ needs. map (λ es. es.items) needs.items ≡ spec.join_needs select.now known.now) }
+    requires of_on { on_scope.now ≡ sources.on_scope select.now known.now }
+    requires key { option_map (λ sides. (sides.0.now, sides.1.now)) key ≡ spec.join_key select.now known.now }
+    ensures { IfOk result (λ needs. map (λ es. es.items) needs.items ≡ spec.sources_need select.now known.now) }
 {
     match known {
         [] => Ok(Vec::new(alloc)),
@@ -260,33 +264,36 @@ fn join_needs(
             if !is_stream(&left.relation) {
                 return tables_need(alloc, join.kind, left, right);
             }
-            match join_key(alloc, scope, select, known)? {
+            match key {
                 None => Ok(Vec::new(alloc)),
-                Some(side) => {
-                    let side = resolved(alloc, scope, side)?;
-                    stream_needs(alloc, join.kind, right, side)
+                Some((side, _)) => {
+                    stream_needs(alloc, join.kind, right, resolved(alloc, on_scope, side)?)
                 }
             }
         }
     }
 }
 
-/// For each column of the key that a query's result needs, the expressions of which one has to stand among the items.
-/// The scope is that of FROM.
-fn needs(
+/// For each column of the key that a query's result needs, the expressions of which one has to stand among the items,
+/// where a join has this key.
+pub fn needs(
     alloc: Global,
     scope: &Scope,
+    on_scope: &Scope,
     select: &Select,
     known: &[Known],
+    key: Option<(&Expr, &Expr)>,
 ) -> Result<Vec<Vec<Expr>>, AllocError>
-    requires { scope.now ≡ sources.from_scope select.now known.now }
+    requires of_from { scope.now ≡ sources.from_scope select.now known.now }
+    requires of_on { on_scope.now ≡ sources.on_scope select.now known.now }
+    requires key { option_map (λ sides. (sides.0.now, sides.1.now)) key ≡ spec.join_key select.now known.now }
     ensures { IfOk result (λ needs. map (λ es. es.items) needs.items ≡ spec.needs select.now known.now) }
 {
     if !select.group.items().is_empty() {
         return resolved_alone(alloc, scope, select.group.items());
     }
     match &select.partition {
-        None => join_needs(alloc, scope, select, known),
+        None => sources_need(alloc, on_scope, select, known, key),
         Some(partition) => {
             let mut needs = Vec::new(alloc);
             needs.push(alone(alloc, resolved(alloc, scope, partition)?)?)?;
@@ -315,22 +322,16 @@ fn first_of(exprs: &[Expr], columns: &[Named]) -> Option<usize>
     None
 }
 
-/// The numbers of the key's columns among those of a query's result; nothing for one that is missing. The scope is that
-/// of FROM.
+/// The numbers of the key's columns among those of a result, where the key needs these; nothing for one that is missing.
 pub fn key_places(
     alloc: Global,
-    scope: &Scope,
-    select: &Select,
-    known: &[Known],
+    needs: &[Vec<Expr>],
     columns: &[Named],
 ) -> Result<Vec<Option<usize>>, AllocError>
-    requires of_from { scope.now ≡ sources.from_scope select.now known.now }
-    requires of_result { columns.now ≡ items.result_columns select.now known.now }
-    ensures { IfOk result (λ places. places.items ≡ spec.key_places select.now known.now) }
+    ensures { IfOk result (λ places. places.items ≡ map (λ es. spec.first_of es 0 columns.now) (map (λ es. es.items) needs.now)) }
 {
-    let needs = needs(alloc, scope, select, known)?;
     let mut places = Vec::new(alloc);
-    for exprs in &needs {
+    for exprs in needs {
         places.push(first_of(exprs, columns))?;
     }
     Ok(places)
@@ -346,7 +347,7 @@ fn column_at(columns: &[Named], place: Option<usize>) -> Option<&Named>
 }
 
 /// The columns of a result at some places: those of its key, where these are the key's.
-pub fn key_columns<'a>(
+pub fn columns_at<'a>(
     alloc: Global,
     columns: &'a [Named],
     places: &[Option<usize>],
@@ -371,7 +372,7 @@ fn is_place(number: usize, places: &[Option<usize>]) -> bool
 
 /// The columns of a result at no such place: those of its value, where these are the key's.
 #[tactic(auto, unfolding(crate::specs::Breaks::besides))]
-pub fn value_columns<'a>(
+pub fn columns_besides<'a>(
     alloc: Global,
     columns: &'a [Named],
     places: &[Option<usize>],

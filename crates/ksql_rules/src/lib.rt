@@ -1,4 +1,4 @@
-//! The rules by which a statement is refused, and the lowest code of those that it breaks.
+//! The rules by which a statement is refused: the lowest code of those that it breaks, or what is found out of it.
 #![tactic(auto)]
 
 mod aggregations;
@@ -8,15 +8,15 @@ mod expressions;
 mod findings;
 mod keys;
 mod left_names;
-mod lowest;
 mod queries;
 mod topics;
 mod truth;
 mod types;
+mod verdict;
 
-pub use aggregations::each_resolved;
+pub use broken::Body;
 pub use declarations::is_key;
-pub use keys::{join_key, key_columns, key_places, value_columns};
-pub use lowest::lowest_code;
+pub use findings::{Findings, Found};
 pub use queries::{is_grouped, result_format};
 pub use topics::query_topic;
+pub use verdict::{Verdict, judge_statement};

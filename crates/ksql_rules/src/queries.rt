@@ -8,7 +8,6 @@ ghost use Rattle.ksql_rules.specs.Breaks as spec;
 ghost use Rattle.ksql_rules.specs.Findings.{AreFindings};
 
 use crate::findings::Findings;
-use crate::keys::{key_columns, value_columns};
 use crate::topics::{has_bad_topic, query_topic};
 use ksql_clauses::{
     Known, Named, are_bad, format_in, have_one_alias, is_alias, is_bad, is_full, is_join,
@@ -120,8 +119,8 @@ pub fn has_bad_names(alloc: Global, findings: &Findings) -> Result<bool, AllocEr
     requires { AreFindings findings.now }
     ensures { IfOk result (λ bad. bad ≡ spec.has_bad_names findings.now.select.now findings.now.known.items) }
 {
-    let keys = key_columns(alloc, &findings.columns, &findings.places)?;
-    let values = value_columns(alloc, &findings.columns, &findings.places)?;
+    let keys = findings.key_columns(alloc)?;
+    let values = findings.value_columns(alloc)?;
     let names = with_names(Vec::new(alloc), &keys)?;
     let names = with_names(names, &values)?;
     Ok(!are_column_names(&names))
@@ -183,7 +182,9 @@ pub fn is_not_on_key(findings: &Findings) -> bool
     requires { AreFindings findings.now }
     ensures { result ≡ spec.is_not_on_key findings.now.select.now findings.now.known.items }
 {
-    is_join(&findings.known) && !findings.on_key && !is_stream_join(joined_streams(&findings.known))
+    is_join(&findings.known)
+        && findings.key.is_none()
+        && !is_stream_join(joined_streams(&findings.known))
 }
 
 fn is_one_missing(places: &[Option<usize>]) -> bool
@@ -268,7 +269,7 @@ pub fn is_query_bad(
     requires { AreFindings findings.now }
     ensures { IfOk result (λ bad. bad ≡ spec.is_query_bad name.now props.now findings.now.select.now findings.now.known.items) }
 {
-    let values = value_columns(alloc, &findings.columns, &findings.places)?;
+    let values = findings.value_columns(alloc)?;
     let empty = is_delimited(result_format(props, &findings.known)) && values.is_empty();
     Ok(are_bad(props) || has_bad_topic(query_topic(name, props)) || empty)
 }

@@ -1,6 +1,7 @@
 -- What is made of a grouped query's parts.
-use Rattle.std.proofs.Common.{◌≡◌, ◌∙◌, ℕ, ◌+◌, ◌^◌, ◌≤◌, arith, Bool, true, false, if◌then◌else◌, List, [], ◌∷◌, ◌++◌, length, map, Option, IsTrue, refl, ap, sym, subst}
+use Rattle.std.proofs.Common.{◌≡◌, ◌∙◌, ℕ, ◌+◌, ◌^◌, ◌≤◌, arith, Bool, true, false, if◌then◌else◌, List, [], ◌∷◌, ◌++◌, length, map, Option, IsTrue, refl, ap, ap₂, sym, subst}
 use Rattle.std.specs.Prelude.{option_map}
+use Rattle.std.specs.List.{flat_map}
 use Rattle.std.proofs.lemmas.List.{length-append, length-map}
 use Rattle.ksql_types.specs.declared.relation.Window.{Window}
 use Rattle.ksql_expressions.specs.declared.tree.Expr.{Expr}
@@ -11,10 +12,13 @@ use Rattle.ksql_expr.specs.declared.typed.TypedNode.TheVariants as n
 use Rattle.ksql_program.specs.declared.query.Agg.{Agg}
 use Rattle.ksql_program.specs.declared.query.Shape.TheVariants as shape
 use Rattle.ksql_names.specs.declared.scope.Scope.{Scope}
+use Rattle.ksql_clauses.specs.declared.items.Named.{Named}
 use Rattle.ksql_clauses.specs.declared.sources.Known.{Known}
+use Rattle.ksql_clauses.specs.Items.{result_columns}
 use Rattle.ksql_names.specs.Resolved.{resolved}
-use Rattle.ksql_clauses.specs.Sources.{from_scope, item_scope}
+use Rattle.ksql_clauses.specs.Sources.{from_scope, item_scope, there}
 use Rattle.ksql_clauses.specs.Windows.{window_of}
+use Rattle.ksql_grouping.specs.Grouping.{aggregates_of, once_from}
 use Rattle.ksql_rules.specs.Breaks.{group_exprs, is_grouped, value_columns}
 use Rattle.ksql_analyse.specs.Judgement.{AreAggs, AreTreesAfter, AreTypedTrees, IsPartAfter, IsShape, agg_form, aggregate_exprs, bound_forms, exprs, grouped_columns}
 use Rattle.ksql_analyse.proofs.lists.Moving.{moved}
@@ -42,6 +46,11 @@ columns-few from items groups aggs keys gs columns is are_keys are_aggs few =
     two : (b : Bool) → length (if b then n.Column (length items.columns) ∷ n.Column (length items.columns + 1) ∷ [] else []) ≤ 2
     two true = omega arith
     two false = omega arith
+
+-- the aggregates that are gathered are the query's
+pub aggs-are : (q : Select) (ks : List Known) (cs : List Named) (h : Option Expr) (es : List Expr) → es ≡ once_from [] (flat_map aggregates_of (exprs cs ++ there h))
+    → cs ≡ result_columns q ks → h ≡ option_map (resolved (item_scope q ks)) q.having → es ≡ aggregate_exprs q ks
+aggs-are q ks cs h es is columns having = is ∙ ap₂ (λ ds o. once_from [] (flat_map aggregates_of (exprs ds ++ there o))) columns having
 
 -- the shape
 pub grouped-made : (q : Select) (ks : List Known) (from items : Scope) (groups aggs vs : List Expr) (h : Option Expr) (keys keys2 values values2 : List Typed) (gs gs2 : List Agg)

@@ -16,15 +16,15 @@ use Rattle.ksql_names.proofs.NameFlags.{none-of}
 use Rattle.ksql_typing.proofs.TypeLaws as laws
 use Rattle.ksql_clauses.specs.declared.sources.Known.{Known}
 use Rattle.ksql_clauses.specs.Items.{is_join}
-use Rattle.ksql_clauses.specs.Sources.{all_known, from_scope, item_scope, on_exprs, joined_streams}
+use Rattle.ksql_clauses.specs.Sources.{all_known, from_scope, item_scope, on_scope, on_exprs, joined_streams}
 use Rattle.ksql_rules.specs.Breaks as rules
 use Rattle.ksql_rules.specs.Breaks.{IfThere, is_stream_join}
-use Rattle.ksql_rules.specs.Keys.{on_sides, join_key, left_key}
+use Rattle.ksql_rules.specs.Keys.{on_sides, join_key, key_sides}
 use Rattle.ksql_rules.specs.Limits.{IsQueryWithin}
 use Rattle.ksql_rules.proofs.Smallness.{on-small}
 use Rattle.ksql_analyse.specs.Readable.{HasJoin, IsReadable}
 use Rattle.ksql_analyse.specs.Typable.{IsTypable}
-use Rattle.ksql_analyse.proofs.forms.KeySides.{AreSides, left-key-sides, equation-is}
+use Rattle.ksql_analyse.proofs.forms.KeySides.{AreSides, sides-are, equation-is}
 use Rattle.ksql_analyse.proofs.accepted.PlainColumns.{HasPlainColumns}
 use Rattle.ksql_analyse.proofs.accepted.Refusals.{KeepsQuery}
 use Rattle.ksql_analyse.proofs.sound.SoundQuery.{on-part}
@@ -51,13 +51,13 @@ has-key false s h l = let e : not s ≡ true = ap not l in let z : true ≡ fals
 on-is : (q : Select) (j : JoinText) → q.join ≡ Some j → on_exprs q ≡ j.on ∷ []
 on-is q j joins = ap (λ o. on_exprs (record q { join = o })) joins
 
-key-is : (q : Select) (l r : Known) (j : JoinText) → q.join ≡ Some j → join_key q (l ∷ r ∷ []) ≡ left_key (from_scope q (l ∷ r ∷ [])) l r (on_sides j.on)
+key-is : (q : Select) (l r : Known) (j : JoinText) → q.join ≡ Some j → join_key q (l ∷ r ∷ []) ≡ key_sides (on_scope q (l ∷ r ∷ [])) l r (on_sides j.on)
 key-is q l r j joins =
-    subst (λ o. join_key (record q { join = o }) (l ∷ r ∷ []) ≡ left_key (from_scope (record q { join = o }) (l ∷ r ∷ [])) l r (on_sides j.on)) (sym joins) refl
+    subst (λ o. join_key (record q { join = o }) (l ∷ r ∷ []) ≡ key_sides (on_scope (record q { join = o }) (l ∷ r ∷ [])) l r (on_sides j.on)) (sym joins) refl
 
-sides-of : (q : Select) (l r : Known) (j : JoinText) → q.join ≡ Some j → (a : Expr) → join_key q (l ∷ r ∷ []) ≡ Some a
-    → AreSides (from_scope q (l ∷ r ∷ [])) l r (on_sides j.on) a
-sides-of q l r j joins a h = left-key-sides (from_scope q (l ∷ r ∷ [])) l r (on_sides j.on) a (sym (key-is q l r j joins) ∙ h)
+sides-of : (q : Select) (l r : Known) (j : JoinText) → q.join ≡ Some j → (key : Expr × Expr) → join_key q (l ∷ r ∷ []) ≡ Some key
+    → AreSides (on_scope q (l ∷ r ∷ [])) l r (on_sides j.on) key.0
+sides-of q l r j joins key h = sides-are (on_scope q (l ∷ r ∷ [])) l r (on_sides j.on) key (sym (key-is q l r j joins) ∙ h)
 
 module _ (catalog : List Relation) (table : Bool) (name : List ℕ) (ps : List Property) (q : Select)
     (keeps : KeepsQuery catalog table name ps q (all_known catalog q)) (within : IsQueryWithin q)
@@ -76,14 +76,14 @@ module _ (catalog : List Relation) (table : Bool) (name : List ℕ) (ps : List P
       let key = is-there (join_key q (l ∷ r ∷ [])) (has-key (is_some (join_key q (l ∷ r ∷ []))) (is_stream_join (joined_streams (l ∷ r ∷ []))) on_key no_streams) in
       let sides = sides-of q l r two.text two.join key.0 key.1 in
       let on_is : on_exprs q ≡ two.text.on ∷ [] = on-is q two.text two.join in
-      let on = (subst (Each (IsTypable (from_scope q ks))) on_is (on-part (IsTypable (from_scope q ks)) q (typing.early catalog table name ps q ks keeps within from_plain item_plain))).0 in
-      let agree = (subst (rules.Each (λ o. IfThere (CanAgree (from_scope q ks)) (on_sides o))) on_is (typing.query-typed q ks keeps.typed).on_agrees).0 in
+      let on = (subst (Each (IsTypable (on_scope q ks))) on_is (on-part (IsTypable (on_scope q ks)) q (typing.early catalog table name ps q ks keeps within from_plain item_plain))).0 in
+      let agree = (subst (rules.Each (λ o. IfThere (CanAgree (on_scope q ks)) (on_sides o))) on_is (typing.query-typed q ks keeps.typed).on_agrees).0 in
       record {
         text = two.text;
         joined = two.join;
-        key = key.0;
+        sides = key.0;
         keyed = ap (join_key q) all ∙ key.1;
-        typable = at (from_scope q ks) two.text.on key.0 sides.other sides.are on agree;
+        typable = at (on_scope q ks) two.text.on key.0.0 sides.other sides.are on agree;
       }
     where
       at : (s : Scope) (on a other : Expr) → (on_sides on ≡ Some (a, other)) ⊎ (on_sides on ≡ Some (other, a)) → IsTypable s on → IfThere (CanAgree s) (on_sides on) → IsTypable s a

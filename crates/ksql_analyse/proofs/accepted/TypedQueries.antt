@@ -21,7 +21,7 @@ use Rattle.ksql_clauses.specs.declared.items.Named.{Named}
 use Rattle.ksql_clauses.specs.declared.sources.Known.{Known}
 use Rattle.ksql_clauses.specs.Items.{result_columns}
 use Rattle.ksql_names.specs.Resolved.{resolved}
-use Rattle.ksql_clauses.specs.Sources.{from_scope, item_scope, early_exprs, late_exprs, there, on_exprs}
+use Rattle.ksql_clauses.specs.Sources.{from_scope, item_scope, on_scope, early_exprs, late_exprs, there, on_exprs}
 use Rattle.ksql_grouping.specs.Grouping.{aggregates_of}
 use Rattle.ksql_rules.specs.Breaks as rules
 use Rattle.ksql_rules.specs.Breaks.{IsQueryTyped, IfThere, group_exprs, shown_exprs}
@@ -78,8 +78,8 @@ query-typed q ks h = record {
   where_true = there-stable (CanBeTrue (from_scope q ks)) (truth-stable (from_scope q ks)) q.filter (λ no. h (λ t. no t.where_true));
   having_true = there-stable (CanBeTrue (item_scope q ks)) (truth-stable (item_scope q ks)) q.having (λ no. h (λ t. no t.having_true));
   valued = each-stable (λ c. HasValue (item_scope q ks) c.expr) (value-stable (item_scope q ks)) (result_columns q ks) (λ no. h (λ t. no t.valued));
-  on_agrees = each-stable (λ on. IfThere (CanAgree (from_scope q ks)) (on_sides on))
-      (λ on. there-stable (CanAgree (from_scope q ks)) (agreement-stable (from_scope q ks)) (on_sides on)) (on_exprs q) (λ no. h (λ t. no t.on_agrees));
+  on_agrees = each-stable (λ on. IfThere (CanAgree (on_scope q ks)) (on_sides on))
+      (λ on. there-stable (CanAgree (on_scope q ks)) (agreement-stable (on_scope q ks)) (on_sides on)) (on_exprs q) (λ no. h (λ t. no t.on_agrees));
 }
 
 -- ---- expressions that have typed trees

@@ -24,7 +24,7 @@ use Rattle.ksql_clauses.specs.declared.sources.Known.{Known}
 use Rattle.ksql_names.specs.Resolved.{resolved, full_name, written_for, is_row_time}
 use Rattle.ksql_clauses.specs.Sources.{scope_column}
 use Rattle.ksql_names.proofs.Resolving as r
-use Rattle.ksql_rules.specs.Keys.{on_sides, equated_sides, is_only_key, is_left_side, are_sides, left_key}
+use Rattle.ksql_rules.specs.Keys.{on_sides, equated_sides, is_only_key, is_left_side, are_sides, key_sides}
 use Rattle.ksql_expressions.proofs.Equality.{equal}
 use Rattle.ksql_analyse.proofs.forms.Meant.{meant-known}
 use Rattle.ksql_analyse.proofs.forms.Resolution.{IsName}
@@ -149,22 +149,22 @@ pub record AreSides (s : Scope) (l r : Known) (sides : Option (Expr × Expr)) (a
   pub right : is_only_key s r other ≡ true
   pub are : (sides ≡ Some (a, other)) ⊎ (sides ≡ Some (other, a))
 
-sides-where : (s : Scope) (l r : Known) (x y a : Expr) (b c : Bool) → are_sides s l r x y ≡ b → are_sides s l r y x ≡ c
-    → (if b then Some x else if c then Some y else None) ≡ Some a → AreSides s l r (Some (x, y)) a
-sides-where s l r x y a true c k m h =
-    let z : x ≡ a = same_Some x a h in
+sides-where : (s : Scope) (l r : Known) (x y : Expr) (key : Expr × Expr) (b c : Bool) → are_sides s l r x y ≡ b → are_sides s l r y x ≡ c
+    → (if b then Some (x, y) else if c then Some (y, x) else None) ≡ Some key → AreSides s l r (Some (x, y)) key.0
+sides-where s l r x y key true c k m h =
+    let z : x ≡ key.0 = ap (λ p. p.0) (same_Some (x, y) key h) in
     let both = and_parts (is_left_side s l x) (is_only_key s r y) k in
     record { other = y; left = subst (λ o. is_left_side s l o ≡ true) z both.0; right = both.1; are = inl (ap (λ o. Some (o, y)) z) }
-sides-where s l r x y a false true k m h =
-    let z : y ≡ a = same_Some y a h in
+sides-where s l r x y key false true k m h =
+    let z : y ≡ key.0 = ap (λ p. p.0) (same_Some (y, x) key h) in
     let both = and_parts (is_left_side s l y) (is_only_key s r x) m in
     record { other = x; left = subst (λ o. is_left_side s l o ≡ true) z both.0; right = both.1; are = inr (ap (λ o. Some (x, o)) z) }
-sides-where s l r x y a false false k m h = absurd (cc (h))
+sides-where s l r x y key false false k m h = absurd (cc (h))
 
-pub left-key-sides : (s : Scope) (l r : Known) (sides : Option (Expr × Expr)) (a : Expr) → left_key s l r sides ≡ Some a → AreSides s l r sides a
-left-key-sides s l r None a h = absurd (cc (h))
-left-key-sides s l r (Some sides) a h =
-    sides-where s l r sides.0 sides.1 a (are_sides s l r sides.0 sides.1) (are_sides s l r sides.1 sides.0) refl refl h
+pub sides-are : (s : Scope) (l r : Known) (sides : Option (Expr × Expr)) (key : Expr × Expr) → key_sides s l r sides ≡ Some key → AreSides s l r sides key.0
+sides-are s l r None key h = absurd (cc (h))
+sides-are s l r (Some sides) key h =
+    sides-where s l r sides.0 sides.1 key (are_sides s l r sides.0 sides.1) (are_sides s l r sides.1 sides.0) refl refl h
 
 -- the sides are those of an equation
 sides-form : (z : Expr-F Expr WhenText) (x y : Expr) → equated_sides z ≡ Some (x, y) → z ≡ Expr-F.Binary op.Eq x y

@@ -18,7 +18,8 @@ use Rattle.ksql_clauses.specs.Sources.{from_scope, item_scope, there}
 use Rattle.ksql_clauses.specs.Windows.{window_of}
 use Rattle.ksql_rules.specs.Breaks.{group_exprs, is_grouped, key_columns, value_columns}
 use Rattle.ksql_rules.specs.Keys.{key_places}
-use Rattle.ksql_analyse.specs.Judgement.{AreTypedTrees, IsFrom, IsShape, aggregate_exprs, exprs, grouped_columns, join_kind, shape_keys, shape_values}
+use Rattle.ksql_analyse.specs.Accepted.{IsMade}
+use Rattle.ksql_analyse.specs.Judgement.{AreTypedTrees, IsFrom, aggregate_exprs, exprs, grouped_columns, join_kind}
 use Rattle.ksql_trees.specs.Grouped.{after}
 use Rattle.ksql_analyse.specs.Readable.{IsReadable}
 use Rattle.ksql_analyse.specs.Typable.{AreColumnTrees, IsGroupTypable, IsQueryTypable, IsTypable, IsValued}
@@ -33,17 +34,11 @@ some-from q [] h = absurd h
 some-from q (k ∷ []) h = (from.One k.relation.number, (k, refl, refl))
 some-from q (l ∷ r ∷ []) h = (
   from.Join (join_kind h.text.kind) l.relation.number r.relation.number h.typable.tree,
-  (l, r, refl, ap (option_map (λ j. join_kind j.kind)) h.joined, refl, refl, h.key, h.keyed, h.typable.is),
+  (l, r, refl, ap (option_map (λ j. join_kind j.kind)) h.joined, refl, refl, h.sides, h.keyed, h.typable.is),
 )
 some-from q (l ∷ r ∷ k ∷ more) h = absurd h
 
 -- ---- what it makes
-
--- a shape, and that its trees are those of the columns
-pub record IsMade (q : Select) (ks : List Known) (made : Shape) : Type 0 where
-  pub is : IsShape q ks made
-  pub keyed : AreColumnTrees (key_columns q ks) (shape_keys made)
-  pub valued : AreColumnTrees (value_columns q ks) (shape_values made)
 
 -- the trees of columns that have a type
 column-trees-of : (s : Scope) (cs : List Named) → All (λ c. IsValued s c.expr) cs → (xs : List Typed) × AreTypedTrees s (exprs cs) xs × AreColumnTrees cs xs

@@ -41,12 +41,12 @@ use Rattle.ksql_clauses.specs.declared.items.Named.{Named}
 use Rattle.ksql_clauses.specs.declared.sources.Known.{Known}
 use Rattle.ksql_names.specs.Resolved.{resolved}
 use Rattle.ksql_clauses.specs.Items.{result_columns}
-use Rattle.ksql_clauses.specs.Sources.{is_stream, is_windowed, is_full, is_full_word, joined_streams, from_scope, item_scope, on_exprs, early_exprs, rowkey_of}
+use Rattle.ksql_clauses.specs.Sources.{is_stream, is_windowed, is_full, is_full_word, joined_streams, from_scope, item_scope, on_scope, on_exprs, early_exprs, rowkey_of}
 use Rattle.ksql_rules.specs.Breaks.{same, key_columns, is_grouped, is_not_on_key, is_stream_join, has_stream_side, IfThere}
-use Rattle.ksql_rules.specs.Keys.{on_sides, join_key, left_key, needs, alone, key_exprs, key_places, is_only_key, is_of_left, tables_need, stream_needs, join_needs, beside}
+use Rattle.ksql_rules.specs.Keys.{on_sides, join_key, key_sides, needs, alone, key_exprs, key_places, is_only_key, is_of_left, tables_need, stream_needs, sources_need, beside}
 use Rattle.ksql_expressions.proofs.Equality.{equal}
 use Rattle.ksql_analyse.specs.Judgement.{IsFrom, AreTypedTrees, exprs, join_kind}
-use Rattle.ksql_analyse.proofs.forms.KeySides.{only-key, AreSides, left-key-sides, equation-is}
+use Rattle.ksql_analyse.proofs.forms.KeySides.{only-key, AreSides, sides-are, equation-is}
 use Rattle.ksql_analyse.proofs.forms.Meant.{meant-known}
 use Rattle.ksql_analyse.proofs.accepted.Refusals.{KeepsQuery, not-not}
 use Rattle.ksql_analyse.proofs.sound.SoundColumns.{AreKeys, keys-are}
@@ -107,19 +107,19 @@ module _ (before : List Item) (q : Select) (l r : Known) (j : JoinText) (joins :
   full-is : is_full q ≡ is_full_word j.kind
   full-is = ap (λ o. is_full (record q { join = o })) joins
 
-  key-is : join_key q (l ∷ r ∷ []) ≡ left_key (from_scope q (l ∷ r ∷ [])) l r (on_sides j.on)
-  key-is = subst (λ o. join_key (record q { join = o }) (l ∷ r ∷ []) ≡ left_key (from_scope (record q { join = o }) (l ∷ r ∷ [])) l r (on_sides j.on)) (sym joins) refl
+  key-is : join_key q (l ∷ r ∷ []) ≡ key_sides (on_scope q (l ∷ r ∷ [])) l r (on_sides j.on)
+  key-is = subst (λ o. join_key (record q { join = o }) (l ∷ r ∷ []) ≡ key_sides (on_scope (record q { join = o }) (l ∷ r ∷ [])) l r (on_sides j.on)) (sym joins) refl
 
   kind-is : (k : JoinKind) → option_map (λ j. join_kind j.kind) q.join ≡ Some k → k ≡ join_kind j.kind
   kind-is k h = sym (same_Some (join_kind j.kind) k (sym (ap (option_map (λ j. join_kind j.kind)) joins) ∙ h))
 
-  sides-of : (a : Expr) → join_key q (l ∷ r ∷ []) ≡ Some a → AreSides (from_scope q (l ∷ r ∷ [])) l r (on_sides j.on) a
-  sides-of a h = left-key-sides (from_scope q (l ∷ r ∷ [])) l r (on_sides j.on) a (sym key-is ∙ h)
+  sides-of : (key : Expr × Expr) → join_key q (l ∷ r ∷ []) ≡ Some key → AreSides (on_scope q (l ∷ r ∷ [])) l r (on_sides j.on) key.0
+  sides-of key h = sides-are (on_scope q (l ∷ r ∷ [])) l r (on_sides j.on) key (sym key-is ∙ h)
 
   on-plain : Each IsPlain (early_exprs q) → IsPlain j.on
   on-plain h = (subst (Each IsPlain) on-is (on-part IsPlain q h)).0
 
-  side-plain : (a : Expr) → AreSides (from_scope q (l ∷ r ∷ [])) l r (on_sides j.on) a → IsPlain j.on → IsPlain a
+  side-plain : (a : Expr) → AreSides (on_scope q (l ∷ r ∷ [])) l r (on_sides j.on) a → IsPlain j.on → IsPlain a
   side-plain a d p = at d.are
     where
       at : (on_sides j.on ≡ Some (a, d.other)) ⊎ (on_sides j.on ≡ Some (d.other, a)) → IsPlain a
@@ -161,8 +161,8 @@ module _ (before : List Item) (q : Select) (l r : Known) (j : JoinText) (joins :
         let theirs = same-right l r h.0 h.1 h.2 in
         let kinds = kind-is k h.3 in
         let sides = sides-of h.6 h.7 in
-        let p = side-plain h.6 sides (on-plain early) in
-        let joined = by-kind q l r (on_sides j.on) h.6 on sides apart p h.8 agrees k windows.0 (λ stream full. no-full-stream stream k kinds full) in
+        let p = side-plain h.6.0 sides (on-plain early) in
+        let joined = by-kind q l r (on_sides j.on) h.6.0 on sides apart p h.8 agrees k windows.0 (λ stream full. no-full-stream stream k kinds full) in
         let at-left : relation_at before left ≡ Some l.relation = ap (relation_at before) (h.4 ∙ ap (λ o. o.relation.number) mine) ∙ left-there.at in
         let at-right : relation_at before right ≡ Some r.relation = ap (relation_at before) (h.5 ∙ ap (λ o. o.relation.number) theirs) ∙ right-there.at in
         record {
@@ -183,8 +183,8 @@ module _ (before : List Item) (q : Select) (l r : Known) (j : JoinText) (joins :
             let one : l.relation ≡ r.relation = same_Some l.relation r.relation (sym at-a ∙ ap (relation_at before) is ∙ at-b) in
             false≢true (sym keeps.apart ∙ (bytes_eq-Decides l.relation.name r.relation.name).1 (ap (λ o. o.name) one))
 
-        agrees : ¬ ¬ IfThere (CanAgree (from_scope q (l ∷ r ∷ []))) (on_sides j.on)
-        agrees never = keeps.typed (λ t. never (subst (Each (λ on. IfThere (CanAgree (from_scope q (l ∷ r ∷ []))) (on_sides on))) on-is t.on_agrees).0)
+        agrees : ¬ ¬ IfThere (CanAgree (on_scope q (l ∷ r ∷ []))) (on_sides j.on)
+        agrees never = keeps.typed (λ t. never (subst (Each (λ on. IfThere (CanAgree (on_scope q (l ∷ r ∷ []))) (on_sides on))) on-is t.on_agrees).0)
 
     -- ---- the key
 
@@ -241,20 +241,24 @@ module _ (before : List Item) (q : Select) (l r : Known) (j : JoinText) (joins :
         ∙ (meant-known (item_scope q (l ∷ r ∷ [])) None (codes "ROWKEY") g.0 g.1 g.2 (length (columns l.relation) + length (columns r.relation)) (rowkey_of o)
         (rowkey-at q l r o full h) ((bytes_eq-Decides (codes "ROWKEY") (codes "ROWKEY")).1 refl)).0
 
-    abbrev Needed : Expr → Option JoinText → Type 0
-    Needed a o =
-        join_key (record q { join = o }) (l ∷ r ∷ []) ≡ Some a
-        → join_needs (record q { join = o }) (l ∷ r ∷ [])
-        ≡ (if is_stream l.relation then stream_needs j.kind r (resolved (from_scope (record q { join = o }) (l ∷ r ∷ [])) a) else tables_need j.kind l r)
+    -- the left side of ON, with resolved names
+    abbrev left-of : Expr × Expr → Expr
+    left-of key = resolved (on_scope q (l ∷ r ∷ [])) key.0
 
-    joined-needs : (a : Expr) → Needed a (Some j)
-    joined-needs a key = rw key
+    abbrev Needed : Expr × Expr → Option JoinText → Type 0
+    Needed key o =
+        join_key (record q { join = o }) (l ∷ r ∷ []) ≡ Some key
+        → sources_need (record q { join = o }) (l ∷ r ∷ [])
+        ≡ (if is_stream l.relation then stream_needs j.kind r (Some (resolved (on_scope (record q { join = o }) (l ∷ r ∷ [])) key.0)) else tables_need j.kind l r)
+
+    joined-needs : (key : Expr × Expr) → Needed key (Some j)
+    joined-needs key is = rw is
 
     -- what a join needs where there is no PARTITION BY
-    plain-needs : (a : Expr) → is_grouped q ≡ false → q.partition ≡ None → join_key q (l ∷ r ∷ []) ≡ Some a
-        → needs q (l ∷ r ∷ []) ≡ (if is_stream l.relation then stream_needs j.kind r (resolved (from_scope q (l ∷ r ∷ [])) a) else tables_need j.kind l r)
-    plain-needs a g none key =
-        ap₂ (λ es w. needs (record q { group = es; partition = w }) (l ∷ r ∷ [])) (no-group q g) none ∙ subst (Needed a) (sym joins) (joined-needs a) key
+    plain-needs : (key : Expr × Expr) → is_grouped q ≡ false → q.partition ≡ None → join_key q (l ∷ r ∷ []) ≡ Some key
+        → needs q (l ∷ r ∷ []) ≡ (if is_stream l.relation then stream_needs j.kind r (Some (left-of key)) else tables_need j.kind l r)
+    plain-needs key g none is =
+        ap₂ (λ es w. needs (record q { group = es; partition = w }) (l ∷ r ∷ [])) (no-group q g) none ∙ subst (Needed key) (sym joins) (joined-needs key) is
 
     pub keyed-two : is_grouped q ≡ false → (f : From) → IsFrom q (l ∷ r ∷ []) f → (xs : List Typed)
         → AreTypedTrees (item_scope q (l ∷ r ∷ [])) (exprs (key_columns q (l ∷ r ∷ []))) xs → IsKeyed before f xs
@@ -281,16 +285,16 @@ module _ (before : List Item) (q : Select) (l r : Known) (j : JoinText) (joins :
         of-stream m es need =
             one-key f es found xs (subst (λ ns. AreKeys ns found) need (keys g)) t (λ c x u v. sound.of_stream at-left (stream-kind l.relation m))
 
-        stream-kind-needs : (w : JoinWord) (a : Expr) → (es : List Expr) × (stream_needs w r a ≡ es ∷ [])
+        stream-kind-needs : (w : JoinWord) (a : Expr) → (es : List Expr) × (stream_needs w r (Some a) ≡ es ∷ [])
         stream-kind-needs word.Inner a = (a ∷ key_exprs r, refl)
         stream-kind-needs word.Left a = (a ∷ [], refl)
         stream-kind-needs word.Full a = (a ∷ [], refl)
 
         stream-side : is_stream l.relation ≡ true → (o : Option Expr) → q.partition ≡ o → IsKeyed before f xs
         stream-side m None p =
-            let z = stream-kind-needs j.kind (resolved (from_scope q (l ∷ r ∷ [])) h.6) in
+            let z = stream-kind-needs j.kind (left-of h.6) in
             of-stream m z.0 (plain-needs h.6 g p h.7
-            ∙ ap (λ b. if b then stream_needs j.kind r (resolved (from_scope q (l ∷ r ∷ [])) h.6) else tables_need j.kind l r) m ∙ z.1)
+            ∙ ap (λ b. if b then stream_needs j.kind r (Some (left-of h.6)) else tables_need j.kind l r) m ∙ z.1)
         stream-side m (Some p) w = of-stream m (resolved (from_scope q (l ∷ r ∷ [])) p ∷ []) (partitioned p w)
 
         -- two tables
@@ -298,11 +302,11 @@ module _ (before : List Item) (q : Select) (l r : Known) (j : JoinText) (joins :
         table-side m (Some p) w = absurd (false≢true (sym (sym (ap₂ (λ o b. is_some o && not b) w m) ∙ keeps.partitioned)))
         table-side m None w =
             let sides = sides-of h.6 h.7 in
-            let mine = only-key (from_scope q (l ∷ r ∷ [])) l h.6
-            (sym (ap (λ b. if b then is_of_left (from_scope q (l ∷ r ∷ [])) l h.6 else is_only_key (from_scope q (l ∷ r ∷ [])) l h.6) m) ∙ sides.left) in
-            let theirs = only-key (from_scope q (l ∷ r ∷ [])) r sides.other sides.right in
+            let mine = only-key (on_scope q (l ∷ r ∷ [])) l h.6.0
+            (sym (ap (λ b. if b then is_of_left (on_scope q (l ∷ r ∷ [])) l h.6.0 else is_only_key (on_scope q (l ∷ r ∷ [])) l h.6.0) m) ∙ sides.left) in
+            let theirs = only-key (on_scope q (l ∷ r ∷ [])) r sides.other sides.right in
             tables j.kind refl mine.column theirs.column mine.keys theirs.keys
-            (plain-needs h.6 g w h.7 ∙ ap (λ b. if b then stream_needs j.kind r (resolved (from_scope q (l ∷ r ∷ [])) h.6) else tables_need j.kind l r) m)
+            (plain-needs h.6 g w h.7 ∙ ap (λ b. if b then stream_needs j.kind r (Some (left-of h.6)) else tables_need j.kind l r) m)
           where
             left-table : l.relation.kind ≡ kind.Table
             left-table = table-kind l.relation m windows.0

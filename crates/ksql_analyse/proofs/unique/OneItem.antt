@@ -25,7 +25,7 @@ use Rattle.ksql_program.specs.declared.query.Shape.{Shape}
 use Rattle.ksql_program.specs.declared.query.Shape.TheVariants as shape
 use Rattle.ksql_clauses.specs.declared.items.Named.{Named}
 use Rattle.ksql_clauses.specs.declared.sources.Known.{Known}
-use Rattle.ksql_clauses.specs.Sources.{all_known, from_scope, item_scope}
+use Rattle.ksql_clauses.specs.Sources.{all_known, from_scope, item_scope, on_scope}
 use Rattle.ksql_rules.specs.Breaks.{is_grouped}
 use Rattle.ksql_trees.specs.Grouped.{after}
 use Rattle.ksql_names.specs.declared.scope.Scope.{Scope}
@@ -104,7 +104,7 @@ one-from q ks (from.Join kind left right on) (from.Join kind2 left2 right2 on2) 
     let l : h.0 ≡ k.0 = heads d in
     let r : h.1 ≡ k.1 = heads (tails d) in
     let a : h.6 ≡ k.6 = some-alike h.7 k.7 in
-    let tree : on ≡ on2 = one-tree (from_scope q ks) k.6 on on2 (subst (λ b. IsTypedTree (from_scope q ks) b on) a h.8) k.8 in
+    let tree : on ≡ on2 = one-tree (on_scope q ks) k.6.0 on on2 (subst (λ b. IsTypedTree (on_scope q ks) b.0 on) a h.8) k.8 in
     λ i. from.Join (some-alike h.3 k.3 i) ((h.4 ∙ ap (λ s. s.relation.number) l ∙ sym k.4) i) ((h.5 ∙ ap (λ s. s.relation.number) r ∙ sym k.5) i) (tree i)
 
 -- ---- what is made of the rows

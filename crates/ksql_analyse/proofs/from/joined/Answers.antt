@@ -1,7 +1,8 @@
-use Rattle.std.proofs.Common.{◌∙◌, ap, subst, sym}
-use Rattle.std.specs.Option.{option_copied}
+use Rattle.std.proofs.Common.{◌≡◌, ◌∙◌, ◌∷◌, [], Option, Some, Bor, refl, ap, subst, sym}
+use Rattle.std.specs.Prelude.{option_map}
 use Rattle.std.proofs.lemmas.Option.{same_Some}
-use Rattle.ksql_clauses.specs.Sources.{from_scope}
+use Rattle.ksql_expressions.specs.declared.tree.Expr.{Expr}
+use Rattle.ksql_clauses.specs.Sources.{on_scope}
 use Rattle.ksql_rules.specs.Keys.{join_key}
 use Rattle.ksql_analyse.specs.Readable.{IsReadable}
 use Rattle.ksql_analyse.specs.Typable.{IsTypable}
@@ -10,8 +11,8 @@ use Rattle.ksql_analyse.proofs.from.joined.Goals as goal
 
 pub tree_of-requires-clause-typable : goal.tree_of-requires-clause-typable
 tree_of-requires-clause-typable c =
-    let q = c.args.select.now in
+    let q = c.args.findings.now.select.now in
     let join = subst (IsReadable q) c.requires.two c.requires.readable in
-    let same = same_Some join.key c.in-Some-2.key.now
-    (sym join.keyed ∙ sym (ap (join_key q) c.requires.two) ∙ sym c.in_ok-key.ensures ∙ ap option_copied c.in-Some-2.is) in
-    moved-two IsTypable _ _ _ _ (sym (c.requires.of_from ∙ ap (from_scope q) c.requires.two)) same join.typable
+    let same = same_Some join.sides _
+    (sym join.keyed ∙ sym (ap (join_key q) c.requires.two) ∙ sym c.requires.found.key_is ∙ ap (option_map (λ (sides : Bor Expr × Bor Expr). (sides.0.now, sides.1.now))) c.in-Some-2.is) in
+    moved-two IsTypable _ _ _ _ (sym (c.requires.found.on_scope_is ∙ ap (on_scope q) c.requires.two)) (ap (λ p. p.0) same) join.typable

@@ -1,4 +1,4 @@
-use Rattle.std.proofs.Common.{◌≡◌, ◌||◌, map, ap, ap₂, sym, ◌∙◌}
+use Rattle.std.proofs.Common.{◌≡◌, ◌||◌, ap₂, sym, ◌∙◌}
 use Rattle.std.specs.Prelude.{option_map}
 use Rattle.std.specs.List.{list_any}
 use Rattle.ksql_grouping.specs.Grouping.{has_bare_column}
@@ -14,13 +14,11 @@ returns c =
     let f = c.args.findings.now in
     let q = f.select.now in
     let ks = f.known.items in
-    let groups : c.in_ok-groups.groups.items ≡ group_exprs q ks =
-    c.in_ok-groups.ensures ∙ ap₂ (λ s es. map (resolved s) es) c.requires.scope_is c.items.ensures in
     let columns : c.one_is_bare.result ≡ list_any (λ x. has_bare_column (group_exprs q ks) x.expr) (result_columns q ks) =
     c.one_is_bare.ensures
-    ∙ ap₂ (λ gs cs. list_any (λ x. has_bare_column gs x.expr) cs) (c.deref-2.ensures.value ∙ groups) (c.deref-3.ensures.value ∙ c.requires.columns_are) in
-    let having : c.in_ok-having.having ≡ list_any (has_bare_column (group_exprs q ks)) (there (option_map (resolved (item_scope q ks)) q.having)) =
-    c.in_ok-having.ensures
-    ∙ ap₂ (λ gs s. list_any (has_bare_column gs) (there (option_map (resolved s) q.having))) (c.deref.ensures.value ∙ groups) c.requires.item_scope_is in
+    ∙ ap₂ (λ gs cs. list_any (λ x. has_bare_column gs x.expr) cs) (c.deref.ensures.value ∙ c.requires.groups_are) (c.deref-2.ensures.value ∙ c.requires.columns_are) in
+    let having : c.is_having_bare.result ≡ list_any (has_bare_column (group_exprs q ks)) (there (option_map (resolved (item_scope q ks)) q.having)) =
+    c.is_having_bare.ensures
+    ∙ ap₂ (λ gs h. list_any (has_bare_column gs) (there h)) (c.deref-3.ensures.value ∙ c.requires.groups_are) c.requires.having_is in
     c.either.ensures ∙ ap₂ (λ a b. a || b) columns having
     ∙ sym (parts (has_bare_column (group_exprs q ks)) (λ x. x.expr) (result_columns q ks) (there (option_map (resolved (item_scope q ks)) q.having)))

@@ -1,6 +1,6 @@
-use Rattle.std.proofs.Common.{◌≡◌, Bool, true, false, Result, Ok, Err, IsTrue, IfOk, inl, inr, sym, ◌∙◌}
-use Rattle.std.specs.Prelude.{◌↔◌, ◌⊎◌, ⊤}
-use Rattle.ksql_rules.specs.Breaks.{BodyBreaks, Breaks, is_full_catalog}
+use Rattle.std.proofs.Common.{◌≡◌, Bool, false, Result, Ok, Err, IsTrue, IfOk, inl, inr, sym, ◌∙◌}
+use Rattle.std.specs.Prelude.{◌↔◌, ◌⊎◌}
+use Rattle.ksql_rules.specs.Breaks.{BodyBreaks, is_full_catalog}
 use Rattle.ksql_rules.proofs.broken.breaks.Goals as goal
 
 body-alone : {P : Type 0} (full b : Bool) → full ≡ false → IsTrue b ↔ P → IsTrue b ↔ (IsTrue full ⊎ P)

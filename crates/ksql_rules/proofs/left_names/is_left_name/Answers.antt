@@ -1,5 +1,5 @@
-use Rattle.std.proofs.Common.{◌≡◌, Option, Some, None, ap, sym, ◌∙◌}
-use Rattle.std.specs.Prelude.{find, option_copied}
+use Rattle.std.proofs.Common.{◌≡◌, Some, None, ap, sym, ◌∙◌}
+use Rattle.std.specs.Prelude.{find}
 use Rattle.ksql_names.specs.Scope.{is_known_as}
 use Rattle.ksql_rules.specs.Sought.{use_of}
 use Rattle.ksql_rules.proofs.Naming.{left-none, left-alone, left-of}

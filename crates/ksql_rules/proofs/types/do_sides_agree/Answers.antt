@@ -1,6 +1,4 @@
-use Rattle.std.proofs.Common.{◌≡◌, Some, ap, sym, ◌∙◌}
-use Rattle.std.specs.Prelude.{option_map}
-use Rattle.ksql_rules.specs.Keys.{on_sides}
+use Rattle.std.proofs.Common.{sym}
 use Rattle.ksql_rules.proofs.Smallness.{on-small}
 use Rattle.ksql_rules.proofs.types.do_sides_agree.Goals as goal
 

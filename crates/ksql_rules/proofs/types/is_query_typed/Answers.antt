@@ -2,7 +2,7 @@ use Rattle.std.proofs.Common.{◌≡◌, ◌&&◌, ◌++◌, All, ap, ap₂, sym
 use Rattle.std.specs.List.{flat_map, list_all}
 use Rattle.ksql_names.specs.Uses.{IsSmall}
 use Rattle.ksql_clauses.specs.Items.{result_columns}
-use Rattle.ksql_clauses.specs.Sources.{from_scope, item_scope, there, item_exprs, on_exprs}
+use Rattle.ksql_clauses.specs.Sources.{from_scope, on_scope, item_scope, there, item_exprs, on_exprs}
 use Rattle.ksql_rules.specs.Decided.{fits_truth, is_valued, does_on_agree}
 use Rattle.ksql_rules.proofs.Deciding.{turned, query-decided, early, late, fit, last}
 use Rattle.ksql_rules.proofs.Smallness.{columns-small}
@@ -45,7 +45,7 @@ returns c =
     let valued : c.in_ok-valued.valued ≡ list_all (is_valued items) (result_columns q ks) =
     c.in_ok-valued.ensures
     ∙ ap₂ (λ s cs. list_all (is_valued s) cs) c.requires.item_scope_is (c.deref.ensures.value ∙ c.requires.columns_are) in
-    let agree : c.in_ok-agree.agree ≡ does_on_agree from q = c.in_ok-agree.ensures ∙ ap (λ s. does_on_agree s q) c.requires.scope_is in
+    let agree : c.in_ok-agree.agree ≡ does_on_agree (on_scope q ks) q = c.in_ok-agree.ensures ∙ ap (λ s. does_on_agree s q) c.requires.on_scope_is in
     let lasts : c.both-2.result ≡ last q ks = c.both-2.ensures ∙ ap₂ (λ a b. a && b) valued agree in
     let first : c.both.result ≡ (early q ks && late q ks && fit q ks) = c.both.ensures ∙ ap₂ (λ a b. a && b) typed fits in
     turned c.both-3.result ((early q ks && late q ks && fit q ks) && last q ks) (c.both-3.ensures ∙ ap₂ (λ a b. a && b) first lasts) (query-decided q ks)

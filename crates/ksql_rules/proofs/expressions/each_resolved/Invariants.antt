@@ -1,6 +1,6 @@
 use Rattle.std.proofs.Common.{◌≡◌, map, take}
 use Rattle.ksql_names.specs.Resolved.{resolved}
-use Rattle.ksql_rules.proofs.aggregations.each_resolved.Given as goal
+use Rattle.ksql_rules.proofs.expressions.each_resolved.Given as goal
 
 abbrev pub invariant-loop-expr : goal.invariant-loop-expr
 invariant-loop-expr l = l.each.items ≡ map (resolved l.scope) (take l.expr-index l.exprs)

@@ -1,9 +1,8 @@
-use Rattle.std.proofs.Common.{◌≡◌, Option, None, IfSome}
+use Rattle.std.proofs.Common.{◌≡◌, None, IfSome}
 use Rattle.std.proofs.lemmas.Result.{IfOk-weaker}
-use Rattle.ksql_types.specs.declared.code.Code.{Code}
 use Rattle.ksql_rules.specs.Lowest.{BreaksFirst, BreaksNone}
 use Rattle.ksql_rules.proofs.Codes.{behind, none-behind, first-behind}
-use Rattle.ksql_rules.proofs.lowest.+first_broken.Goals as goal
+use Rattle.ksql_rules.proofs.verdict.+first_broken.Goals as goal
 
 pub returns-clause-none : goal.returns-clause-none
 returns-clause-none t c =

@@ -1,5 +1,5 @@
 use Rattle.std.proofs.Common.{length}
-use Rattle.ksql_rules.proofs.lowest.+first_broken.Given as goal
+use Rattle.ksql_rules.proofs.verdict.+first_broken.Given as goal
 
 abbrev pub decreases-first_broken : goal.decreases-first_broken
 decreases-first_broken l = length l.codes.now

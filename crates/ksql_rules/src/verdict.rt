@@ -1,13 +1,14 @@
-//! The lowest code of the rules that a statement breaks.
+//! The verdict on a statement: the lowest code of the rules that it breaks, or its body.
 
 ghost use Rattle.std.specs.Prelude.{◌≡◌, None, All, IfOk, IfSome};
 ghost use Rattle.ksql_rules.specs.Bodies.{IsBodyOf};
 ghost use Rattle.ksql_rules.specs.Limits.{IsRelationWithin, IsWithinLimits};
-ghost use Rattle.ksql_rules.specs.Lowest.{BreaksFirst, BreaksNone, IsAccepted, IsRefused};
+ghost use Rattle.ksql_rules.specs.Lowest.{BreaksFirst, BreaksNone};
+ghost use Rattle.ksql_rules.specs.Verdicts.{IsVerdict};
 
 use crate::broken::{Body, body_of, breaks};
 use ksql_statements::Statement;
-use ksql_types::{Catalog, Code};
+use ksql_types::{Boxed, Catalog, Code};
 use std::alloc::{AllocError, Global};
 
 /// The codes of the judgement, from the lowest.
@@ -50,18 +51,26 @@ fn first_broken(
     first_broken(alloc, catalog, statement, body, others)
 }
 
-/// The lowest code of the rules that a statement breaks, where the relations of the catalog stand before it; None where
-/// it breaks none.
-pub fn lowest_code(
+/// What is judged of a statement: its lowest code, or its body where it breaks no rule.
+#[derive(Drop)]
+pub enum Verdict<'a> {
+    Refused(Code),
+    Accepted(Boxed<Body<'a>>),
+}
+
+/// The verdict on a statement, where the relations of the catalog stand before it.
+pub fn judge_statement<'a>(
     alloc: Global,
     catalog: &Catalog,
-    statement: &Statement,
-) -> Result<Option<Code>, AllocError>
+    statement: &'a Statement,
+) -> Result<Verdict<'a>, AllocError>
     requires limits { IsWithinLimits statement.now }
     requires relations { All IsRelationWithin catalog.now }
-    ensures accepted { IfOk result (λ found. found ≡ None → IsAccepted catalog.now statement.now) }
-    ensures refused { IfOk result (λ found. IfSome found (λ code. IsRefused catalog.now statement.now code)) }
+    ensures { IfOk result (λ found. IsVerdict catalog.now statement.now found) }
 {
-    let body = body_of(alloc, catalog, &statement.body)?;
-    first_broken(alloc, catalog, statement, &body, &CODES)
+    let body = Boxed::of(alloc, body_of(alloc, catalog, &statement.body)?)?;
+    match first_broken(alloc, catalog, statement, body.get(), &CODES)? {
+        Some(code) => Ok(Verdict::Refused(code)),
+        None => Ok(Verdict::Accepted(body)),
+    }
 }
