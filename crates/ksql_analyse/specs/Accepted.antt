@@ -8,7 +8,8 @@ use Rattle.ksql_program.specs.declared.query.Shape.{Shape}
 use Rattle.ksql_clauses.specs.declared.sources.Known.{Known}
 use Rattle.ksql_clauses.specs.Properties.{partitions_in, topic_in, value_of}
 use Rattle.ksql_rules.specs.declared.findings.Findings.{Findings}
-use Rattle.ksql_rules.specs.Breaks.{has_large_window, key_columns, value_columns}
+use Rattle.ksql_clauses.specs.Keys.{key_columns, value_columns}
+use Rattle.ksql_rules.specs.Breaks.{has_large_window}
 use Rattle.ksql_rules.specs.Findings.{AreFindings}
 use Rattle.ksql_analyse.specs.Judgement.{IsShape, shape_keys, shape_values}
 use Rattle.ksql_analyse.specs.Readable.{IsReadable}

@@ -34,11 +34,12 @@ use Rattle.ksql_program.specs.declared.query.Shape.{Shape}
 use Rattle.ksql_program.specs.declared.query.Shape.TheVariants as shape
 use Rattle.ksql_program.specs.Program.{relations}
 use Rattle.ksql_names.specs.declared.scope.Scope.{Scope}
-use Rattle.ksql_rules.specs.Breaks.{topic_of, key_columns, value_columns, result_format, is_grouped, group_exprs, shown_exprs, is_key}
+use Rattle.ksql_clauses.specs.Keys.{key_columns, value_columns}
+use Rattle.ksql_rules.specs.Breaks.{topic_of, result_format, is_grouped, group_exprs, shown_exprs, is_key}
 use Rattle.ksql_grouping.specs.Grouping.{aggregates_of, once_from}
 use Rattle.ksql_trees.specs.Grouped.{after}
 use Rattle.ksql_clauses.specs.declared.items.Named.{Named}
-use Rattle.ksql_rules.specs.Keys.{join_key}
+use Rattle.ksql_clauses.specs.Keys.{join_key}
 use Rattle.ksql_rules.specs.Lowest.{IsAccepted, IsRefused}
 use Rattle.ksql_clauses.specs.Properties.{topic_in, partitions_in, format_in}
 use Rattle.ksql_names.specs.Resolved.{resolved}

@@ -5,7 +5,7 @@ use Rattle.ksql_statements.specs.declared.tree.JoinText.{JoinText}
 use Rattle.ksql_statements.specs.declared.tree.Select.{Select}
 use Rattle.ksql_clauses.specs.declared.sources.Known.{Known}
 use Rattle.ksql_clauses.specs.Sources.{on_scope}
-use Rattle.ksql_rules.specs.Keys.{join_key}
+use Rattle.ksql_clauses.specs.Keys.{join_key}
 use Rattle.ksql_analyse.specs.Typable.{IsTypable}
 
 -- a join, and both sides of its key

@@ -2,7 +2,7 @@
 
 ghost use Rattle.std.specs.Prelude.{◌≡◌, ◌<◌, ◌^◌, IfOk, Some, codes, if◌then◌else◌, is_some, map, true, unwrap_or};
 ghost use Rattle.ksql_clauses.specs.Properties as properties;
-ghost use Rattle.ksql_rules.specs.Breaks as breaks;
+ghost use Rattle.ksql_clauses.specs.Keys as keys;
 ghost use Rattle.ksql_rules.specs.Findings.{AreFindings};
 ghost use Rattle.ksql_analyse.specs.Accepted.{IsAcceptedQuery, IsMade};
 ghost use Rattle.ksql_analyse.specs.Judgement as spec;
@@ -49,9 +49,9 @@ fn schema_of(alloc: Global, findings: &Findings, shape: &Shape) -> Result<Schema
     requires found { AreFindings findings.now }
     requires made { IsMade findings.now.select.now findings.now.known.items shape.now }
     ensures keyed { let q = findings.now.select.now in let ks = findings.now.known.items in
-        IfOk result (λ s. spec.AreColumnsOf (breaks.key_columns q ks) (spec.shape_keys shape.now) s.keys) }
+        IfOk result (λ s. spec.AreColumnsOf (keys.key_columns q ks) (spec.shape_keys shape.now) s.keys) }
     ensures valued { let q = findings.now.select.now in let ks = findings.now.known.items in
-        IfOk result (λ s. spec.AreColumnsOf (breaks.value_columns q ks) (spec.shape_values shape.now) s.values) }
+        IfOk result (λ s. spec.AreColumnsOf (keys.value_columns q ks) (spec.shape_values shape.now) s.values) }
 {
     let keys = findings.key_columns(alloc)?;
     let values = findings.value_columns(alloc)?;

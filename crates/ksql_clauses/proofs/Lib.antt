@@ -1,1 +1,2 @@
+pub mod LeftNames
 pub mod Naming

@@ -1,4 +1,6 @@
 pub mod Items
+pub mod Keys
 pub mod Properties
+pub mod Sought
 pub mod Sources
 pub mod Windows

@@ -1,12 +1,15 @@
-//! The clauses of a query and of a declaration: sources, result columns, windows and properties.
+//! The clauses of a query and of a declaration: sources, result columns and their keys, windows and properties.
 #![tactic(auto)]
 
 mod items;
+mod keys;
+mod left_names;
 mod properties;
 mod sources;
 mod windows;
 
 pub use items::{Named, is_alias, is_join, made_name, result_columns};
+pub use keys::{columns_at, columns_besides, join_key, key_places, needs, on_sides};
 pub use properties::{are_bad, format_in, has_topic, is_word, partitions_in, topic_in, value_of};
 pub use sources::{
     Known, alias_of, all_known, from_scope, has_unknown_source, have_one_alias, is_full, is_stream,

@@ -15,7 +15,7 @@ use Rattle.ksql_clauses.specs.Items.{result_columns}
 use Rattle.ksql_clauses.specs.Sources.{from_scope, on_scope, item_scope, early_exprs, late_exprs, on_exprs}
 use Rattle.ksql_rules.specs.Breaks.{Each, IfThere, IsQueryTyped}
 use Rattle.ksql_rules.specs.Decided.{fits_truth, is_valued, do_sides_agree, does_on_agree}
-use Rattle.ksql_rules.specs.Keys.{on_sides}
+use Rattle.ksql_clauses.specs.Keys.{on_sides}
 
 pub turned : {P : Type 0} (b c : Bool) → b ≡ c → IsTrue c ↔ P → IsTrue b ↔ P
 turned {P} b c e h = subst (λ x. IsTrue x ↔ P) (sym e) h

@@ -1,6 +1,5 @@
 pub mod Codes
 pub mod Deciding
 pub mod Mapped
-pub mod Naming
 pub mod Smallness
 pub mod Within

@@ -26,7 +26,7 @@ use Rattle.ksql_names.specs.Resolved.{resolved, resolved_when, is_row_time, writ
 use Rattle.ksql_clauses.specs.Sources.{item_exprs}
 use Rattle.ksql_clauses.proofs.Naming.{from-nothing, from-Star, from-StarOf, from-alias, from-plain, from-numbered}
 use Rattle.ksql_names.proofs.Resolving as r
-use Rattle.ksql_rules.specs.Keys.{on_sides, equated_sides}
+use Rattle.ksql_clauses.specs.Keys.{on_sides, equated_sides}
 use Rattle.std.proofs.lemmas.Bool.{and_parts}
 use Rattle.ksql_names.proofs.Small.{is_small-OneOf, is_small-Case, is_small-Call}
 

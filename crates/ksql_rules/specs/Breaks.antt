@@ -1,5 +1,5 @@
 -- The rules by which a statement is refused, code by code, where these relations stand before it.
-use Rattle.std.specs.Prelude.{ℕ, ◌+◌, ◌==◌, Bool, true, false, not, ◌&&◌, ◌||◌, nat_lt, if◌then◌else◌, IsTrue, ◌⊎◌, List, [], ◌∷◌, ◌++◌, length, map, filter, Option, Some, None, is_some, is_none, unwrap_or, option_map, codes, bytes_eq, slice_get}
+use Rattle.std.specs.Prelude.{ℕ, ◌+◌, ◌==◌, Bool, true, false, not, ◌&&◌, ◌||◌, nat_lt, if◌then◌else◌, IsTrue, ◌⊎◌, List, [], ◌∷◌, ◌++◌, length, map, filter, Option, Some, None, is_some, is_none, unwrap_or, option_map, codes, bytes_eq}
 use Rattle.std.specs.List.{list_any, list_all}
 use Rattle.ksql_types.specs.Catalog.{has_name, has_topic}
 use Rattle.ksql_types.specs.declared.relation.Format.{Format}
@@ -25,7 +25,7 @@ use Rattle.ksql_grouping.specs.Grouping.{has_aggregate, has_ordered_aggregate, h
 use Rattle.ksql_clauses.specs.declared.items.Named.{Named}
 use Rattle.ksql_clauses.specs.declared.sources.Known.{Known}
 use Rattle.ksql_clauses.specs.Items.{result_columns, is_alias, is_join}
-use Rattle.ksql_rules.specs.Keys.{on_sides, join_key, key_places}
+use Rattle.ksql_clauses.specs.Keys.{on_sides, join_key, key_places, key_columns, value_columns}
 use Rattle.ksql_clauses.specs.Properties.{are_bad, digits_in, format_in, name_of, topic_in, value_of}
 use Rattle.ksql_names.specs.Resolved.{resolved}
 use Rattle.ksql_clauses.specs.Sources.{all_known, has_unknown_source, have_one_alias, is_windowed, reads_stream, joined_streams, is_full, from_scope, item_scope, on_scope, there, late_exprs, early_exprs, on_exprs}
@@ -88,32 +88,6 @@ has_ambiguous_column q ks =
     || have_one_alias q
 
 -- ---- DuplicateColumn
-
--- the columns at some places
-abbrev pub at_places : List Named → List (Option ℕ) → List Named
-at_places cs [] = []
-at_places cs (None ∷ places) = at_places cs places
-at_places cs (Some place ∷ places) = of (slice_get cs place) ++ at_places cs places
-  where
-    of : Option Named → List Named
-    of None = []
-    of (Some c) = c ∷ []
-
-abbrev pub is_place : ℕ → Option ℕ → Bool
-is_place number None = false
-is_place number (Some place) = number == place
-
--- the columns at no such place, where the first of these has this number
-unfoldable pub besides : List (Option ℕ) → ℕ → List Named → List Named
-besides places number [] = []
-besides places number (c ∷ cs) = if list_any (is_place number) places then besides places (number + 1) cs else c ∷ besides places (number + 1) cs
-
--- the columns of a result: those of its key, and the others
-abbrev pub key_columns : Select → List Known → List Named
-key_columns q ks = at_places (result_columns q ks) (key_places q ks)
-
-abbrev pub value_columns : Select → List Known → List Named
-value_columns q ks = besides (key_places q ks) 0 (result_columns q ks)
 
 abbrev pub has_bad_names : Select → List Known → Bool
 has_bad_names q ks = not (are_column_names (map (λ c. c.name) (key_columns q ks ++ value_columns q ks)))

@@ -9,7 +9,7 @@ use Rattle.ksql_type_sets.specs.Decisions as decided
 use Rattle.ksql_typing.specs.Judged.{judged}
 use Rattle.ksql_clauses.specs.declared.items.Named.{Named}
 use Rattle.ksql_clauses.specs.Sources.{on_exprs}
-use Rattle.ksql_rules.specs.Keys.{on_sides}
+use Rattle.ksql_clauses.specs.Keys.{on_sides}
 
 -- the set of an expression's types
 abbrev pub types_of : Scope → Expr → Types

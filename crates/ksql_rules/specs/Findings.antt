@@ -12,7 +12,7 @@ use Rattle.ksql_clauses.specs.Sources.{from_scope, on_scope, item_scope, early_e
 use Rattle.ksql_rules.specs.Breaks.{group_exprs}
 use Rattle.ksql_rules.specs.declared.findings.Findings.{Findings}
 use Rattle.ksql_rules.specs.declared.findings.Found.{Found}
-use Rattle.ksql_rules.specs.Keys.{join_key, key_places}
+use Rattle.ksql_clauses.specs.Keys.{join_key, key_places}
 use Rattle.ksql_rules.specs.Limits.{IsQueryWithin}
 
 -- what is found out of some expressions in a scope

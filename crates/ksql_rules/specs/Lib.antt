@@ -2,8 +2,6 @@ pub mod Bodies
 pub mod Breaks
 pub mod Decided
 pub mod Findings
-pub mod Keys
 pub mod Limits
 pub mod Lowest
-pub mod Sought
 pub mod Verdicts

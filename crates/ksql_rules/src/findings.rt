@@ -4,14 +4,16 @@ ghost use Rattle.std.specs.Prelude.{◌≡◌, ◌-◌, ◌^◌, ◌≤◌, All,
 ghost use Rattle.ksql_names.specs.Uses.{IsSmall};
 ghost use Rattle.ksql_typing.specs.Judged as typing;
 ghost use Rattle.ksql_clauses.specs.Sources as sources;
-ghost use Rattle.ksql_rules.specs.Breaks as breaks;
+ghost use Rattle.ksql_clauses.specs.Keys as keys;
 ghost use Rattle.ksql_rules.specs.Decided as decided;
 ghost use Rattle.ksql_rules.specs.Findings.{AreFindings, IsFound};
 ghost use Rattle.ksql_rules.specs.Limits.{IsQueryWithin, IsRelationWithin};
 
 use crate::expressions::{each_resolved, early_exprs, late_exprs, part_resolved};
-use crate::keys::{columns_at, columns_besides, join_key, key_places, needs};
-use ksql_clauses::{Known, Named, all_known, from_scope, item_scope, on_scope, result_columns};
+use ksql_clauses::{
+    Known, Named, all_known, columns_at, columns_besides, from_scope, item_scope, join_key,
+    key_places, needs, on_scope, result_columns,
+};
 use ksql_expressions::Expr;
 use ksql_names::Scope;
 use ksql_statements::Select;
@@ -54,7 +56,7 @@ impl Findings<'_> {
     /// The columns of the result's key.
     pub fn key_columns(&self, alloc: Global) -> Result<Vec<&Named>, AllocError>
         requires { AreFindings self.now }
-        ensures { IfOk result (λ found. map (λ c. c.now) found.items ≡ breaks.key_columns self.now.select.now self.now.known.items) }
+        ensures { IfOk result (λ found. map (λ c. c.now) found.items ≡ keys.key_columns self.now.select.now self.now.known.items) }
     {
         columns_at(alloc, &self.columns, &self.places)
     }
@@ -62,7 +64,7 @@ impl Findings<'_> {
     /// The other columns of the result.
     pub fn value_columns(&self, alloc: Global) -> Result<Vec<&Named>, AllocError>
         requires { AreFindings self.now }
-        ensures { IfOk result (λ found. map (λ c. c.now) found.items ≡ breaks.value_columns self.now.select.now self.now.known.items) }
+        ensures { IfOk result (λ found. map (λ c. c.now) found.items ≡ keys.value_columns self.now.select.now self.now.known.items) }
     {
         columns_besides(alloc, &self.columns, &self.places)
     }

@@ -6,8 +6,6 @@ mod broken;
 mod declarations;
 mod expressions;
 mod findings;
-mod keys;
-mod left_names;
 mod queries;
 mod topics;
 mod truth;

@@ -7,12 +7,11 @@ ghost use Rattle.ksql_clauses.specs.Sources as sources;
 ghost use Rattle.ksql_rules.specs.Breaks as breaks;
 ghost use Rattle.ksql_rules.specs.Decided as spec;
 ghost use Rattle.ksql_rules.specs.Findings.{AreFindings};
-ghost use Rattle.ksql_rules.specs.Keys as keys;
+ghost use Rattle.ksql_clauses.specs.Keys as keys;
 
 use crate::findings::{Findings, types_of};
-use crate::keys::on_sides;
 use crate::truth::both;
-use ksql_clauses::Named;
+use ksql_clauses::{Named, on_sides};
 use ksql_expressions::Expr;
 use ksql_names::Scope;
 use ksql_statements::Select;

@@ -15,8 +15,9 @@ use Rattle.ksql_clauses.specs.Items.{result_columns}
 use Rattle.ksql_names.specs.Resolved.{resolved}
 use Rattle.ksql_clauses.specs.Sources.{from_scope, item_scope, there, joined_streams, late_exprs}
 use Rattle.ksql_grouping.specs.Grouping.{has_bare_column}
-use Rattle.ksql_rules.specs.Breaks.{group_exprs, shown_exprs, is_grouped, key_columns, is_stream_join, has_stream_side, is_not_on_key}
-use Rattle.ksql_rules.specs.Keys.{needs, alone, key_places}
+use Rattle.ksql_clauses.specs.Keys.{key_columns}
+use Rattle.ksql_rules.specs.Breaks.{group_exprs, shown_exprs, is_grouped, is_stream_join, has_stream_side, is_not_on_key}
+use Rattle.ksql_clauses.specs.Keys.{needs, alone, key_places}
 use Rattle.ksql_rules.specs.Limits.{IsQueryWithin}
 use Rattle.ksql_analyse.specs.Few.{CallsFew}
 use Rattle.ksql_analyse.specs.Judgement.{aggregate_exprs, exprs}

@@ -19,7 +19,8 @@ use Rattle.ksql_names.specs.Resolved.{resolved}
 use Rattle.ksql_clauses.specs.Sources.{from_scope, item_scope, there}
 use Rattle.ksql_clauses.specs.Windows.{window_of}
 use Rattle.ksql_grouping.specs.Grouping.{aggregates_of, once_from}
-use Rattle.ksql_rules.specs.Breaks.{group_exprs, is_grouped, value_columns}
+use Rattle.ksql_clauses.specs.Keys.{value_columns}
+use Rattle.ksql_rules.specs.Breaks.{group_exprs, is_grouped}
 use Rattle.ksql_analyse.specs.Judgement.{AreAggs, AreTreesAfter, AreTypedTrees, IsPartAfter, IsShape, agg_form, aggregate_exprs, bound_forms, exprs, grouped_columns}
 use Rattle.ksql_analyse.proofs.lists.Moving.{moved}
 use Rattle.ksql_analyse.proofs.forms.ValuedTrees.{trees-counted}

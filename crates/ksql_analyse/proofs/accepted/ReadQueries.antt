@@ -19,7 +19,7 @@ use Rattle.ksql_clauses.specs.Items.{is_join}
 use Rattle.ksql_clauses.specs.Sources.{all_known, from_scope, item_scope, on_scope, on_exprs, joined_streams}
 use Rattle.ksql_rules.specs.Breaks as rules
 use Rattle.ksql_rules.specs.Breaks.{IfThere, is_stream_join}
-use Rattle.ksql_rules.specs.Keys.{on_sides, join_key, key_sides}
+use Rattle.ksql_clauses.specs.Keys.{on_sides, join_key, key_sides}
 use Rattle.ksql_rules.specs.Limits.{IsQueryWithin}
 use Rattle.ksql_rules.proofs.Smallness.{on-small}
 use Rattle.ksql_analyse.specs.Readable.{HasJoin, IsReadable}

@@ -19,7 +19,8 @@ use Rattle.ksql_clauses.specs.Sources.{all_known, has_unknown_source, have_one_a
 use Rattle.ksql_grouping.specs.Grouping.{has_aggregate, has_nested_aggregate, has_bare_column, ordered_aggregates}
 use Rattle.ksql_types.specs.Names.{is_among}
 use Rattle.ksql_names.specs.Uses.{has_unknown_function, has_ambiguous_name, calls}
-use Rattle.ksql_rules.specs.Breaks.{has_many_partitions, wants_many_partitions, has_long_name, has_large_window, is_taken, topic_of, has_bad_names, IsQueryTyped, is_primary, is_key, has_only_keys, has_bad_topic, is_delimited, result_format, is_wrong_join, lacks_key, is_not_on_key, have_other_partitions, is_bad_window, joins_itself, is_stream_join, is_grouped, group_exprs, shown_exprs, makes_table, same, value_columns}
+use Rattle.ksql_clauses.specs.Keys.{value_columns}
+use Rattle.ksql_rules.specs.Breaks.{has_many_partitions, wants_many_partitions, has_long_name, has_large_window, is_taken, topic_of, has_bad_names, IsQueryTyped, is_primary, is_key, has_only_keys, has_bad_topic, is_delimited, result_format, is_wrong_join, lacks_key, is_not_on_key, have_other_partitions, is_bad_window, joins_itself, is_stream_join, is_grouped, group_exprs, shown_exprs, makes_table, same}
 use Rattle.ksql_rules.specs.Lowest.{IsAccepted}
 use Rattle.ksql_analyse.proofs.lists.Distinct.{or-false}
 

@@ -25,7 +25,7 @@ use Rattle.ksql_clauses.specs.Sources.{from_scope, item_scope, on_scope, early_e
 use Rattle.ksql_grouping.specs.Grouping.{aggregates_of}
 use Rattle.ksql_rules.specs.Breaks as rules
 use Rattle.ksql_rules.specs.Breaks.{IsQueryTyped, IfThere, group_exprs, shown_exprs}
-use Rattle.ksql_rules.specs.Keys.{on_sides}
+use Rattle.ksql_clauses.specs.Keys.{on_sides}
 use Rattle.ksql_rules.specs.Limits.{IsQueryWithin}
 use Rattle.ksql_rules.proofs.Smallness.{small-Name}
 use Rattle.ksql_analyse.specs.Judgement.{aggregate_exprs, exprs}

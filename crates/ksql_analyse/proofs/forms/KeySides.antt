@@ -24,7 +24,7 @@ use Rattle.ksql_clauses.specs.declared.sources.Known.{Known}
 use Rattle.ksql_names.specs.Resolved.{resolved, full_name, written_for, is_row_time}
 use Rattle.ksql_clauses.specs.Sources.{scope_column}
 use Rattle.ksql_names.proofs.Resolving as r
-use Rattle.ksql_rules.specs.Keys.{on_sides, equated_sides, is_only_key, is_left_side, are_sides, key_sides}
+use Rattle.ksql_clauses.specs.Keys.{on_sides, equated_sides, is_only_key, is_left_side, are_sides, key_sides}
 use Rattle.ksql_expressions.proofs.Equality.{equal}
 use Rattle.ksql_analyse.proofs.forms.Meant.{meant-known}
 use Rattle.ksql_analyse.proofs.forms.Resolution.{IsName}

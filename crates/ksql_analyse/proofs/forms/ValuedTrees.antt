@@ -13,8 +13,8 @@ use Rattle.ksql_typing.proofs.OneTyping.{one-tree}
 use Rattle.ksql_clauses.specs.declared.items.Named.{Named}
 use Rattle.ksql_clauses.specs.declared.sources.Known.{Known}
 use Rattle.ksql_clauses.specs.Items.{result_columns}
-use Rattle.ksql_rules.specs.Breaks.{key_columns, value_columns}
-use Rattle.ksql_rules.specs.Keys.{key_places}
+use Rattle.ksql_clauses.specs.Keys.{key_columns, value_columns}
+use Rattle.ksql_clauses.specs.Keys.{key_places}
 use Rattle.ksql_rules.proofs.Within.{All-unmap}
 use Rattle.ksql_trees.specs.Grouped.{after}
 use Rattle.ksql_analyse.specs.Judgement.{AreTypedTrees, exprs}

@@ -13,7 +13,8 @@ use Rattle.ksql_program.specs.declared.program.Item.TheVariants.{Declared, Start
 use Rattle.ksql_program.specs.declared.query.Query.{Query}
 use Rattle.ksql_clauses.specs.Properties.{partitions_in}
 use Rattle.ksql_clauses.specs.Sources.{all_known, from_scope, late_exprs}
-use Rattle.ksql_rules.specs.Breaks.{has_bad_topic, key_columns, result_format, topic_of, value_columns}
+use Rattle.ksql_clauses.specs.Keys.{key_columns, value_columns}
+use Rattle.ksql_rules.specs.Breaks.{has_bad_topic, result_format, topic_of}
 use Rattle.ksql_rules.specs.Limits.{IsWithinLimits}
 use Rattle.ksql_rules.specs.Lowest.{IsAccepted}
 use Rattle.ksql_analyse.specs.Few.{CallsFew, HasFewCalls}

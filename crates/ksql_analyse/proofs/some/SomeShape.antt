@@ -16,8 +16,9 @@ use Rattle.ksql_clauses.specs.Items.{result_columns}
 use Rattle.ksql_names.specs.Resolved.{resolved}
 use Rattle.ksql_clauses.specs.Sources.{from_scope, item_scope, there}
 use Rattle.ksql_clauses.specs.Windows.{window_of}
-use Rattle.ksql_rules.specs.Breaks.{group_exprs, is_grouped, key_columns, value_columns}
-use Rattle.ksql_rules.specs.Keys.{key_places}
+use Rattle.ksql_clauses.specs.Keys.{key_columns, value_columns}
+use Rattle.ksql_rules.specs.Breaks.{group_exprs, is_grouped}
+use Rattle.ksql_clauses.specs.Keys.{key_places}
 use Rattle.ksql_analyse.specs.Accepted.{IsMade}
 use Rattle.ksql_analyse.specs.Judgement.{AreTypedTrees, IsFrom, aggregate_exprs, exprs, grouped_columns, join_kind}
 use Rattle.ksql_trees.specs.Grouped.{after}

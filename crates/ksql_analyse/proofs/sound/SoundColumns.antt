@@ -21,8 +21,8 @@ use Rattle.ksql_clauses.specs.declared.sources.Known.{Known}
 use Rattle.ksql_clauses.specs.Items.{named_from, all_stars, stars_of, star_of, star_column, plain_name, column_name, numbered_name, is_join}
 use Rattle.ksql_names.specs.Resolved.{resolved}
 use Rattle.ksql_clauses.proofs.Naming as naming
-use Rattle.ksql_rules.specs.Breaks.{at_places, besides, is_place}
-use Rattle.ksql_rules.specs.Keys.{first_of, is_one_of}
+use Rattle.ksql_clauses.specs.Keys.{at_places, besides, is_place}
+use Rattle.ksql_clauses.specs.Keys.{first_of, is_one_of}
 use Rattle.std.proofs.lemmas.Bool.{and_parts}
 use Rattle.ksql_analyse.proofs.lists.Distinct.{or-false, true-not}
 use Rattle.ksql_analyse.proofs.forms.Resolution.{IsName}

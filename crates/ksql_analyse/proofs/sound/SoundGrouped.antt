@@ -36,7 +36,8 @@ use Rattle.ksql_clauses.specs.Items.{result_columns}
 use Rattle.ksql_names.specs.Resolved.{resolved}
 use Rattle.ksql_clauses.specs.Sources.{from_scope, item_scope, from_columns, reads_stream, late_exprs, there}
 use Rattle.ksql_clauses.specs.Windows.{window_of, is_bad}
-use Rattle.ksql_rules.specs.Breaks.{is_grouped, group_exprs, shown_exprs, is_bad_window, has_large_window, value_columns, IfThere}
+use Rattle.ksql_clauses.specs.Keys.{value_columns}
+use Rattle.ksql_rules.specs.Breaks.{is_grouped, group_exprs, shown_exprs, is_bad_window, has_large_window, IfThere}
 use Rattle.ksql_rules.specs.Limits.{IsQueryWithin}
 use Rattle.ksql_trees.specs.Grouped.{after}
 use Rattle.ksql_analyse.specs.Judgement.{IsShape, IsResult, IsTypedPart, aggregate_exprs, exprs, grouped_columns}

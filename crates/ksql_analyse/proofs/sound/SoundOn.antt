@@ -33,7 +33,7 @@ use Rattle.ksql_typing.proofs.OneTyping.{checked}
 use Rattle.ksql_clauses.specs.declared.sources.Known.{Known}
 use Rattle.ksql_clauses.specs.Sources.{is_stream, is_windowed, from_scope, rowkey, scope_column}
 use Rattle.ksql_rules.specs.Breaks.{IfThere}
-use Rattle.ksql_rules.specs.Keys.{is_of_left, is_left_name, is_only_key}
+use Rattle.ksql_clauses.specs.Keys.{is_of_left, is_left_name, is_only_key}
 use Rattle.ksql_type_sets.proofs.Sets.{type-same}
 use Rattle.ksql_types.specs.declared.value.SqlType.TheVariants as sql
 use Rattle.ksql_analyse.proofs.forms.Bearing.{reach, plain_use, bears, column-is-held, no-aggregate-held, short-texts-held, AreNear, some}

@@ -39,8 +39,9 @@ use Rattle.ksql_clauses.specs.declared.sources.Known.{Known}
 use Rattle.ksql_clauses.specs.Items.{result_columns, star_column, star_of, is_join}
 use Rattle.ksql_names.specs.Resolved.{resolved}
 use Rattle.ksql_clauses.specs.Sources.{is_stream, is_windowed, is_full, reads_stream, scope_column, scope_columns, rowkey_of, from_scope, item_scope, from_columns, item_exprs, key_columns_of, there}
-use Rattle.ksql_rules.specs.Breaks.{key_columns, is_grouped, is_bad_window, lacks_key}
-use Rattle.ksql_rules.specs.Keys.{key_exprs, key_places, needs, alone}
+use Rattle.ksql_clauses.specs.Keys.{key_columns}
+use Rattle.ksql_rules.specs.Breaks.{is_grouped, is_bad_window, lacks_key}
+use Rattle.ksql_clauses.specs.Keys.{key_exprs, key_places, needs, alone}
 use Rattle.ksql_expressions.proofs.Equality.{equal}
 use Rattle.ksql_analyse.specs.Judgement.{IsFrom, AreTypedTrees, exprs}
 use Rattle.ksql_analyse.proofs.lists.Appended.{front-at}

@@ -26,7 +26,8 @@ use Rattle.ksql_clauses.specs.declared.sources.Known.{Known}
 use Rattle.ksql_clauses.specs.Items.{result_columns}
 use Rattle.ksql_clauses.specs.Properties.{topic_in}
 use Rattle.ksql_clauses.specs.Sources.{all_known, have_one_alias, item_scope, is_windowed}
-use Rattle.ksql_rules.specs.Breaks.{is_topic_taken, topic_of, is_grouped, key_columns}
+use Rattle.ksql_clauses.specs.Keys.{key_columns}
+use Rattle.ksql_rules.specs.Breaks.{is_topic_taken, topic_of, is_grouped}
 use Rattle.ksql_rules.specs.Limits.{IsQueryWithin}
 use Rattle.ksql_rules.specs.Lowest.{IsAccepted}
 use Rattle.ksql_analyse.specs.declared.fault.AnalyseFault.{AnalyseFault}

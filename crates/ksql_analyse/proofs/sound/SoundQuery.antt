@@ -23,8 +23,9 @@ use Rattle.ksql_clauses.specs.declared.items.Named.{Named}
 use Rattle.ksql_clauses.specs.declared.sources.Known.{Known}
 use Rattle.ksql_clauses.specs.Items.{result_columns}
 use Rattle.ksql_clauses.specs.Sources.{from_scope, item_scope, reads_stream, on_exprs, early_exprs, late_exprs, item_exprs, there}
-use Rattle.ksql_rules.specs.Breaks.{key_columns, value_columns, is_grouped}
-use Rattle.ksql_rules.specs.Keys.{key_places}
+use Rattle.ksql_clauses.specs.Keys.{key_columns, value_columns}
+use Rattle.ksql_rules.specs.Breaks.{is_grouped}
+use Rattle.ksql_clauses.specs.Keys.{key_places}
 use Rattle.ksql_rules.specs.Limits.{IsQueryWithin}
 use Rattle.ksql_analyse.specs.Judgement.{IsQuery, IsResult, IsShape, exprs, left_partitions}
 use Rattle.ksql_analyse.proofs.accepted.Refusals.{KeepsQuery, stated}

@@ -42,8 +42,9 @@ use Rattle.ksql_clauses.specs.declared.sources.Known.{Known}
 use Rattle.ksql_names.specs.Resolved.{resolved}
 use Rattle.ksql_clauses.specs.Items.{result_columns}
 use Rattle.ksql_clauses.specs.Sources.{is_stream, is_windowed, is_full, is_full_word, joined_streams, from_scope, item_scope, on_scope, on_exprs, early_exprs, rowkey_of}
-use Rattle.ksql_rules.specs.Breaks.{same, key_columns, is_grouped, is_not_on_key, is_stream_join, has_stream_side, IfThere}
-use Rattle.ksql_rules.specs.Keys.{on_sides, join_key, key_sides, needs, alone, key_exprs, key_places, is_only_key, is_of_left, tables_need, stream_needs, sources_need, beside}
+use Rattle.ksql_clauses.specs.Keys.{key_columns}
+use Rattle.ksql_rules.specs.Breaks.{same, is_grouped, is_not_on_key, is_stream_join, has_stream_side, IfThere}
+use Rattle.ksql_clauses.specs.Keys.{on_sides, join_key, key_sides, needs, alone, key_exprs, key_places, is_only_key, is_of_left, tables_need, stream_needs, sources_need, beside}
 use Rattle.ksql_expressions.proofs.Equality.{equal}
 use Rattle.ksql_analyse.specs.Judgement.{IsFrom, AreTypedTrees, exprs, join_kind}
 use Rattle.ksql_analyse.proofs.forms.KeySides.{only-key, AreSides, sides-are, equation-is}

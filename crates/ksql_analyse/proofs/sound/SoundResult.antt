@@ -24,8 +24,9 @@ use Rattle.ksql_clauses.specs.Items.{result_columns, star_column, is_join, colum
 use Rattle.ksql_clauses.specs.Properties.{partitions_in}
 use Rattle.ksql_clauses.specs.Sources.{item_scope}
 use Rattle.ksql_clauses.proofs.Naming.{numbered_is_short}
-use Rattle.ksql_rules.specs.Breaks.{key_columns, value_columns, has_long_name, result_format, topic_of}
-use Rattle.ksql_rules.specs.Keys.{key_places}
+use Rattle.ksql_clauses.specs.Keys.{key_columns, value_columns}
+use Rattle.ksql_rules.specs.Breaks.{has_long_name, result_format, topic_of}
+use Rattle.ksql_clauses.specs.Keys.{key_places}
 use Rattle.ksql_rules.specs.Limits.{HasShortAlias}
 use Rattle.ksql_names.specs.declared.scope.Scope.{Scope}
 use Rattle.std.proofs.lemmas.Bool.{and_parts, and_from}

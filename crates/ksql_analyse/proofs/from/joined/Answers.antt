@@ -3,7 +3,7 @@ use Rattle.std.specs.Prelude.{option_map}
 use Rattle.std.proofs.lemmas.Option.{same_Some}
 use Rattle.ksql_expressions.specs.declared.tree.Expr.{Expr}
 use Rattle.ksql_clauses.specs.Sources.{on_scope}
-use Rattle.ksql_rules.specs.Keys.{join_key}
+use Rattle.ksql_clauses.specs.Keys.{join_key}
 use Rattle.ksql_analyse.specs.Readable.{IsReadable}
 use Rattle.ksql_analyse.specs.Typable.{IsTypable}
 use Rattle.ksql_analyse.proofs.lists.Moving.{moved-two}

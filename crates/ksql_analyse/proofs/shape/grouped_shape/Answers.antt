@@ -4,7 +4,7 @@ use Rattle.ksql_expressions.specs.declared.tree.Expr.{Expr}
 use Rattle.ksql_names.specs.declared.scope.Scope.{Scope}
 use Rattle.ksql_clauses.specs.declared.items.Named.{Named}
 use Rattle.ksql_clauses.specs.Sources.{item_scope, there}
-use Rattle.ksql_rules.specs.Breaks.{key_columns}
+use Rattle.ksql_clauses.specs.Keys.{key_columns}
 use Rattle.ksql_analyse.specs.Judgement.{AreAggs, AreTypedTrees, exprs, grouped_columns}
 use Rattle.ksql_analyse.specs.Typable.{AreColumnTrees, IsAggregable, IsTypable, IsValued}
 use Rattle.ksql_analyse.proofs.accepted.GroupedShapes.{aggs-are, columns-few, grouped-made}

@@ -4,7 +4,7 @@ use Rattle.ksql_clauses.specs.Items.{result_columns}
 use Rattle.ksql_names.specs.Resolved.{resolved}
 use Rattle.ksql_clauses.specs.Sources.{from_scope, item_scope, on_scope, early_exprs, late_exprs}
 use Rattle.ksql_rules.specs.Findings.{IsFound}
-use Rattle.ksql_rules.specs.Keys.{first_of, join_key, needs}
+use Rattle.ksql_clauses.specs.Keys.{first_of, join_key, needs}
 use Rattle.ksql_rules.proofs.Within.{few-in, short-in}
 use Rattle.ksql_rules.proofs.findings.find_out.Goals as goal
 

@@ -1,5 +1,5 @@
 -- The key of a query's result (the keys of results are this dialect's own rule).
-use Rattle.std.specs.Prelude.{ℕ, ◌+◌, ◌==◌, Bool, false, ◌&&◌, nat_lt, if◌then◌else◌, List, [], ◌∷◌, length, map, filter, Option, Some, None, option_map, codes, bytes_eq}
+use Rattle.std.specs.Prelude.{ℕ, ◌+◌, ◌==◌, Bool, false, ◌&&◌, nat_lt, if◌then◌else◌, List, [], ◌∷◌, ◌++◌, length, map, filter, Option, Some, None, option_map, codes, bytes_eq, slice_get}
 use Rattle.std.specs.List.{list_any, list_all}
 use Rattle.ksql_types.specs.declared.operator.BinaryOp.TheVariants as op
 use Rattle.ksql_expressions.specs.declared.tree.Expr.{Expr, out-Expr}
@@ -143,3 +143,31 @@ first_of es number (c ∷ cs) = if is_one_of es c then Some number else first_of
 -- the numbers of the key's columns among those of the result; nothing for one that is missing
 abbrev pub key_places : Select → List Known → List (Option ℕ)
 key_places q ks = map (λ es. first_of es 0 (result_columns q ks)) (needs q ks)
+
+-- ---- the columns of a result
+
+-- the columns at some places
+abbrev pub at_places : List Named → List (Option ℕ) → List Named
+at_places cs [] = []
+at_places cs (None ∷ places) = at_places cs places
+at_places cs (Some place ∷ places) = of (slice_get cs place) ++ at_places cs places
+  where
+    of : Option Named → List Named
+    of None = []
+    of (Some c) = c ∷ []
+
+abbrev pub is_place : ℕ → Option ℕ → Bool
+is_place number None = false
+is_place number (Some place) = number == place
+
+-- the columns at no such place, where the first of these has this number
+unfoldable pub besides : List (Option ℕ) → ℕ → List Named → List Named
+besides places number [] = []
+besides places number (c ∷ cs) = if list_any (is_place number) places then besides places (number + 1) cs else c ∷ besides places (number + 1) cs
+
+-- those of its key, and the others
+abbrev pub key_columns : Select → List Known → List Named
+key_columns q ks = at_places (result_columns q ks) (key_places q ks)
+
+abbrev pub value_columns : Select → List Known → List Named
+value_columns q ks = besides (key_places q ks) 0 (result_columns q ks)

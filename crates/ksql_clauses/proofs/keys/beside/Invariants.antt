@@ -1,7 +1,7 @@
 use Rattle.std.proofs.Common.{◌≡◌, ◌++◌, Some, map, drop}
 use Rattle.ksql_expressions.specs.declared.tree.Expr.TheVariants as e
-use Rattle.ksql_rules.specs.Keys.{beside, key_exprs}
-use Rattle.ksql_rules.proofs.keys.beside.Given as goal
+use Rattle.ksql_clauses.specs.Keys.{beside, key_exprs}
+use Rattle.ksql_clauses.proofs.keys.beside.Given as goal
 
 abbrev pub invariant-loop-key : goal.invariant-loop-key
 invariant-loop-key l =

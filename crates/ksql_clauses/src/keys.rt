@@ -4,11 +4,11 @@ ghost use Rattle.std.specs.Prelude.{◌≡◌, ◌++◌, ◌∷◌, [], IfOk, No
 ghost use Rattle.std.specs.List.{list_any};
 ghost use Rattle.ksql_names.specs.Resolved as names;
 ghost use Rattle.ksql_clauses.specs.Sources as sources;
-ghost use Rattle.ksql_rules.specs.Breaks as breaks;
-ghost use Rattle.ksql_rules.specs.Keys as spec;
+ghost use Rattle.ksql_clauses.specs.Keys as spec;
 
+use crate::items::Named;
 use crate::left_names::{Sought, has_name};
-use ksql_clauses::{Known, Named, is_stream};
+use crate::sources::{Known, is_stream};
 use ksql_expressions::{Expr, same_expr};
 use ksql_names::{Scope, resolved};
 use ksql_statements::{JoinWord, Select};
@@ -352,7 +352,7 @@ pub fn columns_at<'a>(
     columns: &'a [Named],
     places: &[Option<usize>],
 ) -> Result<Vec<&'a Named>, AllocError>
-    ensures { IfOk result (λ found. map (λ c. c.now) found.items ≡ breaks.at_places columns.now places.now) }
+    ensures { IfOk result (λ found. map (λ c. c.now) found.items ≡ spec.at_places columns.now places.now) }
 {
     let mut found = Vec::new(alloc);
     for place in places {
@@ -365,19 +365,19 @@ pub fn columns_at<'a>(
 
 /// Whether a number is one of some places.
 fn is_place(number: usize, places: &[Option<usize>]) -> bool
-    ensures { result ≡ list_any (breaks.is_place number) places.now }
+    ensures { result ≡ list_any (spec.is_place number) places.now }
 {
     places.iter().any(|place| *place == Some(number))
 }
 
 /// The columns of a result at no such place: those of its value, where these are the key's.
-#[tactic(auto, unfolding(crate::specs::Breaks::besides))]
+#[tactic(auto, unfolding(crate::specs::Keys::besides))]
 pub fn columns_besides<'a>(
     alloc: Global,
     columns: &'a [Named],
     places: &[Option<usize>],
 ) -> Result<Vec<&'a Named>, AllocError>
-    ensures { IfOk result (λ found. map (λ c. c.now) found.items ≡ breaks.besides places.now 0 columns.now) }
+    ensures { IfOk result (λ found. map (λ c. c.now) found.items ≡ spec.besides places.now 0 columns.now) }
 {
     let mut found = Vec::new(alloc);
     for (number, column) in columns.iter().enumerate() {

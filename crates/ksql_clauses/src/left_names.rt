@@ -1,10 +1,10 @@
 //! Which names in an expression are those of a join's left relation.
 
 ghost use Rattle.std.specs.Prelude.{◌≡◌};
-ghost use Rattle.ksql_rules.specs.Keys as keys;
-ghost use Rattle.ksql_rules.specs.Sought as spec;
+ghost use Rattle.ksql_clauses.specs.Keys as keys;
+ghost use Rattle.ksql_clauses.specs.Sought as spec;
 
-use ksql_clauses::Known;
+use crate::sources::Known;
 use ksql_expressions::{Decides, Expr, passes};
 use ksql_names::{Scope, first_known_as, is_row_time};
 use ksql_types::Chars;

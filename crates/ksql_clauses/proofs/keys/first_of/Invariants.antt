@@ -1,6 +1,6 @@
 use Rattle.std.proofs.Common.{◌≡◌, drop}
-use Rattle.ksql_rules.specs.Keys.{first_of}
-use Rattle.ksql_rules.proofs.keys.first_of.Given as goal
+use Rattle.ksql_clauses.specs.Keys.{first_of}
+use Rattle.ksql_clauses.proofs.keys.first_of.Given as goal
 
 -- what is left decides
 abbrev pub invariant-loop-number : goal.invariant-loop-number

@@ -1,8 +1,8 @@
 use Rattle.std.proofs.Common.{not, ◌&&◌, refl, ap, sym, ◌∙◌}
-use Rattle.ksql_rules.specs.declared.left_names.Sought.TheVariants.{Other}
-use Rattle.ksql_rules.specs.Sought.{has_name}
-use Rattle.ksql_rules.proofs.Naming.{of-left}
-use Rattle.ksql_rules.proofs.keys.is_of_left.Goals as goal
+use Rattle.ksql_clauses.specs.declared.left_names.Sought.TheVariants.{Other}
+use Rattle.ksql_clauses.specs.Sought.{has_name}
+use Rattle.ksql_clauses.proofs.LeftNames.{of-left}
+use Rattle.ksql_clauses.proofs.keys.is_of_left.Goals as goal
 
 pub returns-then-has_name : goal.returns-then-has_name
 returns-then-has_name c =

@@ -5,9 +5,9 @@ use Rattle.ksql_expressions.specs.declared.tree.Expr.{Expr, out-Expr}
 use Rattle.ksql_expressions.specs.declared.tree.Expr.TheOpen.{Expr-F}
 use Rattle.ksql_expressions.specs.declared.tree.WhenText.{WhenText}
 use Rattle.ksql_names.specs.Uses.{Use, names}
-use Rattle.ksql_rules.specs.declared.left_names.Sought.{Sought}
-use Rattle.ksql_rules.specs.declared.left_names.Sought.TheVariants.{Any, Other}
-use Rattle.ksql_rules.specs.Keys.{is_left_name}
+use Rattle.ksql_clauses.specs.declared.left_names.Sought.{Sought}
+use Rattle.ksql_clauses.specs.declared.left_names.Sought.TheVariants.{Any, Other}
+use Rattle.ksql_clauses.specs.Keys.{is_left_name}
 
 -- a name outside aggregates
 abbrev pub use_of : Option (List ℕ) → List ℕ → Use

@@ -18,10 +18,10 @@ use Rattle.ksql_expressions.proofs.Folds.{perhaps_folded}
 use Rattle.ksql_names.proofs.Induction.{IfThere, InWhen, induction}
 use Rattle.ksql_expressions.specs.Parts.{passes, any_of, any_perhaps}
 use Rattle.ksql_expressions.proofs.Passing as passed
-use Rattle.ksql_rules.specs.declared.left_names.Sought.{Sought}
-use Rattle.ksql_rules.specs.declared.left_names.Sought.TheVariants.{Any, Other}
-use Rattle.ksql_rules.specs.Keys.{is_left_name, is_of_left}
-use Rattle.ksql_rules.specs.Sought.{is_sought, has_name, sought_name, use_of}
+use Rattle.ksql_clauses.specs.declared.left_names.Sought.{Sought}
+use Rattle.ksql_clauses.specs.declared.left_names.Sought.TheVariants.{Any, Other}
+use Rattle.ksql_clauses.specs.Keys.{is_left_name, is_of_left}
+use Rattle.ksql_clauses.specs.Sought.{is_sought, has_name, sought_name, use_of}
 
 -- ---- what a name is found to be
 

@@ -1,6 +1,6 @@
 use Rattle.std.proofs.Common.{◌≡◌, ◌++◌, map, drop}
-use Rattle.ksql_rules.specs.Breaks.{besides}
-use Rattle.ksql_rules.proofs.keys.columns_besides.Given as goal
+use Rattle.ksql_clauses.specs.Keys.{besides}
+use Rattle.ksql_clauses.proofs.keys.columns_besides.Given as goal
 
 abbrev pub invariant-loop-number : goal.invariant-loop-number
 invariant-loop-number l = map (λ c. c.now) l.found.items ++ besides l.places l.number (drop l.number l.columns) ≡ besides l.places 0 l.columns
