@@ -1,8 +1,15 @@
--- The exit status of each way in which a command ends.
+-- The ways in which a command ends.
 use Rattle.std.specs.Prelude.{ℕ}
+use Rattle.ksql_script.specs.declared.fault.ScriptFault.{ScriptFault}
+use Rattle.ksql_script.specs.declared.fault.ScriptFault.TheVariants as script
+use Rattle.schedule_text.specs.declared.fault.ScheduleFault.{ScheduleFault}
+use Rattle.schedule_text.specs.declared.fault.ScheduleFault.TheVariants as schedule
+use Rattle.ksql_words.specs.declared.fault.WordsFault.{WordsFault}
+use Rattle.ksql_words.specs.declared.fault.WordsFault.TheVariants as words
 use Rattle.ksql_cli.specs.declared.status.Status.{Status}
 use Rattle.ksql_cli.specs.declared.status.Status.TheVariants.{Done, Usage, Script, TopicFile, Schedule, ReadFault, WriteFault, OutOfMemory}
 
+-- the exit status of each
 abbrev pub exit_code : Status → ℕ
 exit_code Done = 0
 exit_code Usage = 2
@@ -12,3 +19,16 @@ exit_code (Schedule line why) = 5
 exit_code (ReadFault name) = 6
 exit_code WriteFault = 7
 exit_code OutOfMemory = 8
+
+-- why words are no command, a script has no program and a schedule no steps
+abbrev pub of_words : WordsFault → Status
+of_words words.Usage = Usage
+of_words words.OutOfMemory = OutOfMemory
+
+abbrev pub of_script : ScriptFault → Status
+of_script (script.Refused statement code) = Script statement code
+of_script script.OutOfMemory = OutOfMemory
+
+abbrev pub of_schedule : ScheduleFault → Status
+of_schedule (schedule.Refused line why) = Schedule line why
+of_schedule schedule.OutOfMemory = OutOfMemory

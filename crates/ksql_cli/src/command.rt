@@ -37,9 +37,7 @@ fn words<R: AllocGlobal + Env>(rt: &R) -> Result<Words, Status> {
         Err(_) => return Err(Status::Usage),
     };
     for word in args {
-        if words.push(Word::of(word)).is_err() {
-            return Err(Status::OutOfMemory);
-        }
+        words.push(Word::of(word))?;
     }
     Ok(Items::of(words))
 }

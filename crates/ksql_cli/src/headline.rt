@@ -15,7 +15,7 @@ use crate::texts::{Finished, demonstrated, explained, reported};
 use cluster_core::Cluster;
 use ksql_outside::{Failed, Folder, Gate, Sink, write_whole};
 use ksql_types::Words;
-use ksql_words::{Command, WordsFault, read_words};
+use ksql_words::{Command, read_words};
 use std::alloc::Global;
 
 /// Does what the words say: runs a script, that is, reads the script, its topic files and its schedule from the folder, runs a
@@ -88,16 +88,14 @@ fn whole_text<F: Folder>(alloc: Global, words: &Words, folder: &mut F) -> Result
     ensures usage { IfErr result (IsUsage words.now) }
     ensures same_files { F.files folder.new ≡ F.files folder.old }
 {
-    match read_words(alloc, words) {
-        Ok(
-            Command::Run {
-                script,
-                topics,
-                workers,
-                schedule,
-                trace,
-            },
-        ) => {
+    match read_words(alloc, words)? {
+        Command::Run {
+            script,
+            topics,
+            workers,
+            schedule,
+            trace,
+        } => {
             let asked = Asked {
                 script,
                 topics,
@@ -107,12 +105,7 @@ fn whole_text<F: Folder>(alloc: Global, words: &Words, folder: &mut F) -> Result
             };
             reported(alloc, &asked, folder)
         }
-        Ok(Command::Explain { script }) => explained(alloc, script.items(), folder),
-        Ok(Command::Demo { records, workers }) => match demonstrated(alloc, records, workers) {
-            Ok(finished) => Ok(finished),
-            Err(_) => Err(Status::OutOfMemory),
-        },
-        Err(WordsFault::Usage) => Err(Status::Usage),
-        Err(WordsFault::OutOfMemory) => Err(Status::OutOfMemory),
+        Command::Explain { script } => explained(alloc, script.items(), folder),
+        Command::Demo { records, workers } => Ok(demonstrated(alloc, records, workers)?),
     }
 }

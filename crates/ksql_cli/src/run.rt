@@ -17,9 +17,9 @@ use crate::topics::{Reading, due_file, read_topics, whole_room};
 use cluster_core::{Cluster, Lined, Schedule, Step, drive};
 use ksql_outside::Folder;
 use ksql_program::Program;
-use ksql_script::{ScriptFault, program_of_script};
+use ksql_script::program_of_script;
 use ksql_types::Items;
-use schedule_text::{ScheduleFault, read_schedule};
+use schedule_text::read_schedule;
 use std::alloc::{AllocError, Global};
 use topic_files::TopicLines;
 use topology_build::build;
@@ -46,31 +46,20 @@ pub(crate) fn run<F: Folder>(alloc: Global, asked: &Asked, folder: &mut F) -> Re
     ensures reads { IfSome (F.files folder.old) (λ all. AreDueIn asked.now all (F.failed folder.old) (F.failed folder.new)) }
     ensures same_files { F.files folder.new ≡ F.files folder.old }
 {
-    let program = match accepted_program(alloc, asked.script.items(), folder) {
-        Ok(program) => program,
-        Err(status) => return Err(status),
-    };
+    let program = accepted_program(alloc, asked.script.items(), folder)?;
     let nothing = Reading {
         files: Vec::new(alloc),
         room: whole_room(),
     };
     let topics = asked.topics.items();
-    let files = match read_topics(alloc, folder, topics, program.items.items(), nothing) {
-        Ok(files) => files,
-        Err(status) => return Err(status),
-    };
-    let schedule = match schedule_of(alloc, asked, &program, folder) {
-        Ok(schedule) => schedule,
-        Err(status) => return Err(status),
-    };
-    match driven(alloc, &program, files, asked.workers, &schedule) {
-        Ok(cluster) => Ok(Ran {
-            program,
-            schedule,
-            cluster,
-        }),
-        Err(_) => Err(Status::OutOfMemory),
-    }
+    let files = read_topics(alloc, folder, topics, program.items.items(), nothing)?;
+    let schedule = schedule_of(alloc, asked, &program, folder)?;
+    let cluster = driven(alloc, &program, files, asked.workers, &schedule)?;
+    Ok(Ran {
+        program,
+        schedule,
+        cluster,
+    })
 }
 
 /// The program of the script of this name.
@@ -91,11 +80,7 @@ pub(crate) fn accepted_program<F: Folder>(
     ensures same_files { F.files folder.new ≡ F.files folder.old }
 {
     let script = due_file(alloc, folder, name)?;
-    match program_of_script(alloc, script.as_slice()) {
-        Ok(program) => Ok(program),
-        Err(ScriptFault::Refused { statement, code }) => Err(Status::Script { statement, code }),
-        Err(ScriptFault::OutOfMemory) => Err(Status::OutOfMemory),
-    }
+    Ok(program_of_script(alloc, script.as_slice())?)
 }
 
 /// The steps of a run: those that its schedule says, or without one a feed of all records and a drain.
@@ -119,20 +104,12 @@ fn schedule_of<F: Folder>(
     ensures same_files { F.files folder.new ≡ F.files folder.old }
 {
     let Some(name) = &asked.schedule else {
-        return match fed_once(alloc) {
-            Ok(schedule) => Ok(schedule),
-            Err(_) => Err(Status::OutOfMemory),
-        };
+        return Ok(fed_once(alloc)?);
     };
     let bytes = due_file(alloc, folder, name.items())?;
-    let Ok(topology) = build(alloc, program) else {
-        return Err(Status::OutOfMemory);
-    };
-    match read_schedule(alloc, bytes.as_slice(), program, &topology, asked.workers) {
-        Ok(schedule) => Ok(schedule),
-        Err(ScheduleFault::Refused { line, why }) => Err(Status::Schedule { line, why }),
-        Err(ScheduleFault::OutOfMemory) => Err(Status::OutOfMemory),
-    }
+    let topology = build(alloc, program)?;
+    let workers = asked.workers;
+    Ok(read_schedule(alloc, bytes.as_slice(), program, &topology, workers)?)
 }
 
 /// The schedule of one feed of all records and a drain.

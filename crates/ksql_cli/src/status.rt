@@ -1,8 +1,11 @@
 ghost use Rattle.std.specs.Prelude.{◌≡◌};
 ghost use Rattle.ksql_cli.specs.Status.{exit_code};
 
+use ksql_script::ScriptFault;
 use ksql_types::{Chars, Code};
-use schedule_text::StepWhy;
+use ksql_words::WordsFault;
+use schedule_text::{ScheduleFault, StepWhy};
+use std::alloc::{AllocError, AllocFailed};
 use topic_files::LineWhy;
 
 /// How a command ended.
@@ -52,6 +55,70 @@ impl Status {
             Status::ReadFault { .. } => 6,
             Status::WriteFault => 7,
             Status::OutOfMemory => 8,
+        }
+    }
+}
+
+impl From<AllocError> for Status {
+    ghost use Rattle.std.specs.Prelude.{◌≡◌};
+    ghost use Rattle.ksql_cli.specs.declared.status.Status.TheVariants.{OutOfMemory};
+
+    ghost from_gives = { λ _ status. status ≡ OutOfMemory };
+
+    fn from(_error: AllocError) -> Status {
+        Status::OutOfMemory
+    }
+}
+
+impl<T: Drop> From<AllocFailed<T>> for Status {
+    ghost use Rattle.std.specs.Prelude.{◌≡◌};
+    ghost use Rattle.ksql_cli.specs.declared.status.Status.TheVariants.{OutOfMemory};
+
+    ghost from_gives = { λ _ status. status ≡ OutOfMemory };
+
+    fn from(_error: AllocFailed<T>) -> Status {
+        Status::OutOfMemory
+    }
+}
+
+impl From<WordsFault> for Status {
+    ghost use Rattle.std.specs.Prelude.{◌≡◌};
+    ghost use Rattle.ksql_cli.specs.Status.{of_words};
+
+    ghost from_gives = { λ fault status. status ≡ of_words fault };
+
+    fn from(fault: WordsFault) -> Status {
+        match fault {
+            WordsFault::Usage => Status::Usage,
+            WordsFault::OutOfMemory => Status::OutOfMemory,
+        }
+    }
+}
+
+impl From<ScriptFault> for Status {
+    ghost use Rattle.std.specs.Prelude.{◌≡◌};
+    ghost use Rattle.ksql_cli.specs.Status.{of_script};
+
+    ghost from_gives = { λ fault status. status ≡ of_script fault };
+
+    fn from(fault: ScriptFault) -> Status {
+        match fault {
+            ScriptFault::Refused { statement, code } => Status::Script { statement, code },
+            ScriptFault::OutOfMemory => Status::OutOfMemory,
+        }
+    }
+}
+
+impl From<ScheduleFault> for Status {
+    ghost use Rattle.std.specs.Prelude.{◌≡◌};
+    ghost use Rattle.ksql_cli.specs.Status.{of_schedule};
+
+    ghost from_gives = { λ fault status. status ≡ of_schedule fault };
+
+    fn from(fault: ScheduleFault) -> Status {
+        match fault {
+            ScheduleFault::Refused { line, why } => Status::Schedule { line, why },
+            ScheduleFault::OutOfMemory => Status::OutOfMemory,
         }
     }
 }

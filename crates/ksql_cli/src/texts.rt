@@ -52,17 +52,12 @@ pub(crate) fn reported<F: Folder>(
     ensures reads { IfSome (F.files folder.old) (λ all. AreDueIn asked.now all (F.failed folder.old) (F.failed folder.new)) }
     ensures same_files { F.files folder.new ≡ F.files folder.old }
 {
-    let ran = match run(alloc, asked, folder) {
-        Ok(ran) => ran,
-        Err(status) => return Err(status),
-    };
-    match report(alloc, asked.trace, &ran) {
-        Ok(text) => Ok(Finished {
-            text,
-            cluster: Some(ran.cluster),
-        }),
-        Err(_) => Err(Status::OutOfMemory),
-    }
+    let ran = run(alloc, asked, folder)?;
+    let text = report(alloc, asked.trace, &ran)?;
+    Ok(Finished {
+        text,
+        cluster: Some(ran.cluster),
+    })
 }
 
 /// The report of a run, with its trace or without.
@@ -101,17 +96,12 @@ pub(crate) fn explained<F: Folder>(
     ensures grows { MayJoin (F.failed folder.old) (F.failed folder.new) name.now }
     ensures same_files { F.files folder.new ≡ F.files folder.old }
 {
-    let program = match accepted_program(alloc, name, folder) {
-        Ok(program) => program,
-        Err(status) => return Err(status),
-    };
-    match described(alloc, &program) {
-        Ok(text) => Ok(Finished {
-            text,
-            cluster: None,
-        }),
-        Err(_) => Err(Status::OutOfMemory),
-    }
+    let program = accepted_program(alloc, name, folder)?;
+    let text = described(alloc, &program)?;
+    Ok(Finished {
+        text,
+        cluster: None,
+    })
 }
 
 /// The text of a program's topology.

@@ -62,10 +62,8 @@ pub(crate) fn read_topics<F: Folder>(
     let Item::Declared(relation) = first else {
         return read_topics(alloc, folder, dir, rest, reading);
     };
-    match with_topic(alloc, folder, dir, relation, reading) {
-        Ok(reading) => read_topics(alloc, folder, dir, rest, reading),
-        Err(status) => Err(status),
-    }
+    let reading = with_topic(alloc, folder, dir, relation, reading)?;
+    read_topics(alloc, folder, dir, rest, reading)
 }
 
 /// The files that were read so far, and the room that is left.
@@ -102,14 +100,8 @@ fn with_topic<F: Folder>(
     ensures same_files { F.files folder.new ≡ F.files folder.old }
 {
     let topic = relation.topic.items();
-    let name = match format!(in alloc; "{dir}/{topic}.jsonl") {
-        Ok(name) => name,
-        Err(_) => return Err(Status::OutOfMemory),
-    };
-    let file = match due_file(alloc, folder, name.as_str()) {
-        Ok(file) => file,
-        Err(status) => return Err(status),
-    };
+    let name = format!(in alloc; "{dir}/{topic}.jsonl")?;
+    let file = due_file(alloc, folder, name.as_str())?;
     match read_topic(alloc, relation, file.as_slice(), reading.room) {
         Ok(lines) => with_lines(reading, lines, file.len()),
         Err(FileFault::Refused { line, why }) => Err(bad_file(alloc, &relation.topic, line, why)),
@@ -130,10 +122,8 @@ fn with_lines(reading: Reading, lines: TopicLines, bytes: usize) -> Result<Readi
         bytes: reading.room.bytes.saturating_sub(bytes as u64),
     };
     let mut files = reading.files;
-    match files.push(lines) {
-        Ok(()) => Ok(Reading { files, room }),
-        Err(_) => Err(Status::OutOfMemory),
-    }
+    files.push(lines)?;
+    Ok(Reading { files, room })
 }
 
 /// That the topic file of this topic is refused at this line.
@@ -158,9 +148,7 @@ pub(crate) fn due_file<F: Folder>(
     ensures same_files { F.files folder.new ≡ F.files folder.old }
     ensures grows { MayJoin (F.failed folder.old) (F.failed folder.new) name.now }
 {
-    let Ok(kept) = copied_name(alloc, name) else {
-        return Err(Status::OutOfMemory);
-    };
+    let kept = copied_name(alloc, name)?;
     match folder.read(alloc, name) {
         Ok(bytes) => Ok(bytes),
         Err(ReadFail::Failed) => Err(Status::ReadFault { name: kept }),
