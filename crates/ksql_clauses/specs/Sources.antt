@@ -151,6 +151,10 @@ on_exprs q = there (option_map (λ j. j.on) q.join)
 abbrev pub late_exprs : Select → List Expr
 late_exprs q = flat_map item_exprs q.items ++ there q.having
 
--- and the others
+-- those of WHERE, GROUP BY and PARTITION BY
+abbrev pub front_exprs : Select → List Expr
+front_exprs q = there q.filter ++ q.group ++ there q.partition
+
+-- and these with that of ON
 abbrev pub early_exprs : Select → List Expr
 early_exprs q = on_exprs q ++ there q.filter ++ q.group ++ there q.partition

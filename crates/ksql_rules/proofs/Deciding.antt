@@ -12,7 +12,7 @@ use Rattle.ksql_typing.specs.Judged.{judged}
 use Rattle.ksql_typing.proofs.TypeLaws as law
 use Rattle.ksql_clauses.specs.declared.sources.Known.{Known}
 use Rattle.ksql_clauses.specs.Items.{result_columns}
-use Rattle.ksql_clauses.specs.Sources.{from_scope, on_scope, item_scope, early_exprs, late_exprs, on_exprs}
+use Rattle.ksql_clauses.specs.Sources.{from_scope, on_scope, item_scope, front_exprs, late_exprs, on_exprs}
 use Rattle.ksql_rules.specs.Breaks.{Each, IfThere, IsQueryTyped}
 use Rattle.ksql_rules.specs.Decided.{fits_truth, is_valued, do_sides_agree, does_on_agree}
 use Rattle.ksql_clauses.specs.Keys.{on_sides}
@@ -37,8 +37,14 @@ sides-decided s None = (λ k. tt, λ k. refl)
 sides-decided s (Some sides) = law.agreement s sides.0 sides.1
 
 module _ (q : Select) (ks : List Known) where
+  abbrev pub on : Bool
+  on = list_all (λ a. is_some_in (judged a (on_scope q ks)).types) (on_exprs q)
+
+  abbrev pub front : Bool
+  front = list_all (λ a. is_some_in (judged a (from_scope q ks)).types) (front_exprs q)
+
   abbrev pub early : Bool
-  early = list_all (λ a. is_some_in (judged a (from_scope q ks)).types) (early_exprs q)
+  early = on && front
 
   abbrev pub late : Bool
   late = list_all (λ a. is_some_in (judged a (item_scope q ks)).types) (late_exprs q)
@@ -54,10 +60,12 @@ module _ (q : Select) (ks : List Known) where
       let a = and_parts (early && late && fit) last h in
       let b = and_parts (early && late) fit a.0 in
       let c = and_parts early late b.0 in
+      let o = and_parts on front c.0 in
       let d = and_parts (fits_truth (from_scope q ks) q.filter) (fits_truth (item_scope q ks) q.having) b.1 in
       let e = and_parts (list_all (is_valued (item_scope q ks)) (result_columns q ks)) (does_on_agree (on_scope q ks) q) a.1 in
       record {
-        early = (each-decided _ (λ x. is_some_in (judged x (from_scope q ks)).types) (law.some_type (from_scope q ks)) (early_exprs q)).0 c.0;
+        on = (each-decided _ (λ x. is_some_in (judged x (on_scope q ks)).types) (law.some_type (on_scope q ks)) (on_exprs q)).0 o.0;
+        front = (each-decided _ (λ x. is_some_in (judged x (from_scope q ks)).types) (law.some_type (from_scope q ks)) (front_exprs q)).0 o.1;
         late = (each-decided _ (λ x. is_some_in (judged x (item_scope q ks)).types) (law.some_type (item_scope q ks)) (late_exprs q)).0 c.1;
         where_true = (truth-decided (from_scope q ks) q.filter).0 d.0;
         having_true = (truth-decided (item_scope q ks) q.having).0 d.1;
@@ -70,7 +78,9 @@ module _ (q : Select) (ks : List Known) where
       and_from (early && late && fit) last
       (and_from (early && late) fit
       (and_from early late
-      ((each-decided _ (λ x. is_some_in (judged x (from_scope q ks)).types) (law.some_type (from_scope q ks)) (early_exprs q)).1 h.early)
+      (and_from on front
+      ((each-decided _ (λ x. is_some_in (judged x (on_scope q ks)).types) (law.some_type (on_scope q ks)) (on_exprs q)).1 h.on)
+      ((each-decided _ (λ x. is_some_in (judged x (from_scope q ks)).types) (law.some_type (from_scope q ks)) (front_exprs q)).1 h.front))
       ((each-decided _ (λ x. is_some_in (judged x (item_scope q ks)).types) (law.some_type (item_scope q ks)) (late_exprs q)).1 h.late))
       (and_from (fits_truth (from_scope q ks) q.filter) (fits_truth (item_scope q ks) q.having)
       ((truth-decided (from_scope q ks) q.filter).1 h.where_true)

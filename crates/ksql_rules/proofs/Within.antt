@@ -11,9 +11,10 @@ use Rattle.ksql_statements.specs.declared.tree.JoinText.{JoinText}
 use Rattle.ksql_statements.specs.declared.tree.Select.{Select}
 use Rattle.ksql_statements.specs.declared.tree.Source.{Source}
 use Rattle.ksql_types.specs.Columns.{columns}
+use Rattle.ksql_names.specs.Uses.{IsSmall}
 use Rattle.ksql_clauses.specs.declared.sources.Known.{Known}
 use Rattle.ksql_clauses.specs.Items.{HasShortNames}
-use Rattle.ksql_clauses.specs.Sources.{alias_of, sources, known, all_known, is_full, key_columns_of, scope_columns, scope_column, rowkey, rowkey_of, from_columns}
+use Rattle.ksql_clauses.specs.Sources.{alias_of, sources, known, all_known, is_full, key_columns_of, scope_columns, scope_column, rowkey, rowkey_of, from_columns, there, on_exprs, front_exprs, early_exprs}
 use Rattle.ksql_rules.specs.Limits.{IsRelationWithin}
 
 -- ---- lists
@@ -29,6 +30,21 @@ All-left P (x ∷ xs) ys h = All-cons P x xs (All-head P x (xs ++ ys) h) (All-le
 pub All-right : {X : Type 0} (P : X → Type 0) (xs ys : List X) → All P (xs ++ ys) → All P ys
 All-right P [] ys h = h
 All-right P (x ∷ xs) ys h = All-right P xs ys (All-tail P x (xs ++ ys) h)
+
+-- of what stands early, ON and the others
+pub on-within : (q : Select) → All IsSmall (early_exprs q) → All IsSmall (on_exprs q)
+on-within q h =
+    All-left IsSmall (on_exprs q) (there q.filter)
+    (All-left IsSmall (on_exprs q ++ there q.filter) q.group (All-left IsSmall (on_exprs q ++ there q.filter ++ q.group) (there q.partition) h))
+
+pub front-within : (q : Select) → All IsSmall (early_exprs q) → All IsSmall (front_exprs q)
+front-within q h =
+    let first = All-left IsSmall (on_exprs q ++ there q.filter ++ q.group) (there q.partition) h in
+    let filters = All-right IsSmall (on_exprs q) (there q.filter) (All-left IsSmall (on_exprs q ++ there q.filter) q.group first) in
+    let groups = All-right IsSmall (on_exprs q ++ there q.filter) q.group first in
+    All-append IsSmall (there q.filter ++ q.group) (there q.partition)
+    (All-append IsSmall (there q.filter) q.group filters groups)
+    (All-right IsSmall (on_exprs q ++ there q.filter ++ q.group) (there q.partition) h)
 
 found-at : {X : Type 0} (P : X → Type 0) (b : Bool) (x y : X) (o : Option X) → P x → (o ≡ Some y → P y) → (if b then Some x else o) ≡ Some y → P y
 found-at P true x y o h k e = let same : x ≡ y = cc (e) in subst P same h

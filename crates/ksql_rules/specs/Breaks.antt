@@ -28,7 +28,7 @@ use Rattle.ksql_clauses.specs.Items.{result_columns, is_alias, is_join}
 use Rattle.ksql_clauses.specs.Keys.{on_sides, join_key, key_places, key_columns, value_columns}
 use Rattle.ksql_clauses.specs.Properties.{are_bad, digits_in, format_in, name_of, topic_in, value_of}
 use Rattle.ksql_names.specs.Resolved.{resolved}
-use Rattle.ksql_clauses.specs.Sources.{all_known, has_unknown_source, have_one_alias, is_windowed, reads_stream, joined_streams, is_full, from_scope, item_scope, on_scope, there, late_exprs, early_exprs, on_exprs}
+use Rattle.ksql_clauses.specs.Sources.{all_known, has_unknown_source, have_one_alias, is_windowed, reads_stream, joined_streams, is_full, from_scope, item_scope, on_scope, there, late_exprs, early_exprs, front_exprs, on_exprs}
 use Rattle.ksql_typing.specs.Standing.{HasType, HasValue, CanBeTrue, CanAgree}
 use Rattle.ksql_names.specs.Uses.{has_unknown_name, has_ambiguous_name, has_unknown_function}
 use Rattle.ksql_clauses.specs.Windows.{is_too_large, is_bad}
@@ -79,13 +79,13 @@ is_unknown_star ks item = false
 
 abbrev pub has_unknown_column : Select → List Known → Bool
 has_unknown_column q ks =
-    list_any (has_unknown_name (from_scope q ks)) (early_exprs q) || list_any (has_unknown_name (item_scope q ks)) (late_exprs q)
-    || list_any (is_unknown_star ks) q.items
+    list_any (has_unknown_name (on_scope q ks)) (on_exprs q) || list_any (has_unknown_name (from_scope q ks)) (front_exprs q)
+    || list_any (has_unknown_name (item_scope q ks)) (late_exprs q) || list_any (is_unknown_star ks) q.items
 
 abbrev pub has_ambiguous_column : Select → List Known → Bool
 has_ambiguous_column q ks =
-    list_any (has_ambiguous_name (from_scope q ks)) (early_exprs q) || list_any (has_ambiguous_name (item_scope q ks)) (late_exprs q)
-    || have_one_alias q
+    list_any (has_ambiguous_name (on_scope q ks)) (on_exprs q) || list_any (has_ambiguous_name (from_scope q ks)) (front_exprs q)
+    || list_any (has_ambiguous_name (item_scope q ks)) (late_exprs q) || have_one_alias q
 
 -- ---- DuplicateColumn
 
@@ -105,7 +105,8 @@ IfThere P (Some x) = P x
 
 -- the expressions of a query have the types that their places want
 pub record IsQueryTyped (q : Select) (ks : List Known) : Type 0 where
-  pub early : Each (λ a. (t : Option SqlType) × HasType (from_scope q ks) a t) (early_exprs q)
+  pub on : Each (λ a. (t : Option SqlType) × HasType (on_scope q ks) a t) (on_exprs q)
+  pub front : Each (λ a. (t : Option SqlType) × HasType (from_scope q ks) a t) (front_exprs q)
   pub late : Each (λ a. (t : Option SqlType) × HasType (item_scope q ks) a t) (late_exprs q)
   pub where_true : IfThere (CanBeTrue (from_scope q ks)) q.filter
   pub having_true : IfThere (CanBeTrue (item_scope q ks)) q.having

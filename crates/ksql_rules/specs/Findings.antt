@@ -8,7 +8,7 @@ use Rattle.ksql_names.specs.Uses.{has_unknown_name, has_ambiguous_name}
 use Rattle.ksql_typing.specs.Judged.{judged}
 use Rattle.ksql_clauses.specs.Items.{result_columns}
 use Rattle.ksql_names.specs.Resolved.{resolved}
-use Rattle.ksql_clauses.specs.Sources.{from_scope, on_scope, item_scope, early_exprs, late_exprs}
+use Rattle.ksql_clauses.specs.Sources.{from_scope, on_scope, item_scope, on_exprs, front_exprs, early_exprs, late_exprs}
 use Rattle.ksql_rules.specs.Breaks.{group_exprs}
 use Rattle.ksql_rules.specs.declared.findings.Findings.{Findings}
 use Rattle.ksql_rules.specs.declared.findings.Found.{Found}
@@ -35,5 +35,6 @@ pub record AreFindings (f : Findings) : Type 0 where
   pub key_is : option_map (λ sides. (sides.0.now, sides.1.now)) f.key ≡ join_key f.select.now f.known.items
   pub groups_are : f.groups.items ≡ group_exprs f.select.now f.known.items
   pub having_is : f.having ≡ option_map (resolved (item_scope f.select.now f.known.items)) f.select.now.having
-  pub early_found : IsFound f.in_early (from_scope f.select.now f.known.items) (early_exprs f.select.now)
+  pub on_found : IsFound f.in_on (on_scope f.select.now f.known.items) (on_exprs f.select.now)
+  pub front_found : IsFound f.in_front (from_scope f.select.now f.known.items) (front_exprs f.select.now)
   pub late_found : IsFound f.in_late (item_scope f.select.now f.known.items) (late_exprs f.select.now)

@@ -32,7 +32,8 @@ fn with_each<'a>(mut found: Vec<&'a Expr>, exprs: &'a [Expr]) -> Result<Vec<&'a 
     Ok(found)
 }
 
-fn on_exprs<'a>(alloc: Global, select: &'a Select) -> Result<Vec<&'a Expr>, AllocError>
+/// The expression of ON, where there is one.
+pub fn on_exprs<'a>(alloc: Global, select: &'a Select) -> Result<Vec<&'a Expr>, AllocError>
     ensures { IfOk result (λ all. map (λ a. a.now) all.items ≡ sources.on_exprs select.now) }
 {
     let mut found = Vec::new(alloc);
@@ -40,6 +41,15 @@ fn on_exprs<'a>(alloc: Global, select: &'a Select) -> Result<Vec<&'a Expr>, Allo
         found.push(&join.on)?;
     }
     Ok(found)
+}
+
+/// The expressions of WHERE, GROUP BY and PARTITION BY.
+pub fn front_exprs<'a>(alloc: Global, select: &'a Select) -> Result<Vec<&'a Expr>, AllocError>
+    ensures { IfOk result (λ all. map (λ a. a.now) all.items ≡ sources.front_exprs select.now) }
+{
+    let found = with_part(Vec::new(alloc), &select.filter)?;
+    let found = with_each(found, select.group.items())?;
+    with_part(found, &select.partition)
 }
 
 /// The expressions of a query but those of its items and of HAVING.

@@ -9,7 +9,9 @@ ghost use Rattle.ksql_rules.specs.Decided as decided;
 ghost use Rattle.ksql_rules.specs.Findings.{AreFindings, IsFound};
 ghost use Rattle.ksql_rules.specs.Limits.{IsQueryWithin, IsRelationWithin};
 
-use crate::expressions::{each_resolved, early_exprs, late_exprs, part_resolved};
+use crate::expressions::{
+    each_resolved, early_exprs, front_exprs, late_exprs, on_exprs, part_resolved,
+};
 use ksql_clauses::{
     Known, Named, all_known, columns_at, columns_besides, from_scope, item_scope, join_key,
     key_places, needs, on_scope, result_columns,
@@ -48,7 +50,8 @@ pub struct Findings<'a> {
     pub key: Option<(&'a Expr, &'a Expr)>,
     pub groups: Vec<Expr>,
     pub having: Option<Boxed<Expr>>,
-    pub in_early: Found,
+    pub in_on: Found,
+    pub in_front: Found,
     pub in_late: Found,
 }
 
@@ -128,6 +131,8 @@ pub fn find_out<'a>(
     let scope = from_scope(alloc, select, &known)?;
     let on_scope = on_scope(alloc, select, &known)?;
     let item_scope = item_scope(alloc, select, &known)?;
+    let on = on_exprs(alloc, select)?;
+    let front = front_exprs(alloc, select)?;
     let early = early_exprs(alloc, select)?;
     let late = late_exprs(alloc, select)?;
     let columns = result_columns(alloc, select, &known, &item_scope)?;
@@ -135,7 +140,8 @@ pub fn find_out<'a>(
     let needs = needs(alloc, &scope, &on_scope, select, &known, key)?;
     let places = key_places(alloc, &needs, &columns)?;
     let groups = each_resolved(alloc, &scope, select.group.items())?;
-    let in_early = found_in(alloc, &scope, &early)?;
+    let in_on = found_in(alloc, &on_scope, &on)?;
+    let in_front = found_in(alloc, &scope, &front)?;
     let in_late = found_in(alloc, &item_scope, &late)?;
     let having = part_resolved(alloc, &item_scope, &select.having)?;
     Ok(Findings {
@@ -151,7 +157,8 @@ pub fn find_out<'a>(
         key,
         groups,
         having,
-        in_early,
+        in_on,
+        in_front,
         in_late,
     })
 }

@@ -88,7 +88,8 @@ pub fn has_unknown_column(findings: &Findings) -> bool
     requires { AreFindings findings.now }
     ensures { result ≡ spec.has_unknown_column findings.now.select.now findings.now.known.items }
 {
-    findings.in_early.unknown
+    findings.in_on.unknown
+        || findings.in_front.unknown
         || findings.in_late.unknown
         || has_unknown_star(&findings.known, findings.select.items.items())
 }
@@ -98,7 +99,10 @@ pub fn has_ambiguous_column(findings: &Findings) -> bool
     requires { AreFindings findings.now }
     ensures { result ≡ spec.has_ambiguous_column findings.now.select.now findings.now.known.items }
 {
-    findings.in_early.ambiguous || findings.in_late.ambiguous || have_one_alias(findings.select)
+    findings.in_on.ambiguous
+        || findings.in_front.ambiguous
+        || findings.in_late.ambiguous
+        || have_one_alias(findings.select)
 }
 
 fn with_names<'a>(

@@ -81,7 +81,8 @@ pub fn is_query_typed(alloc: Global, findings: &Findings) -> Result<bool, AllocE
     let having_fits = fits_truth(alloc, &findings.item_scope, &select.having)?;
     let valued = are_valued(alloc, &findings.item_scope, &findings.columns)?;
     let agree = does_on_agree(alloc, &findings.on_scope, select)?;
-    let typed = both(findings.in_early.typed, findings.in_late.typed);
+    let early = both(findings.in_on.typed, findings.in_front.typed);
+    let typed = both(early, findings.in_late.typed);
     let fit = both(filter_fits, having_fits);
     Ok(both(both(typed, fit), both(valued, agree)))
 }

@@ -15,7 +15,7 @@ use Rattle.ksql_types.specs.Names.{are_column_names}
 use Rattle.ksql_clauses.specs.declared.sources.Known.{Known}
 use Rattle.ksql_clauses.specs.Items.{result_columns}
 use Rattle.ksql_clauses.specs.Properties.{are_bad, digits_in, format_in, name_of, partitions_in, topic_in}
-use Rattle.ksql_clauses.specs.Sources.{all_known, has_unknown_source, have_one_alias, is_full, is_windowed, reads_stream, joined_streams, early_exprs, late_exprs, from_scope, item_scope}
+use Rattle.ksql_clauses.specs.Sources.{all_known, has_unknown_source, have_one_alias, is_full, is_windowed, reads_stream, joined_streams, on_exprs, front_exprs, early_exprs, late_exprs, on_scope, from_scope, item_scope}
 use Rattle.ksql_grouping.specs.Grouping.{has_aggregate, has_nested_aggregate, has_bare_column, ordered_aggregates}
 use Rattle.ksql_types.specs.Names.{is_among}
 use Rattle.ksql_names.specs.Uses.{has_unknown_function, has_ambiguous_name, calls}
@@ -148,7 +148,8 @@ query-kept catalog table name ps q h =
     let large = or-false (nat_lt 64 (length (result_columns q ks)) || nat_lt 8 (length q.group) || has_large_window q.window || has_long_name ks (result_columns q ks))
     (has_many_partitions ps) (untrue _ (λ k. h.0 (inr k))) in
     let larger = or-four (nat_lt 64 (length (result_columns q ks))) (nat_lt 8 (length q.group)) (has_large_window q.window) (has_long_name ks (result_columns q ks)) large.0 in
-    let ambiguous = or-three (list_any (has_ambiguous_name (from_scope q ks)) (early_exprs q)) (list_any (has_ambiguous_name (item_scope q ks)) (late_exprs q)) (have_one_alias q) (untrue _ (λ k. h.1.1.1.1.0 (inr k))) in
+    let ambiguous = or-four (list_any (has_ambiguous_name (on_scope q ks)) (on_exprs q)) (list_any (has_ambiguous_name (from_scope q ks)) (front_exprs q))
+    (list_any (has_ambiguous_name (item_scope q ks)) (late_exprs q)) (have_one_alias q) (untrue _ (λ k. h.1.1.1.1.0 (inr k))) in
     let wrong = or-three (not (same table (makes_table q ks))) (is_wrong_join (is_full q) (joined_streams ks)) (is_some q.partition && not (reads_stream ks))
     (untrue _ (λ k. h.1.1.1.1.1.1.1.0 (inr k))) in
     let misused = or-five (list_any has_aggregate (early_exprs q)) (list_any has_nested_aggregate (late_exprs q)) (not (is_grouped q) && (list_any has_aggregate (late_exprs q) || is_some q.having))
@@ -166,7 +167,7 @@ query-kept catalog table name ps q h =
       short = larger.3;
       few_partitions = many-first ps large.1;
       all_known = untrue (has_unknown_source catalog q) (λ k. h.1.0 (inr k));
-      aliases = ambiguous.2;
+      aliases = ambiguous.3;
       named = untrue (has_bad_names q ks) (λ k. h.1.1.1.1.1.0 (inr k));
       typed = λ k. h.1.1.1.1.1.1.0 (inr k);
       kind = not-not (same table (makes_table q ks)) wrong.0;

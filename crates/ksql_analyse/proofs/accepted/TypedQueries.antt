@@ -1,5 +1,5 @@
 -- The expressions of an accepted query have typed trees.
-use Rattle.std.proofs.Common.{◌≡◌, ◌↔◌, ℕ, Bool, true, false, List, [], ◌∷◌, Option, Some, None, is_some, refl, ap, ◌∙◌, IsTrue}
+use Rattle.std.proofs.Common.{◌≡◌, ◌↔◌, ℕ, Bool, true, false, List, [], ◌∷◌, ◌++◌, Option, Some, None, is_some, refl, ap, ◌∙◌, IsTrue}
 use Rattle.std.specs.Prelude.{option_map}
 use Rattle.std.specs.List.{list_any, flat_map, AllByRecursion as Each}
 use Rattle.std.proofs.lemmas.List.Elements.{recursion_from_All}
@@ -21,7 +21,7 @@ use Rattle.ksql_clauses.specs.declared.items.Named.{Named}
 use Rattle.ksql_clauses.specs.declared.sources.Known.{Known}
 use Rattle.ksql_clauses.specs.Items.{result_columns}
 use Rattle.ksql_names.specs.Resolved.{resolved}
-use Rattle.ksql_clauses.specs.Sources.{from_scope, item_scope, on_scope, early_exprs, late_exprs, there, on_exprs}
+use Rattle.ksql_clauses.specs.Sources.{from_scope, item_scope, on_scope, early_exprs, front_exprs, late_exprs, there, on_exprs}
 use Rattle.ksql_grouping.specs.Grouping.{aggregates_of}
 use Rattle.ksql_rules.specs.Breaks as rules
 use Rattle.ksql_rules.specs.Breaks.{IsQueryTyped, IfThere, group_exprs, shown_exprs}
@@ -39,7 +39,7 @@ use Rattle.ksql_analyse.proofs.forms.NamesTyped.{resolved-typed}
 use Rattle.ksql_analyse.proofs.sound.SoundColumns.{each-append, each-map, each-weaker}
 use Rattle.ksql_analyse.proofs.sound.SoundPlain.{exprs-hold}
 use Rattle.ksql_analyse.proofs.sound.SoundQuery.{filter-part, group-part, items-part, having-part}
-use Rattle.ksql_analyse.proofs.sound.SoundTrees.{each-false}
+use Rattle.ksql_analyse.proofs.sound.SoundTrees.{each-false, each-front, each-behind}
 
 -- ---- what is decided holds where it isn't false that it holds
 
@@ -73,7 +73,8 @@ agreement-stable s sides =
 
 pub query-typed : (q : Select) (ks : List Known) → ¬ ¬ IsQueryTyped q ks → IsQueryTyped q ks
 query-typed q ks h = record {
-  early = each-stable (HasSomeType (from_scope q ks)) (typed-stable (from_scope q ks)) (early_exprs q) (λ no. h (λ t. no t.early));
+  on = each-stable (HasSomeType (on_scope q ks)) (typed-stable (on_scope q ks)) (on_exprs q) (λ no. h (λ t. no t.on));
+  front = each-stable (HasSomeType (from_scope q ks)) (typed-stable (from_scope q ks)) (front_exprs q) (λ no. h (λ t. no t.front));
   late = each-stable (HasSomeType (item_scope q ks)) (typed-stable (item_scope q ks)) (late_exprs q) (λ no. h (λ t. no t.late));
   where_true = there-stable (CanBeTrue (from_scope q ks)) (truth-stable (from_scope q ks)) q.filter (λ no. h (λ t. no t.where_true));
   having_true = there-stable (CanBeTrue (item_scope q ks)) (truth-stable (item_scope q ks)) q.having (λ no. h (λ t. no t.having_true));
@@ -109,6 +110,16 @@ each-aggregable : (s : Scope) (es : List Expr) → Each (IsTypable s) es → Eac
 each-aggregable s [] h = tt
 each-aggregable s (a ∷ es) h = each-append (IsAggregable s) (aggregates_of a) (flat_map aggregates_of es) (aggregables-of s a h.0) (each-aggregable s es h.1)
 
+-- what holds of ON, and of WHERE, GROUP BY and PARTITION BY
+early-of : (P : Expr → Type 0) (q : Select) → Each P (on_exprs q) → Each P (front_exprs q) → Each P (early_exprs q)
+early-of P q on front =
+    let first = each-front P (there q.filter ++ q.group) (there q.partition) front in
+    let filters = each-front P (there q.filter) q.group first in
+    let groups = each-behind P (there q.filter) q.group first in
+    each-append P (on_exprs q ++ there q.filter ++ q.group) (there q.partition)
+    (each-append P (on_exprs q ++ there q.filter) q.group (each-append P (on_exprs q) (there q.filter) on filters) groups)
+    (each-behind P (there q.filter ++ q.group) (there q.partition) front)
+
 -- ---- of an accepted query
 
 module _ (catalog : List Relation) (table : Bool) (name : List ℕ) (ps : List Property) (q : Select) (ks : List Known)
@@ -126,7 +137,8 @@ module _ (catalog : List Relation) (table : Bool) (name : List ℕ) (ps : List P
   pub early : Each (IsTypable front) (early_exprs q)
   early =
       all-typable front (early_exprs q) (recursion_from_All IsSmall (early_exprs q) within.early_small)
-      (each-false has_unknown_function (early_exprs q) keeps.early_known) (each-of (HasSomeType front) (early_exprs q) typed.early)
+      (each-false has_unknown_function (early_exprs q) keeps.early_known)
+      (early-of (HasSomeType front) q (each-of (HasSomeType front) (on_exprs q) typed.on) (each-of (HasSomeType front) (front_exprs q) typed.front))
 
   pub late : Each (IsTypable items) (late_exprs q)
   late =

@@ -4,7 +4,7 @@ use Rattle.ksql_names.specs.Uses.{IsSmall}
 use Rattle.ksql_clauses.specs.Items.{result_columns}
 use Rattle.ksql_clauses.specs.Sources.{from_scope, on_scope, item_scope, there, item_exprs, on_exprs}
 use Rattle.ksql_rules.specs.Decided.{fits_truth, is_valued, does_on_agree}
-use Rattle.ksql_rules.proofs.Deciding.{turned, query-decided, early, late, fit, last}
+use Rattle.ksql_rules.proofs.Deciding.{turned, query-decided, on, front, early, late, fit, last}
 use Rattle.ksql_rules.proofs.Smallness.{columns-small}
 use Rattle.ksql_rules.proofs.Within.{All-left, All-right}
 use Rattle.ksql_rules.proofs.types.is_query_typed.Goals as goal
@@ -35,8 +35,10 @@ returns c =
     let ks = f.known.items in
     let from = from_scope q ks in
     let items = item_scope q ks in
+    let fronts : c.both-early.result ≡ (on q ks && front q ks) =
+    c.both-early.ensures ∙ ap₂ (λ a b. a && b) c.requires.on_found.typed_is c.requires.front_found.typed_is in
     let typed : c.both-typed.result ≡ (early q ks && late q ks) =
-    c.both-typed.ensures ∙ ap₂ (λ a b. a && b) c.requires.early_found.typed_is c.requires.late_found.typed_is in
+    c.both-typed.ensures ∙ ap₂ (λ a b. a && b) fronts c.requires.late_found.typed_is in
     let filters : c.in_ok-filter_fits.filter_fits ≡ fits_truth from q.filter =
     c.in_ok-filter_fits.ensures ∙ ap (λ s. fits_truth s q.filter) c.requires.scope_is in
     let having : c.in_ok-having_fits.having_fits ≡ fits_truth items q.having =
