@@ -1,13 +1,13 @@
 //! What a grouped query makes of its rows.
 
-ghost use Rattle.std.specs.Prelude.{◌≡◌, ◌≤◌, ◌-◌, ◌^◌, ◌++◌, [], All, IfOk, length, map, option_copied, option_map};
+ghost use Rattle.std.specs.Prelude.{◌≡◌, ◌≤◌, ◌-◌, ◌^◌, ◌++◌, [], All, IfOk, length, map};
 ghost use Rattle.std.specs.List.{flat_map};
 ghost use Rattle.ksql_clauses.specs.Sources.{there};
 ghost use Rattle.ksql_grouping.specs.Grouping as groups;
 ghost use Rattle.ksql_expr.specs.declared.typed.TypedNode.TheVariants as node;
 ghost use Rattle.ksql_trees.specs.Grouped.{after as after_in};
 ghost use Rattle.ksql_analyse.specs.Judgement as spec;
-ghost use Rattle.ksql_analyse.specs.Typable.{IsAggregable, IsAggregateNode};
+ghost use Rattle.ksql_analyse.specs.Typable.{IsAggregable, IsAggregateNode, IsTypable};
 
 use crate::trees::tree_of;
 use ksql_clauses::Named;
@@ -20,31 +20,20 @@ use ksql_trees::after;
 use ksql_types::{Boxed, CopyOf};
 use std::alloc::{AllocError, Global};
 
-/// A part that may be left out, lent.
-pub(crate) fn lent(part: &Option<Boxed<Expr>>) -> Option<&Expr>
-    ensures { option_copied result ≡ part.now }
-{
-    match part {
-        None => None,
-        Some(expr) => Some(expr.get()),
-    }
-}
-
 /// The aggregates of a query: those of its columns and then those of HAVING, equal ones once.
 pub(crate) fn aggregate_exprs(
     alloc: Global,
     columns: &[Named],
-    having: Option<&Expr>,
+    having: &Option<Boxed<Expr>>,
 ) -> Result<Vec<Expr>, AllocError>
-    ensures { IfOk result (λ found. found.items
-        ≡ groups.once_from [] (flat_map groups.aggregates_of (spec.exprs columns.now ++ there (option_copied having.entry)))) }
+    ensures { IfOk result (λ found. found.items ≡ groups.once_from [] (flat_map groups.aggregates_of (spec.exprs columns.now ++ there having.now))) }
 {
     let mut all = Vec::new(alloc);
     for column in columns {
         push_all(&mut all, aggregates_of(alloc, &column.expr)?)?;
     }
     if let Some(having) = having {
-        push_all(&mut all, aggregates_of(alloc, having)?)?;
+        push_all(&mut all, aggregates_of(alloc, having.get())?)?;
     }
     once(alloc, all)
 }
@@ -159,15 +148,21 @@ fn push_bounds(columns: &mut Vec<TypedNode>, scope: &Scope) -> Result<(), AllocE
 /// A part that may be left out, over the rows after a grouping.
 pub(crate) fn part_after(
     alloc: Global,
-    part: &Option<Typed>,
+    scope: &Scope,
+    part: &Option<Boxed<Expr>>,
     columns: &[TypedNode],
 ) -> Result<Option<Typed>, AllocError>
-    requires { length columns.now ≤ 2 ^ 32 }
-    ensures { IfOk result (λ made. made ≡ option_map (after_in columns.now) part.now) }
+    requires typable { All (IsTypable scope.now) (there part.now) }
+    requires scope { length scope.now.columns ≤ 2 ^ 32 - 2 }
+    requires columns { length columns.now ≤ 2 ^ 32 }
+    ensures { IfOk result (λ made. spec.IsPartAfter columns.now scope.now part.now made) }
 {
     match part {
         None => Ok(None),
-        Some(tree) => Ok(Some(after(alloc, tree, columns)?)),
+        Some(expr) => {
+            let tree = Boxed::of(alloc, tree_of(alloc, scope, expr.get())?)?;
+            Ok(Some(after(alloc, tree.get(), columns)?))
+        }
     }
 }
 

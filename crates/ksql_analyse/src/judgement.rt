@@ -16,7 +16,7 @@ use crate::item::item_of;
 use ksql_program::{Item, Program, relation_of};
 use ksql_rules::{Verdict, judge_statement};
 use ksql_statements::Statement;
-use ksql_types::{AddRefusal, Catalog, CopyOf, Items, Relation};
+use ksql_types::{AddRefusal, Boxed, Catalog, CopyOf, Items, Relation};
 use std::alloc::{AllocError, Global};
 
 /// The program of statements, or the first that is refused with its lowest code. The statements are trees of tokens that
@@ -76,8 +76,9 @@ fn accept(
     ensures catalog { OnOk result (catalog.new ≡ catalog.old ++ relation_of item ∷ []) }
     ensures items { OnOk result (items.new.items ≡ items.old.items ++ item ∷ []) }
 {
-    add(alloc, catalog, relation_of(&item).copy(alloc)?)?;
-    items.push(item)?;
+    let item = Boxed::of(alloc, item)?;
+    add(alloc, catalog, relation_of(item.get()).copy(alloc)?)?;
+    items.push(item.into_inner())?;
     Ok(())
 }
 

@@ -28,7 +28,7 @@ pub(crate) fn query_of(
     let from = Boxed::of(alloc, from_of(alloc, findings)?)?;
     let shape = Boxed::of(alloc, shape_of(alloc, findings)?)?;
     let out = result_of(alloc, number, statement, props, findings, shape.get())?;
-    let filter = part_tree(alloc, &findings.scope, findings.select.filter.as_ref())?;
+    let filter = part_tree(alloc, &findings.scope, &findings.select.filter)?;
     Ok(Query {
         from: from.into_inner(),
         filter,

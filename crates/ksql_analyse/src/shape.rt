@@ -1,6 +1,6 @@
 //! What a query makes of its rows.
 
-ghost use Rattle.std.specs.Prelude.{◌≡◌, ◌≤◌, ◌-◌, ◌^◌, All, IfOk, IsTrue, false, length, map, not, option_copied, option_map};
+ghost use Rattle.std.specs.Prelude.{◌≡◌, ◌≤◌, ◌-◌, ◌^◌, All, IfOk, IsTrue, false, length, map, not, option_map};
 ghost use Rattle.ksql_clauses.specs.Windows as windows;
 ghost use Rattle.ksql_clauses.specs.Sources as sources;
 ghost use Rattle.ksql_rules.specs.Breaks as breaks;
@@ -8,8 +8,8 @@ ghost use Rattle.ksql_analyse.specs.Accepted.{IsMade, IsReady};
 ghost use Rattle.ksql_analyse.specs.Judgement as spec;
 ghost use Rattle.ksql_analyse.specs.Typable.{AreColumnTrees, IsTypable, IsValued};
 
-use crate::grouped::{aggregate_exprs, aggs_of, grouped_columns, lent, part_after, trees_after};
-use crate::trees::{column_trees, part_tree, trees_of};
+use crate::grouped::{aggregate_exprs, aggs_of, grouped_columns, part_after, trees_after};
+use crate::trees::{column_trees, trees_of};
 use ksql_clauses::{Named, window_of};
 use ksql_expr::{Typed, TypedNode};
 use ksql_expressions::Expr;
@@ -17,7 +17,7 @@ use ksql_names::Scope;
 use ksql_program::{Agg, Shape};
 use ksql_rules::{Findings, is_grouped};
 use ksql_statements::WindowText;
-use ksql_types::{Items, Window};
+use ksql_types::{Boxed, Items, Window};
 use std::alloc::{AllocError, Global};
 
 /// What a query makes of its rows.
@@ -55,12 +55,11 @@ fn grouped_shape(alloc: Global, findings: &Findings) -> Result<Shape, AllocError
     ensures { IfOk result (λ made. IsMade findings.now.select.now findings.now.known.items made) }
 {
     let scope = &findings.item_scope;
-    let having = lent(&findings.having);
-    let exprs = aggregate_exprs(alloc, &findings.columns, having)?;
+    let exprs = aggregate_exprs(alloc, &findings.columns, &findings.having)?;
     let keys = trees_of(alloc, &findings.scope, &findings.groups)?;
     let aggs = aggs_of(alloc, scope, &exprs)?;
     let values = findings.value_columns(alloc)?;
-    let after = after_grouping(alloc, scope, &keys, &aggs, having, &values)?;
+    let after = after_grouping(alloc, scope, &keys, &aggs, &findings.having, &values)?;
     Ok(Shape::Group {
         keys: Items::of(keys),
         window: window_in(&findings.select.window),
@@ -83,14 +82,14 @@ fn after_grouping(
     scope: &Scope,
     keys: &[Typed],
     aggs: &[Agg],
-    having: Option<&Expr>,
+    having: &Option<Boxed<Expr>>,
     values: &[&Named],
 ) -> Result<After, AllocError>
-    requires having { All (IsTypable scope.now) (sources.there (option_copied having)) }
+    requires having { All (IsTypable scope.now) (sources.there having.now) }
     requires values { All (λ c. IsValued scope.now c.now.expr) values.now }
     requires scope { length scope.now.columns ≤ 2 ^ 32 - 2 }
     requires columns { length (spec.grouped_columns scope.now keys.now aggs.now) ≤ 2 ^ 32 }
-    ensures having { IfOk result (λ made. spec.IsPartAfter (spec.grouped_columns scope.now keys.now aggs.now) scope.now (option_copied having.entry) made.having) }
+    ensures having { IfOk result (λ made. spec.IsPartAfter (spec.grouped_columns scope.now keys.now aggs.now) scope.now having.now made.having) }
     ensures values { IfOk result (λ made. spec.AreTreesAfter (spec.grouped_columns scope.now keys.now aggs.now) scope.now (spec.exprs (map (λ c. c.now) values.now)) made.values.items) }
     ensures valued { IfOk result (λ made. AreColumnTrees (map (λ c. c.now) values.now) made.values.items) }
 {
@@ -102,23 +101,23 @@ fn after_grouping(
 fn after_of(
     alloc: Global,
     scope: &Scope,
-    having: Option<&Expr>,
+    having: &Option<Boxed<Expr>>,
     values: &[&Named],
     columns: &[TypedNode],
 ) -> Result<After, AllocError>
-    requires having { All (IsTypable scope.now) (sources.there (option_copied having)) }
+    requires having { All (IsTypable scope.now) (sources.there having.now) }
     requires values { All (λ c. IsValued scope.now c.now.expr) values.now }
     requires scope { length scope.now.columns ≤ 2 ^ 32 - 2 }
     requires columns { length columns.now ≤ 2 ^ 32 }
-    ensures having { IfOk result (λ made. spec.IsPartAfter columns.now scope.now (option_copied having.entry) made.having) }
+    ensures having { IfOk result (λ made. spec.IsPartAfter columns.now scope.now having.now made.having) }
     ensures values { IfOk result (λ made. spec.AreTreesAfter columns.now scope.now (spec.exprs (map (λ c. c.now) values.now)) made.values.items) }
     ensures valued { IfOk result (λ made. AreColumnTrees (map (λ c. c.now) values.now) made.values.items) }
 {
-    let having = part_tree(alloc, scope, having)?;
-    let values = column_trees(alloc, scope, values)?;
+    let trees = column_trees(alloc, scope, values)?;
+    let values = trees_after(alloc, &trees, columns)?;
     Ok(After {
-        having: part_after(alloc, &having, columns)?,
-        values: trees_after(alloc, values.as_slice(), columns)?,
+        having: part_after(alloc, scope, having, columns)?,
+        values,
     })
 }
 

@@ -1,6 +1,6 @@
 //! The typed trees of a query's expressions.
 
-ghost use Rattle.std.specs.Prelude.{◌≤◌, ◌-◌, ◌^◌, All, length, map, option_copied, IfOk};
+ghost use Rattle.std.specs.Prelude.{◌≤◌, ◌-◌, ◌^◌, All, length, map, IfOk};
 ghost use Rattle.ksql_typing.specs.Standing.{IsTypedTree};
 ghost use Rattle.ksql_clauses.specs.Sources.{there};
 ghost use Rattle.ksql_analyse.specs.Judgement.{AreTypedTrees, IsTypedPart, exprs};
@@ -69,11 +69,11 @@ pub(crate) fn column_trees(
 pub(crate) fn part_tree(
     alloc: Global,
     scope: &Scope,
-    part: Option<&Expr>,
+    part: &Option<Expr>,
 ) -> Result<Option<Typed>, AllocError>
-    requires typable { All (IsTypable scope.now) (there (option_copied part)) }
+    requires typable { All (IsTypable scope.now) (there part.now) }
     requires columns { length scope.now.columns ≤ 2 ^ 32 - 2 }
-    ensures { IfOk result (λ tree. IsTypedPart scope.now (option_copied part.entry) tree) }
+    ensures { IfOk result (λ tree. IsTypedPart scope.now part.now tree) }
 {
     match part {
         None => Ok(None),

@@ -4,14 +4,11 @@ use Rattle.ksql_analyse.specs.Typable.{AreColumnTrees}
 use Rattle.ksql_analyse.proofs.forms.ValuedTrees.{trees-after}
 use Rattle.ksql_analyse.proofs.shape.after_of.Goals as goal
 
-pub returns-clause-having : goal.returns-clause-having
-returns-clause-having c = (c.in_ok-having.having, c.in_ok-having.ensures, c.in_ok-part_after.ensures)
-
 pub returns-clause-values : goal.returns-clause-values
 returns-clause-values c =
-    (c.in_ok-values.values.items, c.in_ok-values.ensures.trees, c.in_ok-trees_after.ensures ∙ ap (map (after c.args.columns.now)) c.as_slice.ensures.value)
+    (c.in_ok-trees.trees.items, c.in_ok-trees.ensures.trees, c.in_ok-values.ensures ∙ ap (map (after c.args.columns.now)) c.deref.ensures.value)
 
 pub returns-clause-valued : goal.returns-clause-valued
 returns-clause-valued c =
-    subst (AreColumnTrees (map (λ v. v.now) c.args.values.now)) (sym (c.in_ok-trees_after.ensures ∙ ap (map (after c.args.columns.now)) c.as_slice.ensures.value))
-    (trees-after c.args.columns.now (map (λ v. v.now) c.args.values.now) c.in_ok-values.values.items c.in_ok-values.ensures.values)
+    subst (AreColumnTrees (map (λ v. v.now) c.args.values.now)) (sym (c.in_ok-values.ensures ∙ ap (map (after c.args.columns.now)) c.deref.ensures.value))
+    (trees-after c.args.columns.now (map (λ v. v.now) c.args.values.now) c.in_ok-trees.trees.items c.in_ok-trees.ensures.values)

@@ -22,14 +22,14 @@ pub aggs_of-requires-clause-aggregable : goal.aggs_of-requires-clause-aggregable
 aggs_of-requires-clause-aggregable c =
     let f = c.args.findings.now in
     let found = c.requires.ready.found in
-    let aggs = aggs-are f.select.now f.known.items _ _ _ c.in_ok-exprs.ensures (c.deref.ensures.value ∙ found.columns_are) (c.lent.ensures ∙ found.having_is) in
+    let aggs = aggs-are f.select.now f.known.items _ _ _ c.in_ok-exprs.ensures (c.deref.ensures.value ∙ found.columns_are) found.having_is in
     moved-two (λ (s : Scope) (es : List Expr). All (IsAggregable s) es) _ _ _ _ (sym found.item_scope_is) (sym (c.deref-3.ensures.value ∙ aggs))
     (c.requires.ready.typable.grouped c.requires.grouped).aggregates
 
 pub after_grouping-requires-clause-having : goal.after_grouping-requires-clause-having
 after_grouping-requires-clause-having c =
     let found = c.requires.ready.found in
-    moved-two (λ (s : Scope) (o : Option Expr). All (IsTypable s) (there o)) _ _ _ _ (sym found.item_scope_is) (sym (c.lent.ensures ∙ found.having_is))
+    moved-two (λ (s : Scope) (o : Option Expr). All (IsTypable s) (there o)) _ _ _ _ (sym found.item_scope_is) (sym found.having_is)
     (c.requires.ready.typable.grouped c.requires.grouped).having
 
 pub after_grouping-requires-clause-values : goal.after_grouping-requires-clause-values
@@ -45,7 +45,7 @@ pub after_grouping-requires-clause-columns : goal.after_grouping-requires-clause
 after_grouping-requires-clause-columns c =
     let f = c.args.findings.now in
     let found = c.requires.ready.found in
-    let aggs = aggs-are f.select.now f.known.items _ _ _ c.in_ok-exprs.ensures (c.deref.ensures.value ∙ found.columns_are) (c.lent.ensures ∙ found.having_is) in
+    let aggs = aggs-are f.select.now f.known.items _ _ _ c.in_ok-exprs.ensures (c.deref.ensures.value ∙ found.columns_are) found.having_is in
     let few : length f.groups.items + length c.in_ok-exprs.exprs.items + 2 ≤ 2 ^ 32 =
     omega (arith, (c.requires.ready.typable.grouped c.requires.grouped).few, ap length found.groups_are, ap length aggs) in
     columns-few f.scope f.item_scope f.groups.items c.in_ok-exprs.exprs.items c.in_ok-keys.keys.items c.in_ok-aggs.aggs.items
@@ -59,14 +59,14 @@ returns c =
     let q = f.select.now in
     let ks = f.known.items in
     let found = c.requires.ready.found in
-    let aggs = aggs-are q ks _ _ _ c.in_ok-exprs.ensures (c.deref.ensures.value ∙ found.columns_are) (c.lent.ensures ∙ found.having_is) in
+    let aggs = aggs-are q ks _ _ _ c.in_ok-exprs.ensures (c.deref.ensures.value ∙ found.columns_are) found.having_is in
     let values = ap (map (λ (v : Bor Named). v.now)) c.deref-6.ensures.value ∙ c.in_ok-values.ensures in
     let trees = subst (λ (es : List Expr). AreTypedTrees f.scope es c.in_ok-keys.keys.items) c.deref-2.ensures.value c.in_ok-keys.ensures.trees in
     record {
       is = grouped-made q ks f.scope f.item_scope f.groups.items c.in_ok-exprs.exprs.items (exprs (map (λ v. v.now) c.deref-6.result.now)) _
           c.in_ok-keys.keys.items c.of.result c.in_ok-after.after.values.items c.of-3.result c.in_ok-aggs.aggs.items c.of-2.result
           (grouped_columns f.item_scope c.deref-4.result.now c.deref-5.result.now) c.window_in.result c.in_ok-after.after.having
-          found.scope_is found.item_scope_is found.groups_are aggs (ap exprs values) (c.lent.ensures ∙ found.having_is)
+          found.scope_is found.item_scope_is found.groups_are aggs (ap exprs values) found.having_is
           (sym c.of.ensures) (sym c.of-3.ensures) (sym c.of-2.ensures)
           (ap₂ (grouped_columns f.item_scope) c.deref-4.ensures.value c.deref-5.ensures.value) c.requires.grouped c.window_in.ensures trees
           (subst (λ (es : List Expr). AreAggs f.item_scope es c.in_ok-aggs.aggs.items) c.deref-3.ensures.value c.in_ok-aggs.ensures)

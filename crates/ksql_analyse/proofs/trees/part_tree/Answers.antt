@@ -1,7 +1,5 @@
 use Rattle.std.proofs.Common.{All, [], Option, subst}
-use Rattle.std.specs.Prelude.{option_copied}
 use Rattle.std.proofs.lemmas.List.Elements.{All-head}
-use denote.Bor.{Bor}
 use Rattle.ksql_expressions.specs.declared.tree.Expr.{Expr}
 use Rattle.ksql_clauses.specs.Sources.{there}
 use Rattle.ksql_analyse.specs.Typable.{IsTypable}
@@ -9,5 +7,5 @@ use Rattle.ksql_analyse.proofs.trees.part_tree.Goals as goal
 
 pub tree_of-requires-clause-typable : goal.tree_of-requires-clause-typable
 tree_of-requires-clause-typable c =
-    All-head (IsTypable c.args.scope.now) c.in-Some.expr.now []
-    (subst (λ (o : Option (Bor Expr)). All (IsTypable c.args.scope.now) (there (option_copied o))) c.in-Some.is c.requires.typable)
+    All-head (IsTypable c.args.scope.now) c.in-Some.expr []
+    (subst (λ (o : Option Expr). All (IsTypable c.args.scope.now) (there o)) c.in-Some.is c.requires.typable)
