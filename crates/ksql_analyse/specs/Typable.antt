@@ -14,7 +14,7 @@ use Rattle.ksql_clauses.specs.declared.sources.Known.{Known}
 use Rattle.ksql_clauses.specs.Items.{result_columns}
 use Rattle.ksql_names.specs.Resolved.{resolved}
 use Rattle.ksql_clauses.specs.Sources.{from_scope, item_scope, there}
-use Rattle.ksql_clauses.specs.Keys.{key_columns, value_columns}
+use Rattle.ksql_clauses.specs.Keys.{key_columns}
 use Rattle.ksql_rules.specs.Breaks.{group_exprs, is_grouped}
 use Rattle.ksql_analyse.specs.Judgement.{aggregate_exprs}
 

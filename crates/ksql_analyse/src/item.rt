@@ -2,7 +2,7 @@
 
 ghost use Rattle.std.specs.Prelude.{All, IfOk};
 ghost use Rattle.ksql_rules.specs.Bodies.{IsBodyOf};
-ghost use Rattle.ksql_rules.specs.Limits.{IsRelationWithin, IsWithinLimits};
+ghost use Rattle.ksql_rules.specs.Limits.{IsWithinLimits};
 ghost use Rattle.ksql_rules.specs.Lowest.{IsAccepted};
 ghost use Rattle.ksql_analyse.specs.Few.{HasFewCalls};
 ghost use Rattle.ksql_analyse.specs.Judgement.{IsItemOf};
@@ -26,7 +26,6 @@ pub(crate) fn item_of(
     requires body { IsBodyOf body.now catalog.now statement.now.body }
     requires accepted { IsAccepted catalog.now statement.now }
     requires limits { IsWithinLimits statement.now }
-    requires relations { All IsRelationWithin catalog.now }
     requires plain { All HasPlainNames catalog.now }
     requires few { HasFewCalls statement.now.body }
     ensures { IfOk result (λ item. IsItemOf catalog.now statement.now item) }

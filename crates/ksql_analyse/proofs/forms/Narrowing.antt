@@ -7,7 +7,7 @@ use Rattle.ksql_types.specs.declared.value.SqlType.TheVariants as sql
 use Rattle.ksql_expr.specs.declared.typed.Typed.{Typed}
 use Rattle.ksql_expr.specs.Aggregates.{holds, is_aggregate}
 use Rattle.ksql_expr.specs.Typing as w
-use Rattle.ksql_expr.specs.Typing.{HasTypes, Part, one, perhaps, each, whens, of}
+use Rattle.ksql_expr.specs.Typing.{HasTypes, Part, one, perhaps, each, whens}
 use Rattle.ksql_analyse.proofs.forms.Holding as hold
 use Rattle.ksql_analyse.proofs.forms.Holding.{each_holds, whens_hold, part_holds}
 use Rattle.ksql_analyse.proofs.forms.Bearing.{reach}

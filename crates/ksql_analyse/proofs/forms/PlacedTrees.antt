@@ -21,8 +21,7 @@ use Rattle.ksql_program.specs.declared.query.Agg.{Agg}
 use Rattle.ksql_names.specs.declared.scope.Scope.{Scope}
 use Rattle.ksql_names.specs.declared.scope.ScopeColumn.{ScopeColumn}
 use Rattle.ksql_names.specs.Scope.{Meaning, column_types}
-use Rattle.ksql_typing.specs.Standing as st
-use Rattle.ksql_typing.specs.Standing.{Stands, IsTypedTree}
+use Rattle.ksql_typing.specs.Standing.{IsTypedTree}
 use Rattle.ksql_typing.proofs.OneTyping.{checked, one-tree}
 use Rattle.ksql_grouping.specs.Grouping as exprs
 use Rattle.ksql_grouping.specs.Grouping.{is_window_bound}

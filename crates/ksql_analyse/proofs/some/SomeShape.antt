@@ -1,8 +1,7 @@
 -- What a query makes of its rows, where its expressions have typed trees.
-use Rattle.std.proofs.Common.{◌≡◌, Bool, true, false, not, List, [], ◌∷◌, map, Option, All, refl, ap, ◌∙◌, subst}
+use Rattle.std.proofs.Common.{◌≡◌, Bool, true, false, not, List, [], ◌∷◌, map, All, refl, ap, ◌∙◌}
 use Rattle.std.specs.Prelude.{option_map}
 use Rattle.std.proofs.lemmas.List.Elements.{All-from_recursion, All-map, All-weaker, recursion_from_All}
-use Rattle.ksql_expressions.specs.declared.tree.Expr.{Expr}
 use Rattle.ksql_statements.specs.declared.tree.Select.{Select}
 use Rattle.ksql_expr.specs.declared.typed.Typed.{Typed}
 use Rattle.ksql_program.specs.declared.query.From.{From}
@@ -14,7 +13,7 @@ use Rattle.ksql_clauses.specs.declared.items.Named.{Named}
 use Rattle.ksql_clauses.specs.declared.sources.Known.{Known}
 use Rattle.ksql_clauses.specs.Items.{result_columns}
 use Rattle.ksql_names.specs.Resolved.{resolved}
-use Rattle.ksql_clauses.specs.Sources.{from_scope, item_scope, there}
+use Rattle.ksql_clauses.specs.Sources.{from_scope, item_scope}
 use Rattle.ksql_clauses.specs.Windows.{window_of}
 use Rattle.ksql_clauses.specs.Keys.{key_columns, value_columns}
 use Rattle.ksql_rules.specs.Breaks.{group_exprs, is_grouped}

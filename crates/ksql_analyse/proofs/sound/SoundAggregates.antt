@@ -21,7 +21,7 @@ use Rattle.ksql_expr.specs.declared.typed.TypedNode.TheVariants as n
 use Rattle.ksql_expr.specs.declared.typed.TypedNode.TheOpen.{TypedNode-F}
 use Rattle.ksql_expr.specs.Rules.{agg_type}
 use Rattle.ksql_expr.specs.Typing as w
-use Rattle.ksql_expr.specs.Typing.{HasTypes, of}
+use Rattle.ksql_expr.specs.Typing.{HasTypes}
 use Rattle.ksql_program.specs.declared.query.Agg.{Agg}
 use Rattle.ksql_types.specs.Names.{is_among}
 use Rattle.ksql_program.specs.Sound.{IsAggOver, IsOverTable, IsArgument, IsSoundOver, argument_type}

@@ -1,4 +1,4 @@
-use Rattle.std.proofs.Common.{◌≡◌, ◌∙◌, ◌∷◌, [], Option, Some, Bor, refl, ap, subst, sym}
+use Rattle.std.proofs.Common.{◌∙◌, Some, Bor, refl, ap, subst, sym}
 use Rattle.std.specs.Prelude.{option_map}
 use Rattle.std.proofs.lemmas.Option.{same_Some}
 use Rattle.ksql_expressions.specs.declared.tree.Expr.{Expr}

@@ -1,4 +1,4 @@
-use Rattle.std.proofs.Common.{◌∙◌, List, [], arith, ap, map, subst, sym, refl}
+use Rattle.std.proofs.Common.{[], arith, ap, map, subst, sym}
 use Rattle.std.proofs.lemmas.List.Elements.{All-get_or}
 use Rattle.ksql_expr.specs.declared.typed.Typed.{Typed}
 use Rattle.ksql_typing.proofs.OneTyping.{one-tree}

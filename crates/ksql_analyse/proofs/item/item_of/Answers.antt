@@ -1,4 +1,4 @@
-use Rattle.std.proofs.Common.{◌≡◌, ◌<◌, ◌^◌, subst, sym, ap, ◌∙◌}
+use Rattle.std.proofs.Common.{subst}
 use Rattle.ksql_rules.specs.Bodies.{IsBodyOf}
 use Rattle.ksql_analyse.proofs.accepted.ItemNeeds.{accepted-query, few-declared}
 use Rattle.ksql_analyse.proofs.item.item_of.Goals as goal

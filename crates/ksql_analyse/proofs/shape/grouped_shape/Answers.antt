@@ -1,4 +1,4 @@
-use Rattle.std.proofs.Common.{◌≡◌, ◌∙◌, ◌+◌, ◌^◌, ◌≤◌, All, List, Option, length, ap, ap₂, arith, map, subst, sym}
+use Rattle.std.proofs.Common.{◌∙◌, ◌+◌, ◌^◌, ◌≤◌, All, List, Option, length, ap, ap₂, arith, map, subst, sym}
 use denote.Bor.{Bor}
 use Rattle.ksql_expressions.specs.declared.tree.Expr.{Expr}
 use Rattle.ksql_names.specs.declared.scope.Scope.{Scope}
