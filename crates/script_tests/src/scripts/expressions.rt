@@ -4,8 +4,7 @@ use ksql_grammar::{
     Keyword, Symbol, behind_key, behind_sign, name_of, read_expression, read_expressions, type_of,
 };
 use ksql_lexer::Mark;
-use ksql_statements::{ColumnText, ColumnTexts, KeyMark};
-use ksql_types::{CopyOf, Items, SqlType};
+use ksql_types::{CopyOf, SqlType};
 use std::alloc::Global;
 use std::test::Fail;
 
@@ -151,18 +150,5 @@ fn expressions_names_and_types(rt: HostRuntime) -> Result<(), Fail> {
     let word = symbol(alloc, "STRING")?;
     assert!(rt; type_of(&word) == Some(SqlType::Text));
     assert_eq!(rt; name_of(&word).map(|name| name.items()), Some("STRING"));
-    Ok(())
-}
-
-#[test]
-fn columns_are_copied(rt: HostRuntime) -> Result<(), Fail> {
-    let alloc = rt.alloc();
-    let column = ColumnText {
-        name: chars(alloc, "A")?,
-        ty: SqlType::Int,
-        mark: KeyMark::Key,
-    };
-    let columns: ColumnTexts = Items::of(vec![in alloc; column]?);
-    assert_eq!(rt; columns.copy(alloc)?.items().len(), 1);
     Ok(())
 }
