@@ -5,10 +5,10 @@ use Rattle.ksql_words.specs.declared.asked.Command.{Command}
 use Rattle.ksql_cli.specs.Command.{IsDueFor}
 use Rattle.ksql_cli.proofs.headline.whole_text.Goals as goal
 
-pub returns-in-Ok-Run-clause-reads : goal.returns-in-Ok-Run-clause-reads
-returns-in-Ok-Run-clause-reads g c =
+pub returns-in-Run-clause-reads : goal.returns-in-Run-clause-reads
+returns-in-Run-clause-reads g c =
     let old = g.F.Folder.failed c.args.folder.now in
     let new = g.F.Folder.failed c.reported.new.folder in
     subst (λ (o : Option Command). IfSome (g.F.Folder.files c.args.folder.now)
     (λ all. (names : List (List ℕ)) × (new ≡ old ++ names) × AllByRecursion (λ name. IsDueFor o all name) names))
-    (sym (c.in-Ok-Run.ensures.read ∙ ap Some c.in-Ok-Run.field-0-is)) c.reported.ensures.reads
+    (sym (c.in_ok-script.ensures.read ∙ ap Some c.in-Run.is)) c.reported.ensures.reads

@@ -1,4 +1,5 @@
 use Rattle.std.proofs.Common.{◌∙◌, List, subst, sym}
+use Rattle.std.proofs.lemmas.Result.{err_from_is_err_and}
 use Rattle.std.specs.Prelude.{All}
 use Rattle.ksql_program.specs.declared.program.Item.{Item}
 use Rattle.ksql_cli.specs.Run.{declared_of}
@@ -11,7 +12,7 @@ use Rattle.ksql_cli.proofs.run.run.Goals as goal
 
 pub read_topics-requires-clause-feedable : goal.read_topics-requires-clause-feedable
 read_topics-requires-clause-feedable g c =
-    subst (λ (items : List Item). All IsFeedable (declared_of items)) (sym c.items-2.ensures) (feedable c.in-Ok.program.items c.in-Ok.ensures.sound)
+    subst (λ (items : List Item). All IsFeedable (declared_of items)) (sym c.items-2.ensures) (feedable c.in_ok-program.program.items c.in_ok-program.ensures.sound)
 
 pub read_topics-requires-clause-few : goal.read_topics-requires-clause-few
 read_topics-requires-clause-few g c = whole_few c.whole_room.result c.whole_room.ensures
@@ -19,85 +20,89 @@ read_topics-requires-clause-few g c = whole_few c.whole_room.result c.whole_room
 pub read_topics-requires-clause-short : goal.read_topics-requires-clause-short
 read_topics-requires-clause-short g c = whole_short c.whole_room.result c.whole_room.ensures
 
-pub returns-in-Err-read_topics-clause-cause : goal.returns-in-Err-read_topics-clause-cause
-returns-in-Err-read_topics-clause-cause g c =
+pub returns-in_err-files-clause-cause : goal.returns-in_err-files-clause-cause
+returns-in_err-files-clause-cause g c =
     let old = g.F.Folder.failed c.args.folder.now in
     let mid = g.F.Folder.failed c.accepted_program.new.folder in
-    topics-cause c.args.asked.now (g.F.Folder.files c.args.folder.now) c.in-Ok.program c.items.result.now c.items.ensures.value c.in-Ok.ensures.read
-    (g.F.Folder.files c.accepted_program.new.folder) c.in-Ok.ensures.same_files c.items-2.result.now c.items-2.ensures c.items-topics.result.now c.items-topics.ensures.value
-    c.whole_room.result c.whole_room.ensures old mid (g.F.Folder.failed c.read_topics.new.folder) c.in-Err-read_topics.status
-    (may-grow old mid c.items.result.now c.in-Ok.ensures.grows) c.in-Err-read_topics.ensures.cause
+    let p = err_from_is_err_and c.from_residual-in_err-files.result c.from_residual-in_err-files.ensures.1 in
+    rw (p.1, p.2) (topics-cause c.args.asked.now (g.F.Folder.files c.args.folder.now) c.in_ok-program.program c.items.result.now c.items.ensures.value c.in_ok-program.ensures.read
+    (g.F.Folder.files c.accepted_program.new.folder) c.in_ok-program.ensures.same_files c.items-2.result.now c.items-2.ensures c.items-topics.result.now c.items-topics.ensures.value
+    c.whole_room.result c.whole_room.ensures old mid (g.F.Folder.failed c.read_topics.new.folder) c.in_err-files.field-0.0
+    (may-grow old mid c.items.result.now c.in_ok-program.ensures.grows) c.in_err-files.ensures.cause)
 
-pub returns-in-Err-read_topics-clause-joined : goal.returns-in-Err-read_topics-clause-joined
-returns-in-Err-read_topics-clause-joined g c =
+pub returns-in_err-files-clause-joined : goal.returns-in_err-files-clause-joined
+returns-in_err-files-clause-joined g c =
     let old = g.F.Folder.failed c.args.folder.now in
     let mid = g.F.Folder.failed c.accepted_program.new.folder in
-    later-joined old mid (g.F.Folder.failed c.read_topics.new.folder) c.in-Err-read_topics.status (may-grow old mid c.items.result.now c.in-Ok.ensures.grows)
-    c.in-Err-read_topics.ensures.joined
+    let p = err_from_is_err_and c.from_residual-in_err-files.result c.from_residual-in_err-files.ensures.1 in
+    rw (p.1, p.2) (later-joined old mid (g.F.Folder.failed c.read_topics.new.folder) c.in_err-files.field-0.0 (may-grow old mid c.items.result.now c.in_ok-program.ensures.grows)
+    c.in_err-files.ensures.joined)
 
-pub returns-in-Err-read_topics-clause-reads : goal.returns-in-Err-read_topics-clause-reads
-returns-in-Err-read_topics-clause-reads g c =
-    topics-due c.args.asked.now (g.F.Folder.files c.args.folder.now) c.in-Ok.program c.items.result.now c.items.ensures.value c.in-Ok.ensures.read
-    (g.F.Folder.files c.accepted_program.new.folder) c.in-Ok.ensures.same_files c.items-2.result.now c.items-2.ensures c.items-topics.result.now c.items-topics.ensures.value
+pub returns-in_err-files-clause-reads : goal.returns-in_err-files-clause-reads
+returns-in_err-files-clause-reads g c =
+    topics-due c.args.asked.now (g.F.Folder.files c.args.folder.now) c.in_ok-program.program c.items.result.now c.items.ensures.value c.in_ok-program.ensures.read
+    (g.F.Folder.files c.accepted_program.new.folder) c.in_ok-program.ensures.same_files c.items-2.result.now c.items-2.ensures c.items-topics.result.now c.items-topics.ensures.value
     c.whole_room.result c.whole_room.ensures (g.F.Folder.failed c.args.folder.now) (g.F.Folder.failed c.accepted_program.new.folder) (g.F.Folder.failed c.read_topics.new.folder)
-    c.in-Ok.ensures.grows c.in-Err-read_topics.ensures.reads
+    c.in_ok-program.ensures.grows c.in_err-files.ensures.reads
 
-pub returns-in-Err-schedule_of-clause-cause : goal.returns-in-Err-schedule_of-clause-cause
-returns-in-Err-schedule_of-clause-cause g c =
-    let old = g.F.Folder.failed c.args.folder.now in
-    let mid = g.F.Folder.failed c.accepted_program.new.folder in
-    let then = g.F.Folder.failed c.read_topics.new.folder in
-    schedule-cause c.args.asked.now (g.F.Folder.files c.args.folder.now) c.in-Ok.program c.in-Ok-read_topics.files.items
-    (files-read c.args.asked.now (g.F.Folder.files c.args.folder.now) c.in-Ok.program c.items.result.now c.items.ensures.value c.in-Ok.ensures.read
-    (g.F.Folder.files c.accepted_program.new.folder) c.in-Ok.ensures.same_files c.items-2.result.now c.items-2.ensures c.items-topics.result.now c.items-topics.ensures.value
-    c.whole_room.result c.whole_room.ensures c.new.result.items c.in-Ok-read_topics.files.items c.new.ensures.items c.in-Ok-read_topics.ensures.found)
-    (g.F.Folder.files c.read_topics.new.folder) (c.in-Ok-read_topics.ensures.same_files ∙ c.in-Ok.ensures.same_files)
-    old then (g.F.Folder.failed c.schedule_of.new.folder) c.in-Err-schedule_of.status
-    (grown-both old mid then (may-grow old mid c.items.result.now c.in-Ok.ensures.grows) c.in-Ok-read_topics.ensures.grows) c.in-Err-schedule_of.ensures.cause
-
-pub returns-in-Err-schedule_of-clause-joined : goal.returns-in-Err-schedule_of-clause-joined
-returns-in-Err-schedule_of-clause-joined g c =
+pub returns-in_err-schedule-clause-cause : goal.returns-in_err-schedule-clause-cause
+returns-in_err-schedule-clause-cause g c =
     let old = g.F.Folder.failed c.args.folder.now in
     let mid = g.F.Folder.failed c.accepted_program.new.folder in
     let then = g.F.Folder.failed c.read_topics.new.folder in
-    later-joined old then (g.F.Folder.failed c.schedule_of.new.folder) c.in-Err-schedule_of.status
-    (grown-both old mid then (may-grow old mid c.items.result.now c.in-Ok.ensures.grows) c.in-Ok-read_topics.ensures.grows) c.in-Err-schedule_of.ensures.joined
+    let p = err_from_is_err_and c.from_residual-in_err-schedule.result c.from_residual-in_err-schedule.ensures.1 in
+    rw (p.1, p.2) (schedule-cause c.args.asked.now (g.F.Folder.files c.args.folder.now) c.in_ok-program.program c.in_ok-files.files.items
+    (files-read c.args.asked.now (g.F.Folder.files c.args.folder.now) c.in_ok-program.program c.items.result.now c.items.ensures.value c.in_ok-program.ensures.read
+    (g.F.Folder.files c.accepted_program.new.folder) c.in_ok-program.ensures.same_files c.items-2.result.now c.items-2.ensures c.items-topics.result.now c.items-topics.ensures.value
+    c.whole_room.result c.whole_room.ensures c.new.result.items c.in_ok-files.files.items c.new.ensures.items c.in_ok-files.ensures.found)
+    (g.F.Folder.files c.read_topics.new.folder) (c.in_ok-files.ensures.same_files ∙ c.in_ok-program.ensures.same_files)
+    old then (g.F.Folder.failed c.schedule_of.new.folder) c.in_err-schedule.field-0.0
+    (grown-both old mid then (may-grow old mid c.items.result.now c.in_ok-program.ensures.grows) c.in_ok-files.ensures.grows) c.in_err-schedule.ensures.cause)
 
-pub returns-in-Err-schedule_of-clause-reads : goal.returns-in-Err-schedule_of-clause-reads
-returns-in-Err-schedule_of-clause-reads g c =
-    schedule-due c.args.asked.now (g.F.Folder.files c.args.folder.now) c.in-Ok.program c.in-Ok-read_topics.files.items
-    (files-read c.args.asked.now (g.F.Folder.files c.args.folder.now) c.in-Ok.program c.items.result.now c.items.ensures.value c.in-Ok.ensures.read
-    (g.F.Folder.files c.accepted_program.new.folder) c.in-Ok.ensures.same_files c.items-2.result.now c.items-2.ensures c.items-topics.result.now c.items-topics.ensures.value
-    c.whole_room.result c.whole_room.ensures c.new.result.items c.in-Ok-read_topics.files.items c.new.ensures.items c.in-Ok-read_topics.ensures.found)
-    (g.F.Folder.failed c.args.folder.now) (g.F.Folder.failed c.read_topics.new.folder) (g.F.Folder.failed c.schedule_of.new.folder)
-    (topics-due c.args.asked.now (g.F.Folder.files c.args.folder.now) c.in-Ok.program c.items.result.now c.items.ensures.value c.in-Ok.ensures.read
-    (g.F.Folder.files c.accepted_program.new.folder) c.in-Ok.ensures.same_files c.items-2.result.now c.items-2.ensures c.items-topics.result.now c.items-topics.ensures.value
-    c.whole_room.result c.whole_room.ensures (g.F.Folder.failed c.args.folder.now) (g.F.Folder.failed c.accepted_program.new.folder) (g.F.Folder.failed c.read_topics.new.folder)
-    c.in-Ok.ensures.grows c.in-Ok-read_topics.ensures.reads)
-    c.in-Err-schedule_of.ensures.grows
+pub returns-in_err-schedule-clause-joined : goal.returns-in_err-schedule-clause-joined
+returns-in_err-schedule-clause-joined g c =
+    let old = g.F.Folder.failed c.args.folder.now in
+    let mid = g.F.Folder.failed c.accepted_program.new.folder in
+    let then = g.F.Folder.failed c.read_topics.new.folder in
+    let p = err_from_is_err_and c.from_residual-in_err-schedule.result c.from_residual-in_err-schedule.ensures.1 in
+    rw (p.1, p.2) (later-joined old then (g.F.Folder.failed c.schedule_of.new.folder) c.in_err-schedule.field-0.0
+    (grown-both old mid then (may-grow old mid c.items.result.now c.in_ok-program.ensures.grows) c.in_ok-files.ensures.grows) c.in_err-schedule.ensures.joined)
 
-pub returns-in-Ok-driven-clause-reads : goal.returns-in-Ok-driven-clause-reads
-returns-in-Ok-driven-clause-reads g c =
-    schedule-due c.args.asked.now (g.F.Folder.files c.args.folder.now) c.in-Ok.program c.in-Ok-read_topics.files.items
-    (files-read c.args.asked.now (g.F.Folder.files c.args.folder.now) c.in-Ok.program c.items.result.now c.items.ensures.value c.in-Ok.ensures.read
-    (g.F.Folder.files c.accepted_program.new.folder) c.in-Ok.ensures.same_files c.items-2.result.now c.items-2.ensures c.items-topics.result.now c.items-topics.ensures.value
-    c.whole_room.result c.whole_room.ensures c.new.result.items c.in-Ok-read_topics.files.items c.new.ensures.items c.in-Ok-read_topics.ensures.found)
+pub returns-in_err-schedule-clause-reads : goal.returns-in_err-schedule-clause-reads
+returns-in_err-schedule-clause-reads g c =
+    schedule-due c.args.asked.now (g.F.Folder.files c.args.folder.now) c.in_ok-program.program c.in_ok-files.files.items
+    (files-read c.args.asked.now (g.F.Folder.files c.args.folder.now) c.in_ok-program.program c.items.result.now c.items.ensures.value c.in_ok-program.ensures.read
+    (g.F.Folder.files c.accepted_program.new.folder) c.in_ok-program.ensures.same_files c.items-2.result.now c.items-2.ensures c.items-topics.result.now c.items-topics.ensures.value
+    c.whole_room.result c.whole_room.ensures c.new.result.items c.in_ok-files.files.items c.new.ensures.items c.in_ok-files.ensures.found)
     (g.F.Folder.failed c.args.folder.now) (g.F.Folder.failed c.read_topics.new.folder) (g.F.Folder.failed c.schedule_of.new.folder)
-    (topics-due c.args.asked.now (g.F.Folder.files c.args.folder.now) c.in-Ok.program c.items.result.now c.items.ensures.value c.in-Ok.ensures.read
-    (g.F.Folder.files c.accepted_program.new.folder) c.in-Ok.ensures.same_files c.items-2.result.now c.items-2.ensures c.items-topics.result.now c.items-topics.ensures.value
+    (topics-due c.args.asked.now (g.F.Folder.files c.args.folder.now) c.in_ok-program.program c.items.result.now c.items.ensures.value c.in_ok-program.ensures.read
+    (g.F.Folder.files c.accepted_program.new.folder) c.in_ok-program.ensures.same_files c.items-2.result.now c.items-2.ensures c.items-topics.result.now c.items-topics.ensures.value
     c.whole_room.result c.whole_room.ensures (g.F.Folder.failed c.args.folder.now) (g.F.Folder.failed c.accepted_program.new.folder) (g.F.Folder.failed c.read_topics.new.folder)
-    c.in-Ok.ensures.grows c.in-Ok-read_topics.ensures.reads)
-    c.in-Ok-schedule_of.ensures.grows
+    c.in_ok-program.ensures.grows c.in_ok-files.ensures.reads)
+    c.in_err-schedule.ensures.grows
 
-pub returns-in-Err-driven-clause-reads : goal.returns-in-Err-driven-clause-reads
-returns-in-Err-driven-clause-reads g c =
-    schedule-due c.args.asked.now (g.F.Folder.files c.args.folder.now) c.in-Ok.program c.in-Ok-read_topics.files.items
-    (files-read c.args.asked.now (g.F.Folder.files c.args.folder.now) c.in-Ok.program c.items.result.now c.items.ensures.value c.in-Ok.ensures.read
-    (g.F.Folder.files c.accepted_program.new.folder) c.in-Ok.ensures.same_files c.items-2.result.now c.items-2.ensures c.items-topics.result.now c.items-topics.ensures.value
-    c.whole_room.result c.whole_room.ensures c.new.result.items c.in-Ok-read_topics.files.items c.new.ensures.items c.in-Ok-read_topics.ensures.found)
+pub returns-clause-reads : goal.returns-clause-reads
+returns-clause-reads g c =
+    schedule-due c.args.asked.now (g.F.Folder.files c.args.folder.now) c.in_ok-program.program c.in_ok-files.files.items
+    (files-read c.args.asked.now (g.F.Folder.files c.args.folder.now) c.in_ok-program.program c.items.result.now c.items.ensures.value c.in_ok-program.ensures.read
+    (g.F.Folder.files c.accepted_program.new.folder) c.in_ok-program.ensures.same_files c.items-2.result.now c.items-2.ensures c.items-topics.result.now c.items-topics.ensures.value
+    c.whole_room.result c.whole_room.ensures c.new.result.items c.in_ok-files.files.items c.new.ensures.items c.in_ok-files.ensures.found)
     (g.F.Folder.failed c.args.folder.now) (g.F.Folder.failed c.read_topics.new.folder) (g.F.Folder.failed c.schedule_of.new.folder)
-    (topics-due c.args.asked.now (g.F.Folder.files c.args.folder.now) c.in-Ok.program c.items.result.now c.items.ensures.value c.in-Ok.ensures.read
-    (g.F.Folder.files c.accepted_program.new.folder) c.in-Ok.ensures.same_files c.items-2.result.now c.items-2.ensures c.items-topics.result.now c.items-topics.ensures.value
+    (topics-due c.args.asked.now (g.F.Folder.files c.args.folder.now) c.in_ok-program.program c.items.result.now c.items.ensures.value c.in_ok-program.ensures.read
+    (g.F.Folder.files c.accepted_program.new.folder) c.in_ok-program.ensures.same_files c.items-2.result.now c.items-2.ensures c.items-topics.result.now c.items-topics.ensures.value
     c.whole_room.result c.whole_room.ensures (g.F.Folder.failed c.args.folder.now) (g.F.Folder.failed c.accepted_program.new.folder) (g.F.Folder.failed c.read_topics.new.folder)
-    c.in-Ok.ensures.grows c.in-Ok-read_topics.ensures.reads)
-    c.in-Ok-schedule_of.ensures.grows
+    c.in_ok-program.ensures.grows c.in_ok-files.ensures.reads)
+    c.in_ok-schedule.ensures.grows
+
+pub returns-in_err-cluster-clause-reads : goal.returns-in_err-cluster-clause-reads
+returns-in_err-cluster-clause-reads g c =
+    schedule-due c.args.asked.now (g.F.Folder.files c.args.folder.now) c.in_ok-program.program c.in_ok-files.files.items
+    (files-read c.args.asked.now (g.F.Folder.files c.args.folder.now) c.in_ok-program.program c.items.result.now c.items.ensures.value c.in_ok-program.ensures.read
+    (g.F.Folder.files c.accepted_program.new.folder) c.in_ok-program.ensures.same_files c.items-2.result.now c.items-2.ensures c.items-topics.result.now c.items-topics.ensures.value
+    c.whole_room.result c.whole_room.ensures c.new.result.items c.in_ok-files.files.items c.new.ensures.items c.in_ok-files.ensures.found)
+    (g.F.Folder.failed c.args.folder.now) (g.F.Folder.failed c.read_topics.new.folder) (g.F.Folder.failed c.schedule_of.new.folder)
+    (topics-due c.args.asked.now (g.F.Folder.files c.args.folder.now) c.in_ok-program.program c.items.result.now c.items.ensures.value c.in_ok-program.ensures.read
+    (g.F.Folder.files c.accepted_program.new.folder) c.in_ok-program.ensures.same_files c.items-2.result.now c.items-2.ensures c.items-topics.result.now c.items-topics.ensures.value
+    c.whole_room.result c.whole_room.ensures (g.F.Folder.failed c.args.folder.now) (g.F.Folder.failed c.accepted_program.new.folder) (g.F.Folder.failed c.read_topics.new.folder)
+    c.in_ok-program.ensures.grows c.in_ok-files.ensures.reads)
+    c.in_ok-schedule.ensures.grows
