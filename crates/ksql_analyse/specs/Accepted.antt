@@ -30,7 +30,7 @@ pub record IsAcceptedQuery (st : Statement) (ps : List Property) (f : Findings) 
   pub few_partitions : unwrap_or (partitions_in ps) 1 < 2 ^ 32
   pub topic_there : is_some (value_of (codes "KAFKA_TOPIC") ps) ≡ true → is_some (topic_in ps) ≡ true
 
--- a shape, and that its trees are those of the columns
+-- a shape that is so, with a tree that has a type for each column
 pub record IsMade (q : Select) (ks : List Known) (made : Shape) : Type 0 where
   pub is : IsShape q ks made
   pub keyed : AreColumnTrees (key_columns q ks) (shape_keys made)

@@ -20,7 +20,7 @@ exit_code (ReadFault name) = 6
 exit_code WriteFault = 7
 exit_code OutOfMemory = 8
 
--- why words are no command, a script has no program and a schedule no steps
+-- the status of each fault of words, of a script and of a schedule
 abbrev pub of_words : WordsFault → Status
 of_words words.Usage = Usage
 of_words words.OutOfMemory = OutOfMemory

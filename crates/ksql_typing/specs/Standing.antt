@@ -1,7 +1,7 @@
--- What stands for an expression: a typed tree, by one rule for each form. Digits, texts and truth values become literals,
+-- What stands for an expression: a typed tree, by rules for each form. Digits, texts, truth values and NULL become literals,
 -- names what they stand for, calls their functions, and every other form the form of the same name with the same parts,
--- with the type that the rules give of the types of these. For a call of an unknown function anything stands, of every
--- type, that of NULL too, so an expression that holds one can have several types.
+-- with the type that the rules give of the types of these. For a call of an unknown function, whose arguments have types,
+-- anything stands, of every type, that of NULL too, so an expression that holds one can have several types.
 use Rattle.std.specs.Prelude.{◌≡◌, ℕ, Bool, true, false, nat_le, if◌then◌else◌, IsTrue, List, [], ◌∷◌, ◌++◌, map, Option, Some, None, option_map, pos}
 use Rattle.ksql_types.specs.declared.operator.BinaryOp.{BinaryOp}
 use Rattle.ksql_types.specs.declared.value.SqlType.{SqlType}
@@ -45,7 +45,7 @@ abbrev pub with_otherwise : List (Option SqlType) → Option (Option SqlType) �
 with_otherwise results None = results
 with_otherwise results (Some t) = results ++ t ∷ []
 
--- the type of a CASE, of those of its parts
+-- the type of a CASE, from the types of its parts
 abbrev pub type_of_case : Option Typed → List TypedWhen → Option Typed → Option (Option SqlType)
 type_of_case x ws z =
     case_type (option_map (λ e. e.ty) x) (map (λ w. w.cond.ty) ws) (with_otherwise (map (λ w. w.result.ty) ws) (option_map (λ e. e.ty) z))
