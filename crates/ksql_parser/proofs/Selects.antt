@@ -18,7 +18,7 @@ use Rattle.ksql_grammar.specs.Expressions.{behind_key}
 use Rattle.ksql_expressions.specs.Options.{◌>>=◌}
 use Rattle.ksql_parser.specs.declared.statement.queries.Front.{Front}
 use Rattle.ksql_parser.specs.declared.statement.queries.Clauses.{Clauses}
-use Rattle.ksql_parser.specs.Queries.{SpellsFront, SpellsClauses}
+use Rattle.ksql_parser.specs.Queries.{SpellsFront, SpellsClauses, select_of}
 use Rattle.ksql_parser.specs.Statements as r
 use Rattle.ksql_parser.specs.Statements.{BeginsFrom, place_of}
 use Rattle.ksql_parser.proofs.Steps.{behind, word_there, bind_is}
@@ -146,11 +146,11 @@ pub clauses_read : (c : Clauses) (f : Option Expr) (es : List Expr) (p h : Optio
 clauses_read c f es p h us vs a b d e k = λ i. let x : Clauses = record { filter = a i; group = b i; partition = d i; having = e i } in both x (k i)
 
 pub select_found : (f : Front) (c : Clauses) (ts us vs : List Symbol) → SpellsFront f ts us → SpellsClauses c us vs
-    → Spells (g.select (record { items = f.items; source = f.source; join = f.join; window = f.window; filter = c.filter; group = c.group; partition = c.partition; having = c.having })) ts (r.emit vs)
+    → Spells (g.select (select_of f c)) ts (r.emit vs)
 select_found f c ts us vs h k = behind h.4 (g.a_select h.5 h.6 h.7 h.8 k.3 k.4 k.5 k.6 (emit_found vs))
 
 pub select_read : (q : Select) (f : Front) (c : Clauses) (us vs rest : List Symbol) → front_of q ≡ f → clauses_of q ≡ c → us ≡ vs → r.emit us ≡ [] → rest ≡ r.emit vs
-    → both q [] ≡ both (record { items = f.items; source = f.source; join = f.join; window = f.window; filter = c.filter; group = c.group; partition = c.partition; having = c.having }) rest
+    → both q [] ≡ both (select_of f c) rest
 select_read q f c us vs rest a b e k m =
     let same : [] ≡ rest = sym (m ∙ ap r.emit (sym e) ∙ k) in
-    (λ i. let x : Select = record { items = (a i).items; source = (a i).source; join = (a i).join; window = (a i).window; filter = (b i).filter; group = (b i).group; partition = (b i).partition; having = (b i).having } in both x (same i))
+    (λ i. both (select_of (a i) (b i)) (same i))

@@ -4,6 +4,7 @@ use Rattle.ksql_grammar.specs.declared.symbol.Keyword.{Keyword}
 use Rattle.ksql_grammar.specs.declared.symbol.Keyword.TheVariants as key
 use Rattle.ksql_grammar.specs.declared.symbol.Symbol.{Symbol}
 use Rattle.ksql_grammar.specs.declared.symbol.Symbol.TheVariants.{Key}
+use Rattle.ksql_statements.specs.declared.tree.Select.{Select}
 use Rattle.ksql_parser.specs.Grammar.{Spells, items, source, joined, windowed, filter, group, partition, having}
 use Rattle.ksql_grammar.specs.Expressions.{behind_key}
 use Rattle.ksql_parser.specs.Statements.{behind_or_here}
@@ -19,6 +20,10 @@ SpellsFront f ts us = (s0 s1 s2 s3 : List Symbol) × (ts ≡ Key key.Select ∷ 
 abbrev pub SpellsClauses : Clauses → List Symbol → List Symbol → Type 0
 SpellsClauses c ts us = (s0 s1 s2 : List Symbol) × Spells (filter c.filter) ts s0 × Spells (group c.group) s0 s1
     × Spells (partition c.partition) s1 s2 × Spells (having c.having) s2 us
+
+-- the query of two halves
+abbrev pub select_of : Front → Clauses → Select
+select_of f c = record { items = f.items; source = f.source; join = f.join; window = f.window; filter = c.filter; group = c.group; partition = c.partition; having = c.having }
 
 -- after JOIN, before which this word may stand
 unfoldable pub behind_join : Keyword → List Symbol → Option (List Symbol)

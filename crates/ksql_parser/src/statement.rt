@@ -1,4 +1,5 @@
-//! Statements.
+//! Statements. A tree that is let go is given to `drop`: the check goes through such a call once, but through every form of a
+//! local tree that ends with its block.
 
 ghost use Rattle.std.specs.Prelude.{◌≡◌, List, [], ◌∷◌, Some, IfOk, option_map};
 ghost use Rattle.ksql_lexer.specs.declared.token.Mark.TheVariants as mark;
@@ -93,6 +94,7 @@ pub(crate) fn read_statement(alloc: Global, symbols: &[Symbol]) -> Result<Statem
     let ((table, name), rest) = head(alloc, symbols)?;
     let (body, rest) = body(alloc, rest)?;
     if !rest.is_empty() {
+        drop(body);
         return Err(ReadError::Unspelled);
     }
     Ok(Statement { table, name, body })

@@ -1,12 +1,14 @@
-//! The clauses of a query, each where it is there. A clause ends where nothing stands, or a later clause.
+//! The clauses of a query, each where it is there. A clause ends where nothing stands, or a later clause. Their trees are
+//! held as `Boxed`: the check goes once through one that is let go, but through every form of an `Expr`.
 
 ghost use Rattle.std.specs.Prelude.{◌≡◌, List, Option, Some, IfOk};
 ghost use Rattle.std.specs.Option.{option_copied};
 ghost use Rattle.ksql_grammar.specs.declared.symbol.Symbol.{Symbol as OneSymbol};
 ghost use Rattle.ksql_expressions.specs.declared.tree.Expr.{Expr as Tree};
+ghost use Rattle.ksql_grammar.specs.Grammar.{Spells as SpellsExpr, at, expr};
 ghost use Rattle.ksql_statements.specs.declared.tree.JoinText.{JoinText as OneJoin};
 ghost use Rattle.ksql_parser.specs.Grammar.{Spells, joined, filter, group, partition, having};
-ghost use Rattle.ksql_grammar.specs.Reading.{Gives, with_rest, option_with_rest};
+ghost use Rattle.ksql_grammar.specs.Reading.{EndsExpr, Gives, with_rest, option_with_rest};
 ghost use Rattle.ksql_parser.specs.Queries as query;
 ghost use Rattle.ksql_parser.specs.Statements.{BeginsFrom};
 ghost use Rattle.ksql_parser.specs.Statements as part;
@@ -15,8 +17,21 @@ use crate::statement::step::{alias, behind_by, behind_word, key, name};
 use ksql_expressions::{Expr, ExprTexts};
 use ksql_grammar::{Keyword, ReadError, Symbol, behind_key, read_expression, read_expressions};
 use ksql_statements::{JoinText, JoinWord, Source};
-use ksql_types::{CopyOf, Items};
+use ksql_types::{Boxed, CopyOf, Items};
 use std::alloc::Global;
+
+/// An expression, and the symbols after it.
+fn boxed_expression(
+    alloc: Global,
+    symbols: &[Symbol],
+) -> Result<(Boxed<Expr>, &[Symbol]), ReadError>
+    ensures found { IfOk result (λ x. SpellsExpr (at expr x.0) symbols.now x.1.now) }
+    ensures only { (e : Tree) (rest : List OneSymbol) → SpellsExpr (at expr e) symbols.now rest → EndsExpr rest
+        → Gives with_rest result (Some (e, rest)) }
+{
+    let (expr, rest) = read_expression(alloc, symbols)?;
+    Ok((Boxed::of(alloc, expr)?, rest))
+}
 
 /// A relation and its alias.
 #[tactic(auto, unfolding(crate::specs::Statements::source))]
@@ -59,7 +74,7 @@ fn join_words(symbols: &[Symbol]) -> Option<(JoinWord, &[Symbol])>
 pub(crate) fn read_join(
     alloc: Global,
     symbols: &[Symbol],
-) -> Result<(Option<JoinText>, &[Symbol]), ReadError>
+) -> Result<(Option<Boxed<JoinText>>, &[Symbol]), ReadError>
     ensures found { IfOk result (λ x. Spells (joined x.0) symbols.now x.1.now) }
     ensures only { (j : Option OneJoin) (rest : List OneSymbol) → Spells (joined j) symbols.now rest → BeginsFrom 2 rest
         → Gives with_rest result (Some (j, rest)) }
@@ -70,13 +85,14 @@ pub(crate) fn read_join(
     let (source, rest) = read_source(alloc, rest)?;
     let rest = key(Keyword::On, rest)?;
     let (on, rest) = read_expression(alloc, rest)?;
-    Ok((Some(JoinText { kind, source, on }), rest))
+    let join = Boxed::of(alloc, JoinText { kind, source, on })?;
+    Ok((Some(join), rest))
 }
 
 pub(crate) fn read_filter(
     alloc: Global,
     symbols: &[Symbol],
-) -> Result<(Option<Expr>, &[Symbol]), ReadError>
+) -> Result<(Option<Boxed<Expr>>, &[Symbol]), ReadError>
     ensures found { IfOk result (λ x. Spells (filter x.0) symbols.now x.1.now) }
     ensures only { (f : Option Tree) (rest : List OneSymbol) → Spells (filter f) symbols.now rest → BeginsFrom 4 rest
         → Gives with_rest result (Some (f, rest)) }
@@ -84,7 +100,7 @@ pub(crate) fn read_filter(
     let Some(rest) = behind_key(Keyword::Where, symbols) else {
         return Ok((None, symbols));
     };
-    let (condition, rest) = read_expression(alloc, rest)?;
+    let (condition, rest) = boxed_expression(alloc, rest)?;
     Ok((Some(condition), rest))
 }
 
@@ -105,7 +121,7 @@ pub(crate) fn read_group(
 pub(crate) fn read_partition(
     alloc: Global,
     symbols: &[Symbol],
-) -> Result<(Option<Expr>, &[Symbol]), ReadError>
+) -> Result<(Option<Boxed<Expr>>, &[Symbol]), ReadError>
     ensures found { IfOk result (λ x. Spells (partition x.0) symbols.now x.1.now) }
     ensures only { (p : Option Tree) (rest : List OneSymbol) → Spells (partition p) symbols.now rest → BeginsFrom 6 rest
         → Gives with_rest result (Some (p, rest)) }
@@ -113,14 +129,14 @@ pub(crate) fn read_partition(
     let Some(rest) = behind_by(Keyword::Partition, symbols) else {
         return Ok((None, symbols));
     };
-    let (column, rest) = read_expression(alloc, rest)?;
+    let (column, rest) = boxed_expression(alloc, rest)?;
     Ok((Some(column), rest))
 }
 
 pub(crate) fn read_having(
     alloc: Global,
     symbols: &[Symbol],
-) -> Result<(Option<Expr>, &[Symbol]), ReadError>
+) -> Result<(Option<Boxed<Expr>>, &[Symbol]), ReadError>
     ensures found { IfOk result (λ x. Spells (having x.0) symbols.now x.1.now) }
     ensures only { (h : Option Tree) (rest : List OneSymbol) → Spells (having h) symbols.now rest → BeginsFrom 7 rest
         → Gives with_rest result (Some (h, rest)) }
@@ -128,7 +144,7 @@ pub(crate) fn read_having(
     let Some(rest) = behind_key(Keyword::Having, symbols) else {
         return Ok((None, symbols));
     };
-    let (condition, rest) = read_expression(alloc, rest)?;
+    let (condition, rest) = boxed_expression(alloc, rest)?;
     Ok((Some(condition), rest))
 }
 

@@ -11,6 +11,7 @@ ghost use Rattle.ksql_grammar.specs.Reading.{Gives, with_rest};
 ghost use Rattle.ksql_parser.specs.declared.statement.queries.Clauses.{Clauses as OneClauses};
 ghost use Rattle.ksql_parser.specs.declared.statement.queries.Front.{Front as OneFront};
 ghost use Rattle.ksql_parser.specs.Queries.{SpellsFront, SpellsClauses};
+ghost use Rattle.ksql_parser.specs.Queries as query;
 ghost use Rattle.ksql_parser.specs.Statements.{BeginsFrom, EndsItem, lent};
 ghost use Rattle.ksql_parser.specs.Statements as part;
 
@@ -23,11 +24,10 @@ use ksql_expressions::{Expr, ExprTexts};
 use ksql_grammar::{Keyword, ReadError, Symbol, behind_sign, read_expression};
 use ksql_lexer::Mark;
 use ksql_statements::{JoinText, Select, SelectItem, SelectItems, Source, WindowText};
-use ksql_types::{Chars, CopyOf, Items};
+use ksql_types::{Boxed, Chars, CopyOf, Items};
 use std::alloc::Global;
 
 /// The name before `. *`, and the symbols after.
-#[tactic(auto, unfolding(crate::specs::Statements::star_of))]
 fn behind_star_of(symbols: &[Symbol]) -> Option<(&Chars, &[Symbol])>
     ensures { option_map lent result ≡ part.star_of symbols.now }
 {
@@ -77,17 +77,17 @@ fn read_items(alloc: Global, symbols: &[Symbol]) -> Result<(SelectItems, &[Symbo
 struct Front {
     items: SelectItems,
     source: Source,
-    join: Option<JoinText>,
+    join: Option<Boxed<JoinText>>,
     window: Option<WindowText>,
 }
 
 /// What stands after the window of a query.
 #[derive(Drop)]
 struct Clauses {
-    filter: Option<Expr>,
+    filter: Option<Boxed<Expr>>,
     group: ExprTexts,
-    partition: Option<Expr>,
-    having: Option<Expr>,
+    partition: Option<Boxed<Expr>>,
+    having: Option<Boxed<Expr>>,
 }
 
 fn read_front(alloc: Global, symbols: &[Symbol]) -> Result<(Front, &[Symbol]), ReadError>
@@ -128,6 +128,31 @@ fn read_clauses(alloc: Global, symbols: &[Symbol]) -> Result<(Clauses, &[Symbol]
     Ok((clauses, rest))
 }
 
+fn unboxed<T>(part: Option<Boxed<T>>) -> Option<T>
+    ensures { result ≡ part }
+{
+    match part {
+        Some(part) => Some(part.into_inner()),
+        None => None,
+    }
+}
+
+/// The query of two halves.
+fn select_of(front: Front, clauses: Clauses) -> Select
+    ensures { result ≡ query.select_of front clauses }
+{
+    Select {
+        items: front.items,
+        source: front.source,
+        join: unboxed(front.join),
+        window: front.window,
+        filter: unboxed(clauses.filter),
+        group: clauses.group,
+        partition: unboxed(clauses.partition),
+        having: unboxed(clauses.having),
+    }
+}
+
 /// A query, which ends where nothing more stands.
 pub(crate) fn read_select(
     alloc: Global,
@@ -138,15 +163,5 @@ pub(crate) fn read_select(
 {
     let (front, rest) = read_front(alloc, symbols)?;
     let (clauses, rest) = read_clauses(alloc, rest)?;
-    let select = Select {
-        items: front.items,
-        source: front.source,
-        join: front.join,
-        window: front.window,
-        filter: clauses.filter,
-        group: clauses.group,
-        partition: clauses.partition,
-        having: clauses.having,
-    };
-    Ok((select, behind_emit(rest)))
+    Ok((select_of(front, clauses), behind_emit(rest)))
 }

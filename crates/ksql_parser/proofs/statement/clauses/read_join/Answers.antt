@@ -1,4 +1,4 @@
-use Rattle.std.proofs.Common.{◌≡◌, List, [], ◌∷◌, Option, Some, sym}
+use Rattle.std.proofs.Common.{◌≡◌, List, [], ◌∷◌, Option, Some, sym, ap, ◌∙◌, subst}
 use Rattle.std.specs.Borrow.{Bor}
 use Rattle.std.proofs.lemmas.Result.{err_from_is_err_and}
 use Rattle.ksql_grammar.specs.declared.symbol.Keyword.TheVariants as key
@@ -17,6 +17,7 @@ use Rattle.ksql_grammar.proofs.Found.{behind}
 use Rattle.ksql_parser.proofs.Steps.{along, failed, same_read}
 use Rattle.ksql_grammar.proofs.Steps.{if_some, key_found}
 use Rattle.ksql_parser.proofs.Found.{join_words_found, source_found}
+use Rattle.ksql_parser.proofs.Only.{both}
 use Rattle.ksql_parser.proofs.Calls.{failed_at, same_at}
 use Rattle.ksql_parser.proofs.Joins.{join_absent, join_there, join_read}
 use Rattle.ksql_parser.proofs.Selects.{key_is, same_key}
@@ -66,10 +67,11 @@ returns-clause-found c =
     let ts = c.args.symbols.now in
     let us = c.in-Some.rest.now in
     let vs = c.in_ok-source.rest.now in
-    a_join (words ts us c.in-Some.kind c.in-Some.ensures)
+    subst (λ j. Spells (g.joined (Some j)) ts c.in_ok-on.rest.now) (sym c.in_ok-join.ensures)
+    (a_join (words ts us c.in-Some.kind c.in-Some.ensures)
     (along (if_some (r.source us) (λ x. Spells (g.source x.0) us x.1) (c.in_ok-source.source, vs) (source_found us) c.in_ok-source.ensures)
     (if_some (behind_key key.On vs) (λ ws. vs ≡ Key key.On ∷ ws) c.in_ok-rest.rest.now (key_found key.On vs) c.in_ok-rest.ensures))
-    c.in_ok-on.ensures.found
+    c.in_ok-on.ensures.found)
 
 pub returns-clause-only : goal.returns-clause-only
 returns-clause-only c = λ j rest d b.
@@ -81,3 +83,4 @@ returns-clause-only c = λ j rest d b.
     let k = same_key key.On vs h.2 c.in_ok-rest.rest.now (sym s.1) c.in_ok-rest.ensures in
     let x = same_read (c.in_ok-on.on, c.in_ok-on.rest) h.1 rest (c.in_ok-on.ensures.only h.1 rest (behind (sym k) h.5) h.6) in
     join_read j c.in-Some.kind h.0 c.in_ok-source.source h.1 c.in_ok-on.on rest c.in_ok-on.rest.now h.3 s.0 x.0 x.1
+    ∙ ap (λ j. both (Some j) c.in_ok-on.rest.now) (sym c.in_ok-join.ensures)
