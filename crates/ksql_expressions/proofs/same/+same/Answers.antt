@@ -1,9 +1,9 @@
-use Rattle.std.proofs.Common.{◌≡◌, ◌&&◌, ◌∙◌, Bool, true, false, ap, map, sym}
+use Rattle.std.proofs.Common.{◌≡◌, ℕ, ◌&&◌, ◌∙◌, Bool, true, false, ap, map, sym}
 use Rattle.std.specs.Prelude.{bytes_eq, option_map}
 use Rattle.ksql_expressions.specs.Same.{same_expr, same_when_text, same_parts, same_part, same_truth, same_op, same_type}
 use Rattle.ksql_expressions.proofs.Sameness.{not-Digits, not-Text, not-Truth, not-Null, not-Name, not-Sign, not-Binary, not-Not, not-IsNull, not-Between, not-OneOf, not-Like, not-Cast, not-Case, not-Call, is-Name, is-Sign, is-Binary, is-IsNull, is-Between, is-OneOf, is-Like, is-Cast, is-Case, is-Call}
 use Rattle.ksql_expressions.proofs.same.+same.Goals as goal
-use Rattle.ksql_expressions.proofs.same.+same.Goals.{same_expr-then-same_op, same_expr-else-same_op, same_expr-then-same_truth-4, same_expr-else-same_truth-4, same_expr-then-same_truth-5, same_expr-else-same_truth-5, same_expr-then-same_perhaps, same_expr-else-same_perhaps, same_expr-then-same_truth-3, same_expr-else-same_truth-3, same_expr-then-same_boxed-2, same_expr-else-same_boxed-2, same_expr-then-eq, same_expr-else-eq}
+use Rattle.ksql_expressions.proofs.same.+same.Goals.{same_expr-Joined-same_op, same_expr-Joined-same_boxed-2, same_expr-Joined-same_truth-4, same_expr-Joined-same_truth-5, same_expr-Joined-same_perhaps, same_expr-Joined-eq, same_expr-then-same_op, same_expr-else-same_op, same_expr-then-same_truth-4, same_expr-else-same_truth-4, same_expr-then-same_truth-5, same_expr-else-same_truth-5, same_expr-then-same_perhaps, same_expr-else-same_perhaps, same_expr-then-same_truth-3, same_expr-else-same_truth-3, same_expr-then-same_boxed-2, same_expr-else-same_boxed-2, same_expr-then-eq, same_expr-else-eq}
 
 -- a test that stands after another, which holds or fails
 then-last : {p q r : Bool} → p ≡ true → r ≡ q → r ≡ (p && q)
@@ -11,6 +11,49 @@ then-last {q = q} h k = k ∙ ap (λ y. y && q) (sym h)
 
 else-first : {p r : Bool} (q : Bool) → r ≡ p → r ≡ false → r ≡ (p && q)
 else-first q h k = k ∙ ap (λ y. y && q) (sym k ∙ h)
+
+-- what the tests before the last say together
+front-Binary : (t : ℕ) (c : same_expr-Joined-same_op t) → c.if-same_op.value ≡ (same_op c.in-Binary.op c.in-Binary-b.p && same_expr c.in-Binary.left c.in-Binary-b.x)
+front-Binary t c = elim c.if-same_op.branch [
+  | same_expr-then-same_op w ↦ w.value-is ∙ then-last (sym c.same_op.ensures ∙ w.if-same_op.true) w.same_boxed-then-same_op.ensures
+  | same_expr-else-same_op w ↦ w.value-is ∙ else-first (same_expr c.in-Binary.left c.in-Binary-b.x) c.same_op.ensures w.if-same_op.false
+]
+
+front-Between : (t : ℕ) (c : same_expr-Joined-same_boxed-2 t) → c.if-same_boxed-2.value ≡ (same_truth c.in-Between.negated c.in-Between-b.n && same_expr c.in-Between.arg c.in-Between-b.x && same_expr c.in-Between.low c.in-Between-b.y)
+front-Between t c =
+    let front : c.if-same_truth-3.value ≡ (same_truth c.in-Between.negated c.in-Between-b.n && same_expr c.in-Between.arg c.in-Between-b.x) =
+    elim c.if-same_truth-3.branch [
+      | same_expr-then-same_truth-3 w ↦ w.value-is ∙ then-last (sym c.same_truth-in-Between-b.ensures ∙ w.if-same_truth-3.true) w.same_boxed-then-same_truth-3.ensures
+      | same_expr-else-same_truth-3 w ↦ w.value-is ∙ else-first (same_expr c.in-Between.arg c.in-Between-b.x) c.same_truth-in-Between-b.ensures w.if-same_truth-3.false
+    ] in
+    elim c.if-same_boxed-2.branch [
+      | same_expr-then-same_boxed-2 w ↦ w.value-is ∙ then-last (sym front ∙ w.if-same_boxed-2.true) w.same_boxed-then-same_boxed-2.ensures
+      | same_expr-else-same_boxed-2 w ↦ w.value-is ∙ else-first (same_expr c.in-Between.low c.in-Between-b.y) front w.if-same_boxed-2.false
+    ]
+
+front-OneOf : (t : ℕ) (c : same_expr-Joined-same_truth-4 t) → c.if-same_truth-4.value ≡ (same_truth c.in-OneOf.negated c.in-OneOf-b.n && same_expr c.in-OneOf.arg c.in-OneOf-b.x)
+front-OneOf t c = elim c.if-same_truth-4.branch [
+  | same_expr-then-same_truth-4 w ↦ w.value-is ∙ then-last (sym c.same_truth-in-OneOf-b.ensures ∙ w.if-same_truth-4.true) w.same_boxed-then-same_truth-4.ensures
+  | same_expr-else-same_truth-4 w ↦ w.value-is ∙ else-first (same_expr c.in-OneOf.arg c.in-OneOf-b.x) c.same_truth-in-OneOf-b.ensures w.if-same_truth-4.false
+]
+
+front-Like : (t : ℕ) (c : same_expr-Joined-same_truth-5 t) → c.if-same_truth-5.value ≡ (same_truth c.in-Like.negated c.in-Like-b.n && same_expr c.in-Like.arg c.in-Like-b.x)
+front-Like t c = elim c.if-same_truth-5.branch [
+  | same_expr-then-same_truth-5 w ↦ w.value-is ∙ then-last (sym c.same_truth-in-Like-b.ensures ∙ w.if-same_truth-5.true) w.same_boxed-then-same_truth-5.ensures
+  | same_expr-else-same_truth-5 w ↦ w.value-is ∙ else-first (same_expr c.in-Like.arg c.in-Like-b.x) c.same_truth-in-Like-b.ensures w.if-same_truth-5.false
+]
+
+front-Case : (t : ℕ) (c : same_expr-Joined-same_perhaps t) → c.if-same_perhaps.value ≡ (same_part (option_map same_expr c.in-Case.arg) c.in-Case-b.x && same_parts (map same_when_text c.in-Case.whens) c.in-Case-b.ws)
+front-Case t c = elim c.if-same_perhaps.branch [
+  | same_expr-then-same_perhaps w ↦ w.value-is ∙ then-last (sym c.same_perhaps.ensures ∙ w.if-same_perhaps.true) w.same_whens.ensures
+  | same_expr-else-same_perhaps w ↦ w.value-is ∙ else-first (same_parts (map same_when_text c.in-Case.whens) c.in-Case-b.ws) c.same_perhaps.ensures w.if-same_perhaps.false
+]
+
+front-Call : (t : ℕ) (c : same_expr-Joined-eq t) → c.if-eq.value ≡ (bytes_eq c.in-Call.name c.in-Call-b.f && same_truth c.in-Call.star c.in-Call-b.n)
+front-Call t c = elim c.if-eq.branch [
+  | same_expr-then-eq w ↦ w.value-is ∙ then-last (sym c.eq-in-Call-b.ensures ∙ w.if-eq.true) w.same_truth-then-eq.ensures
+  | same_expr-else-eq w ↦ w.value-is ∙ else-first (same_truth c.in-Call.star c.in-Call-b.n) c.eq-in-Call-b.ensures w.if-eq.false
+]
 
 pub same_expr-returns-in_default : goal.same_expr-returns-in_default
 same_expr-returns-in_default t c = sym (not-Digits c.args.a.now c.args.b.now c.in-Digits.m c.in-Digits.is c.in_default.not-Digits)
@@ -99,130 +142,60 @@ same_expr-returns-else-same_boxed-6 t c =
 
 pub same_expr-returns-then-same_boxed : goal.same_expr-returns-then-same_boxed
 same_expr-returns-then-same_boxed t c =
-    let front : c.if-same_op.value ≡ (same_op c.in-Binary.op c.in-Binary-b.p && same_expr c.in-Binary.left c.in-Binary-b.x) =
-    elim c.if-same_op.branch [
-      | same_expr-then-same_op w ↦ w.value-is ∙ then-last (sym c.same_op.ensures ∙ w.if-same_op.true) w.same_boxed-then-same_op.ensures
-      | same_expr-else-same_op w ↦ w.value-is ∙ else-first (same_expr c.in-Binary.left c.in-Binary-b.x) c.same_op.ensures w.if-same_op.false
-    ] in
-    then-last (sym front ∙ c.if-same_boxed.true) c.same_boxed-then-same_boxed.ensures
+    then-last (sym (front-Binary t (goal.at.same_expr-returns-then-same_boxed t c).Joined-same_op) ∙ c.if-same_boxed.true) c.same_boxed-then-same_boxed.ensures
     ∙ sym (is-Binary c.args.a.now c.args.b.now c.in-Binary.op c.in-Binary.left c.in-Binary.right c.in-Binary-b.p c.in-Binary-b.x c.in-Binary-b.y c.in-Binary.is c.in-Binary-b.is)
 
 pub same_expr-returns-else-same_boxed : goal.same_expr-returns-else-same_boxed
 same_expr-returns-else-same_boxed t c =
-    let front : c.if-same_op.value ≡ (same_op c.in-Binary.op c.in-Binary-b.p && same_expr c.in-Binary.left c.in-Binary-b.x) =
-    elim c.if-same_op.branch [
-      | same_expr-then-same_op w ↦ w.value-is ∙ then-last (sym c.same_op.ensures ∙ w.if-same_op.true) w.same_boxed-then-same_op.ensures
-      | same_expr-else-same_op w ↦ w.value-is ∙ else-first (same_expr c.in-Binary.left c.in-Binary-b.x) c.same_op.ensures w.if-same_op.false
-    ] in
-    else-first (same_expr c.in-Binary.right c.in-Binary-b.y) front c.if-same_boxed.false
+    else-first (same_expr c.in-Binary.right c.in-Binary-b.y) (front-Binary t (goal.at.same_expr-returns-else-same_boxed t c).Joined-same_op) c.if-same_boxed.false
     ∙ sym (is-Binary c.args.a.now c.args.b.now c.in-Binary.op c.in-Binary.left c.in-Binary.right c.in-Binary-b.p c.in-Binary-b.x c.in-Binary-b.y c.in-Binary.is c.in-Binary-b.is)
 
 pub same_expr-returns-then-same_boxed-4 : goal.same_expr-returns-then-same_boxed-4
 same_expr-returns-then-same_boxed-4 t c =
-    let front : c.if-same_truth-4.value ≡ (same_truth c.in-OneOf.negated c.in-OneOf-b.n && same_expr c.in-OneOf.arg c.in-OneOf-b.x) =
-    elim c.if-same_truth-4.branch [
-      | same_expr-then-same_truth-4 w ↦ w.value-is ∙ then-last (sym c.same_truth-in-OneOf-b.ensures ∙ w.if-same_truth-4.true) w.same_boxed-then-same_truth-4.ensures
-      | same_expr-else-same_truth-4 w ↦ w.value-is ∙ else-first (same_expr c.in-OneOf.arg c.in-OneOf-b.x) c.same_truth-in-OneOf-b.ensures w.if-same_truth-4.false
-    ] in
-    then-last (sym front ∙ c.if-same_boxed-4.true) c.same_exprs.ensures
+    then-last (sym (front-OneOf t (goal.at.same_expr-returns-then-same_boxed-4 t c).Joined-same_truth-4) ∙ c.if-same_boxed-4.true) c.same_exprs.ensures
     ∙ sym (is-OneOf c.args.a.now c.args.b.now c.in-OneOf.negated c.in-OneOf.arg c.in-OneOf.choices c.in-OneOf-b.n c.in-OneOf-b.x c.in-OneOf-b.xs c.in-OneOf.is c.in-OneOf-b.is)
 
 pub same_expr-returns-else-same_boxed-4 : goal.same_expr-returns-else-same_boxed-4
 same_expr-returns-else-same_boxed-4 t c =
-    let front : c.if-same_truth-4.value ≡ (same_truth c.in-OneOf.negated c.in-OneOf-b.n && same_expr c.in-OneOf.arg c.in-OneOf-b.x) =
-    elim c.if-same_truth-4.branch [
-      | same_expr-then-same_truth-4 w ↦ w.value-is ∙ then-last (sym c.same_truth-in-OneOf-b.ensures ∙ w.if-same_truth-4.true) w.same_boxed-then-same_truth-4.ensures
-      | same_expr-else-same_truth-4 w ↦ w.value-is ∙ else-first (same_expr c.in-OneOf.arg c.in-OneOf-b.x) c.same_truth-in-OneOf-b.ensures w.if-same_truth-4.false
-    ] in
-    else-first (same_parts (map same_expr c.in-OneOf.choices) c.in-OneOf-b.xs) front c.if-same_boxed-4.false
+    else-first (same_parts (map same_expr c.in-OneOf.choices) c.in-OneOf-b.xs) (front-OneOf t (goal.at.same_expr-returns-else-same_boxed-4 t c).Joined-same_truth-4) c.if-same_boxed-4.false
     ∙ sym (is-OneOf c.args.a.now c.args.b.now c.in-OneOf.negated c.in-OneOf.arg c.in-OneOf.choices c.in-OneOf-b.n c.in-OneOf-b.x c.in-OneOf-b.xs c.in-OneOf.is c.in-OneOf-b.is)
 
 pub same_expr-returns-then-same_boxed-5 : goal.same_expr-returns-then-same_boxed-5
 same_expr-returns-then-same_boxed-5 t c =
-    let front : c.if-same_truth-5.value ≡ (same_truth c.in-Like.negated c.in-Like-b.n && same_expr c.in-Like.arg c.in-Like-b.x) =
-    elim c.if-same_truth-5.branch [
-      | same_expr-then-same_truth-5 w ↦ w.value-is ∙ then-last (sym c.same_truth-in-Like-b.ensures ∙ w.if-same_truth-5.true) w.same_boxed-then-same_truth-5.ensures
-      | same_expr-else-same_truth-5 w ↦ w.value-is ∙ else-first (same_expr c.in-Like.arg c.in-Like-b.x) c.same_truth-in-Like-b.ensures w.if-same_truth-5.false
-    ] in
-    then-last (sym front ∙ c.if-same_boxed-5.true) c.eq-then-same_boxed-5.ensures
+    then-last (sym (front-Like t (goal.at.same_expr-returns-then-same_boxed-5 t c).Joined-same_truth-5) ∙ c.if-same_boxed-5.true) c.eq-then-same_boxed-5.ensures
     ∙ sym (is-Like c.args.a.now c.args.b.now c.in-Like.negated c.in-Like.arg c.in-Like.pattern c.in-Like-b.n c.in-Like-b.x c.in-Like-b.t c.in-Like.is c.in-Like-b.is)
 
 pub same_expr-returns-else-same_boxed-5 : goal.same_expr-returns-else-same_boxed-5
 same_expr-returns-else-same_boxed-5 t c =
-    let front : c.if-same_truth-5.value ≡ (same_truth c.in-Like.negated c.in-Like-b.n && same_expr c.in-Like.arg c.in-Like-b.x) =
-    elim c.if-same_truth-5.branch [
-      | same_expr-then-same_truth-5 w ↦ w.value-is ∙ then-last (sym c.same_truth-in-Like-b.ensures ∙ w.if-same_truth-5.true) w.same_boxed-then-same_truth-5.ensures
-      | same_expr-else-same_truth-5 w ↦ w.value-is ∙ else-first (same_expr c.in-Like.arg c.in-Like-b.x) c.same_truth-in-Like-b.ensures w.if-same_truth-5.false
-    ] in
-    else-first (bytes_eq c.in-Like.pattern c.in-Like-b.t) front c.if-same_boxed-5.false
+    else-first (bytes_eq c.in-Like.pattern c.in-Like-b.t) (front-Like t (goal.at.same_expr-returns-else-same_boxed-5 t c).Joined-same_truth-5) c.if-same_boxed-5.false
     ∙ sym (is-Like c.args.a.now c.args.b.now c.in-Like.negated c.in-Like.arg c.in-Like.pattern c.in-Like-b.n c.in-Like-b.x c.in-Like-b.t c.in-Like.is c.in-Like-b.is)
 
 pub same_expr-returns-then-same_whens : goal.same_expr-returns-then-same_whens
 same_expr-returns-then-same_whens t c =
-    let front : c.if-same_perhaps.value ≡ (same_part (option_map same_expr c.in-Case.arg) c.in-Case-b.x && same_parts (map same_when_text c.in-Case.whens) c.in-Case-b.ws) =
-    elim c.if-same_perhaps.branch [
-      | same_expr-then-same_perhaps w ↦ w.value-is ∙ then-last (sym c.same_perhaps.ensures ∙ w.if-same_perhaps.true) w.same_whens.ensures
-      | same_expr-else-same_perhaps w ↦ w.value-is ∙ else-first (same_parts (map same_when_text c.in-Case.whens) c.in-Case-b.ws) c.same_perhaps.ensures w.if-same_perhaps.false
-    ] in
-    then-last (sym front ∙ c.if-same_whens.true) c.same_perhaps-then-same_whens.ensures
+    then-last (sym (front-Case t (goal.at.same_expr-returns-then-same_whens t c).Joined-same_perhaps) ∙ c.if-same_whens.true) c.same_perhaps-then-same_whens.ensures
     ∙ sym (is-Case c.args.a.now c.args.b.now c.in-Case.arg c.in-Case.whens c.in-Case.otherwise c.in-Case-b.x c.in-Case-b.ws c.in-Case-b.y c.in-Case.is c.in-Case-b.is)
 
 pub same_expr-returns-else-same_whens : goal.same_expr-returns-else-same_whens
 same_expr-returns-else-same_whens t c =
-    let front : c.if-same_perhaps.value ≡ (same_part (option_map same_expr c.in-Case.arg) c.in-Case-b.x && same_parts (map same_when_text c.in-Case.whens) c.in-Case-b.ws) =
-    elim c.if-same_perhaps.branch [
-      | same_expr-then-same_perhaps w ↦ w.value-is ∙ then-last (sym c.same_perhaps.ensures ∙ w.if-same_perhaps.true) w.same_whens.ensures
-      | same_expr-else-same_perhaps w ↦ w.value-is ∙ else-first (same_parts (map same_when_text c.in-Case.whens) c.in-Case-b.ws) c.same_perhaps.ensures w.if-same_perhaps.false
-    ] in
-    else-first (same_part (option_map same_expr c.in-Case.otherwise) c.in-Case-b.y) front c.if-same_whens.false
+    else-first (same_part (option_map same_expr c.in-Case.otherwise) c.in-Case-b.y) (front-Case t (goal.at.same_expr-returns-else-same_whens t c).Joined-same_perhaps) c.if-same_whens.false
     ∙ sym (is-Case c.args.a.now c.args.b.now c.in-Case.arg c.in-Case.whens c.in-Case.otherwise c.in-Case-b.x c.in-Case-b.ws c.in-Case-b.y c.in-Case.is c.in-Case-b.is)
 
 pub same_expr-returns-then-same_boxed-3 : goal.same_expr-returns-then-same_boxed-3
 same_expr-returns-then-same_boxed-3 t c =
-    let front : c.if-same_truth-3.value ≡ (same_truth c.in-Between.negated c.in-Between-b.n && same_expr c.in-Between.arg c.in-Between-b.x) =
-    elim c.if-same_truth-3.branch [
-      | same_expr-then-same_truth-3 w ↦ w.value-is ∙ then-last (sym c.same_truth-in-Between-b.ensures ∙ w.if-same_truth-3.true) w.same_boxed-then-same_truth-3.ensures
-      | same_expr-else-same_truth-3 w ↦ w.value-is ∙ else-first (same_expr c.in-Between.arg c.in-Between-b.x) c.same_truth-in-Between-b.ensures w.if-same_truth-3.false
-    ] in
-    let middle : c.if-same_boxed-2.value ≡ (same_truth c.in-Between.negated c.in-Between-b.n && same_expr c.in-Between.arg c.in-Between-b.x && same_expr c.in-Between.low c.in-Between-b.y) =
-    elim c.if-same_boxed-2.branch [
-      | same_expr-then-same_boxed-2 w ↦ w.value-is ∙ then-last (sym front ∙ w.if-same_boxed-2.true) w.same_boxed-then-same_boxed-2.ensures
-      | same_expr-else-same_boxed-2 w ↦ w.value-is ∙ else-first (same_expr c.in-Between.low c.in-Between-b.y) front w.if-same_boxed-2.false
-    ] in
-    then-last (sym middle ∙ c.if-same_boxed-3.true) c.same_boxed-then-same_boxed-3.ensures
+    then-last (sym (front-Between t (goal.at.same_expr-returns-then-same_boxed-3 t c).Joined-same_boxed-2) ∙ c.if-same_boxed-3.true) c.same_boxed-then-same_boxed-3.ensures
     ∙ sym (is-Between c.args.a.now c.args.b.now c.in-Between.negated c.in-Between.arg c.in-Between.low c.in-Between.high c.in-Between-b.n c.in-Between-b.x c.in-Between-b.y c.in-Between-b.z c.in-Between.is c.in-Between-b.is)
 
 pub same_expr-returns-else-same_boxed-3 : goal.same_expr-returns-else-same_boxed-3
 same_expr-returns-else-same_boxed-3 t c =
-    let front : c.if-same_truth-3.value ≡ (same_truth c.in-Between.negated c.in-Between-b.n && same_expr c.in-Between.arg c.in-Between-b.x) =
-    elim c.if-same_truth-3.branch [
-      | same_expr-then-same_truth-3 w ↦ w.value-is ∙ then-last (sym c.same_truth-in-Between-b.ensures ∙ w.if-same_truth-3.true) w.same_boxed-then-same_truth-3.ensures
-      | same_expr-else-same_truth-3 w ↦ w.value-is ∙ else-first (same_expr c.in-Between.arg c.in-Between-b.x) c.same_truth-in-Between-b.ensures w.if-same_truth-3.false
-    ] in
-    let middle : c.if-same_boxed-2.value ≡ (same_truth c.in-Between.negated c.in-Between-b.n && same_expr c.in-Between.arg c.in-Between-b.x && same_expr c.in-Between.low c.in-Between-b.y) =
-    elim c.if-same_boxed-2.branch [
-      | same_expr-then-same_boxed-2 w ↦ w.value-is ∙ then-last (sym front ∙ w.if-same_boxed-2.true) w.same_boxed-then-same_boxed-2.ensures
-      | same_expr-else-same_boxed-2 w ↦ w.value-is ∙ else-first (same_expr c.in-Between.low c.in-Between-b.y) front w.if-same_boxed-2.false
-    ] in
-    else-first (same_expr c.in-Between.high c.in-Between-b.z) middle c.if-same_boxed-3.false
+    else-first (same_expr c.in-Between.high c.in-Between-b.z) (front-Between t (goal.at.same_expr-returns-else-same_boxed-3 t c).Joined-same_boxed-2) c.if-same_boxed-3.false
     ∙ sym (is-Between c.args.a.now c.args.b.now c.in-Between.negated c.in-Between.arg c.in-Between.low c.in-Between.high c.in-Between-b.n c.in-Between-b.x c.in-Between-b.y c.in-Between-b.z c.in-Between.is c.in-Between-b.is)
 
 pub same_expr-returns-then-same_truth-6 : goal.same_expr-returns-then-same_truth-6
 same_expr-returns-then-same_truth-6 t c =
-    let front : c.if-eq.value ≡ (bytes_eq c.in-Call.name c.in-Call-b.f && same_truth c.in-Call.star c.in-Call-b.n) =
-    elim c.if-eq.branch [
-      | same_expr-then-eq w ↦ w.value-is ∙ then-last (sym c.eq-in-Call-b.ensures ∙ w.if-eq.true) w.same_truth-then-eq.ensures
-      | same_expr-else-eq w ↦ w.value-is ∙ else-first (same_truth c.in-Call.star c.in-Call-b.n) c.eq-in-Call-b.ensures w.if-eq.false
-    ] in
-    then-last (sym front ∙ c.if-same_truth-6.true) c.same_exprs-then-same_truth-6.ensures
+    then-last (sym (front-Call t (goal.at.same_expr-returns-then-same_truth-6 t c).Joined-eq) ∙ c.if-same_truth-6.true) c.same_exprs-then-same_truth-6.ensures
     ∙ sym (is-Call c.args.a.now c.args.b.now c.in-Call.name c.in-Call.star c.in-Call.args c.in-Call-b.f c.in-Call-b.n c.in-Call-b.xs c.in-Call.is c.in-Call-b.is)
 
 pub same_expr-returns-else-same_truth-6 : goal.same_expr-returns-else-same_truth-6
 same_expr-returns-else-same_truth-6 t c =
-    let front : c.if-eq.value ≡ (bytes_eq c.in-Call.name c.in-Call-b.f && same_truth c.in-Call.star c.in-Call-b.n) =
-    elim c.if-eq.branch [
-      | same_expr-then-eq w ↦ w.value-is ∙ then-last (sym c.eq-in-Call-b.ensures ∙ w.if-eq.true) w.same_truth-then-eq.ensures
-      | same_expr-else-eq w ↦ w.value-is ∙ else-first (same_truth c.in-Call.star c.in-Call-b.n) c.eq-in-Call-b.ensures w.if-eq.false
-    ] in
-    else-first (same_parts (map same_expr c.in-Call.args) c.in-Call-b.xs) front c.if-same_truth-6.false
+    else-first (same_parts (map same_expr c.in-Call.args) c.in-Call-b.xs) (front-Call t (goal.at.same_expr-returns-else-same_truth-6 t c).Joined-eq) c.if-same_truth-6.false
     ∙ sym (is-Call c.args.a.now c.args.b.now c.in-Call.name c.in-Call.star c.in-Call.args c.in-Call-b.f c.in-Call-b.n c.in-Call-b.xs c.in-Call.is c.in-Call-b.is)

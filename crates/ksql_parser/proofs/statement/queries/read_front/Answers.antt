@@ -14,13 +14,38 @@ use Rattle.ksql_parser.specs.Grammar.{Spells}
 use Rattle.ksql_grammar.specs.Reading.{with_rest}
 use Rattle.ksql_grammar.specs.Expressions.{behind_key}
 use Rattle.ksql_parser.specs.declared.statement.queries.Front.{Front}
+use Rattle.ksql_parser.specs.Queries.{SpellsFront}
 use Rattle.ksql_parser.specs.Statements as r
+use Rattle.ksql_parser.specs.Statements.{BeginsFrom}
 use Rattle.ksql_parser.proofs.Steps.{along, failed, same_read}
 use Rattle.ksql_grammar.proofs.Steps.{if_some, key_found}
 use Rattle.ksql_parser.proofs.Found.{source_found, windowed_found}
 use Rattle.ksql_parser.proofs.Calls.{failed_at, same_at}
 use Rattle.ksql_parser.proofs.Selects.{front_begins, items_there, source_there, join_there, window_there, front_read, key_is}
 use Rattle.ksql_parser.proofs.statement.queries.read_front.Goals as goal
+use Rattle.ksql_parser.proofs.statement.queries.read_front.Goals.{In_ok-items, In_ok-source, In_ok-join}
+
+-- the items that stand there are those that were read
+items_read : (c : In_ok-items) (f : Front) (rest : List Symbol) (d : SpellsFront f c.args.symbols.now rest) → (f.items ≡ c.in_ok-items.items) × (Key key.From ∷ d.1 ≡ c.in_ok-items.rest.now)
+items_read c f rest d =
+    same_read (c.in_ok-items.items, c.in_ok-items.rest) f.items (Key key.From ∷ d.1)
+    (c.in_ok-items.ensures.only f.items d.1 (items_there f c.args.symbols.now rest d c.in_ok-rest.rest.now c.in_ok-rest.ensures))
+
+-- and so the source
+source_read : (c : In_ok-source) (f : Front) (rest : List Symbol) (d : SpellsFront f c.args.symbols.now rest) → BeginsFrom 3 rest → Key key.From ∷ d.1 ≡ c.in_ok-items.rest.now
+    → (f.source ≡ c.in_ok-source.source) × (d.2 ≡ c.in_ok-source.rest.now)
+source_read c f rest d b e =
+    let us = c.in_ok-rest-2.rest.now in
+    let s = source_there f c.args.symbols.now rest d c.in_ok-items.rest.now us e c.in_ok-rest-2.ensures b in
+    same_at (r.source us) (c.in_ok-source.source, c.in_ok-source.rest) f.source d.2 s c.in_ok-source.ensures
+
+-- and the join
+join_read : (c : In_ok-join) (f : Front) (rest : List Symbol) (d : SpellsFront f c.args.symbols.now rest) → BeginsFrom 3 rest → d.2 ≡ c.in_ok-source.rest.now
+    → (f.join ≡ c.in_ok-join.join) × (d.3 ≡ c.in_ok-join.rest.now)
+join_read c f rest d b e =
+    let ts = c.args.symbols.now in
+    let j = join_there f ts rest d c.in_ok-source.rest.now e in
+    same_read (c.in_ok-join.join, c.in_ok-join.rest) f.join d.3 (c.in_ok-join.ensures.only f.join d.3 j (front_begins f ts rest d b).1)
 
 pub returns-clause-found : goal.returns-clause-found
 returns-clause-found c =
@@ -55,71 +80,45 @@ returns-in_err-items-clause-only c = λ f rest d b.
 
 pub returns-in_err-rest-2-clause-only : goal.returns-in_err-rest-2-clause-only
 returns-in_err-rest-2-clause-only c = λ f rest d b.
-    let ts = c.args.symbols.now in
-    let us = c.in_ok-rest.rest.now in
-    let is = items_there f ts rest d us c.in_ok-rest.ensures in
-    let x = same_read (c.in_ok-items.items, c.in_ok-items.rest) f.items (Key key.From ∷ d.1) (c.in_ok-items.ensures.only f.items d.1 is) in
+    let x = items_read (goal.at.returns-in_err-rest-2-clause-only c).In_ok-items f rest d in
     let vs = c.in_ok-items.rest.now in
     let p = err_from_is_err_and c.from_residual-in_err-rest-2.result c.from_residual-in_err-rest-2.ensures.1 in
     rw (p.1, p.2) (failed_at (λ (x : Bor (List Symbol)). x.now) (with_rest {A = Front}) c.in_err-rest-2.field-0.0 (behind_key key.From vs) d.1 (f, rest) (key_is key.From vs d.1 (sym x.1)) c.in_err-rest-2.ensures)
 
 pub returns-in_err-source-clause-only : goal.returns-in_err-source-clause-only
 returns-in_err-source-clause-only c = λ f rest d b.
-    let ts = c.args.symbols.now in
-    let us = c.in_ok-rest.rest.now in
-    let is = items_there f ts rest d us c.in_ok-rest.ensures in
-    let x = same_read (c.in_ok-items.items, c.in_ok-items.rest) f.items (Key key.From ∷ d.1) (c.in_ok-items.ensures.only f.items d.1 is) in
-    let vs = c.in_ok-items.rest.now in
-    let ws = c.in_ok-rest-2.rest.now in
-    let s = source_there f ts rest d vs ws x.1 c.in_ok-rest-2.ensures b in
+    let x = items_read (goal.at.returns-in_err-source-clause-only c).In_ok-items f rest d in
+    let us = c.in_ok-rest-2.rest.now in
+    let s = source_there f c.args.symbols.now rest d c.in_ok-items.rest.now us x.1 c.in_ok-rest-2.ensures b in
     let p = err_from_is_err_and c.from_residual-in_err-source.result c.from_residual-in_err-source.ensures.1 in
-    rw (p.1, p.2) (failed_at (with_rest {A = Source}) (with_rest {A = Front}) c.in_err-source.field-0.0 (r.source ws) (f.source, d.2) (f, rest) s c.in_err-source.ensures)
+    rw (p.1, p.2) (failed_at (with_rest {A = Source}) (with_rest {A = Front}) c.in_err-source.field-0.0 (r.source us) (f.source, d.2) (f, rest) s c.in_err-source.ensures)
 
 pub returns-in_err-join-clause-only : goal.returns-in_err-join-clause-only
 returns-in_err-join-clause-only c = λ f rest d b.
     let ts = c.args.symbols.now in
-    let us = c.in_ok-rest.rest.now in
-    let is = items_there f ts rest d us c.in_ok-rest.ensures in
-    let x = same_read (c.in_ok-items.items, c.in_ok-items.rest) f.items (Key key.From ∷ d.1) (c.in_ok-items.ensures.only f.items d.1 is) in
-    let vs = c.in_ok-items.rest.now in
-    let ws = c.in_ok-rest-2.rest.now in
-    let s = source_there f ts rest d vs ws x.1 c.in_ok-rest-2.ensures b in
-    let y = same_at (r.source ws) (c.in_ok-source.source, c.in_ok-source.rest) f.source d.2 s c.in_ok-source.ensures in
+    let at = goal.at.returns-in_err-join-clause-only c in
+    let x = items_read at.In_ok-items f rest d in
+    let y = source_read at.In_ok-source f rest d b x.1 in
     let j = join_there f ts rest d c.in_ok-source.rest.now y.1 in
-    let places = front_begins f ts rest d b in
     let p = err_from_is_err_and c.from_residual-in_err-join.result c.from_residual-in_err-join.ensures.1 in
-    rw (p.1, p.2) (failed (with_rest {A = Option JoinText}) (with_rest {A = Front}) c.in_err-join.field-0.0 (f.join, d.3) (f, rest) (c.in_err-join.ensures.only f.join d.3 j places.1))
+    rw (p.1, p.2) (failed (with_rest {A = Option JoinText}) (with_rest {A = Front}) c.in_err-join.field-0.0 (f.join, d.3) (f, rest) (c.in_err-join.ensures.only f.join d.3 j (front_begins f ts rest d b).1))
 
 pub returns-in_err-window-clause-only : goal.returns-in_err-window-clause-only
 returns-in_err-window-clause-only c = λ f rest d b.
-    let ts = c.args.symbols.now in
-    let us = c.in_ok-rest.rest.now in
-    let is = items_there f ts rest d us c.in_ok-rest.ensures in
-    let x = same_read (c.in_ok-items.items, c.in_ok-items.rest) f.items (Key key.From ∷ d.1) (c.in_ok-items.ensures.only f.items d.1 is) in
-    let vs = c.in_ok-items.rest.now in
-    let ws = c.in_ok-rest-2.rest.now in
-    let s = source_there f ts rest d vs ws x.1 c.in_ok-rest-2.ensures b in
-    let y = same_at (r.source ws) (c.in_ok-source.source, c.in_ok-source.rest) f.source d.2 s c.in_ok-source.ensures in
-    let j = join_there f ts rest d c.in_ok-source.rest.now y.1 in
-    let places = front_begins f ts rest d b in
-    let z = same_read (c.in_ok-join.join, c.in_ok-join.rest) f.join d.3 (c.in_ok-join.ensures.only f.join d.3 j places.1) in
-    let window = window_there f ts rest d c.in_ok-join.rest.now z.1 b in
+    let at = goal.at.returns-in_err-window-clause-only c in
+    let x = items_read at.In_ok-items f rest d in
+    let y = source_read at.In_ok-source f rest d b x.1 in
+    let z = join_read at.In_ok-join f rest d b y.1 in
+    let us = c.in_ok-join.rest.now in
     let p = err_from_is_err_and c.from_residual-in_err-window.result c.from_residual-in_err-window.ensures.1 in
-    rw (p.1, p.2) (failed_at (with_rest {A = Option WindowText}) (with_rest {A = Front}) c.in_err-window.field-0.0 (r.windowed c.in_ok-join.rest.now) (f.window, rest) (f, rest) window c.in_err-window.ensures)
+    rw (p.1, p.2) (failed_at (with_rest {A = Option WindowText}) (with_rest {A = Front}) c.in_err-window.field-0.0 (r.windowed us) (f.window, rest) (f, rest) (window_there f c.args.symbols.now rest d us z.1 b) c.in_err-window.ensures)
 
 pub returns-clause-only : goal.returns-clause-only
 returns-clause-only c = λ f rest d b.
-    let ts = c.args.symbols.now in
-    let us = c.in_ok-rest.rest.now in
-    let is = items_there f ts rest d us c.in_ok-rest.ensures in
-    let x = same_read (c.in_ok-items.items, c.in_ok-items.rest) f.items (Key key.From ∷ d.1) (c.in_ok-items.ensures.only f.items d.1 is) in
-    let vs = c.in_ok-items.rest.now in
-    let ws = c.in_ok-rest-2.rest.now in
-    let s = source_there f ts rest d vs ws x.1 c.in_ok-rest-2.ensures b in
-    let y = same_at (r.source ws) (c.in_ok-source.source, c.in_ok-source.rest) f.source d.2 s c.in_ok-source.ensures in
-    let j = join_there f ts rest d c.in_ok-source.rest.now y.1 in
-    let places = front_begins f ts rest d b in
-    let z = same_read (c.in_ok-join.join, c.in_ok-join.rest) f.join d.3 (c.in_ok-join.ensures.only f.join d.3 j places.1) in
-    let window = window_there f ts rest d c.in_ok-join.rest.now z.1 b in
-    let w = same_at (r.windowed c.in_ok-join.rest.now) (c.in_ok-window.window, c.in_ok-window.rest) f.window rest window c.in_ok-window.ensures in
+    let at = goal.at.returns-clause-only c in
+    let x = items_read at.In_ok-items f rest d in
+    let y = source_read at.In_ok-source f rest d b x.1 in
+    let z = join_read at.In_ok-join f rest d b y.1 in
+    let us = c.in_ok-join.rest.now in
+    let w = same_at (r.windowed us) (c.in_ok-window.window, c.in_ok-window.rest) f.window rest (window_there f c.args.symbols.now rest d us z.1 b) c.in_ok-window.ensures in
     front_read f c.in_ok-items.items c.in_ok-source.source c.in_ok-join.join c.in_ok-window.window rest c.in_ok-window.rest.now x.0 y.0 z.0 w.0 w.1
