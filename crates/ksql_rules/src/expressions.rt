@@ -43,23 +43,26 @@ pub fn on_exprs<'a>(alloc: Global, select: &'a Select) -> Result<Vec<&'a Expr>, 
     Ok(found)
 }
 
+fn with_front<'a>(found: Vec<&'a Expr>, select: &'a Select) -> Result<Vec<&'a Expr>, AllocError>
+    ensures { IfOk result (λ all. map (λ a. a.now) all.items ≡ map (λ a. a.now) found.entry.items ++ sources.front_exprs select.now) }
+{
+    let found = with_part(found, &select.filter)?;
+    let found = with_each(found, select.group.items())?;
+    with_part(found, &select.partition)
+}
+
 /// The expressions of WHERE, GROUP BY and PARTITION BY.
 pub fn front_exprs<'a>(alloc: Global, select: &'a Select) -> Result<Vec<&'a Expr>, AllocError>
     ensures { IfOk result (λ all. map (λ a. a.now) all.items ≡ sources.front_exprs select.now) }
 {
-    let found = with_part(Vec::new(alloc), &select.filter)?;
-    let found = with_each(found, select.group.items())?;
-    with_part(found, &select.partition)
+    with_front(Vec::new(alloc), select)
 }
 
 /// The expressions of a query but those of its items and of HAVING.
 pub fn early_exprs<'a>(alloc: Global, select: &'a Select) -> Result<Vec<&'a Expr>, AllocError>
     ensures { IfOk result (λ all. map (λ a. a.now) all.items ≡ sources.early_exprs select.now) }
 {
-    let found = on_exprs(alloc, select)?;
-    let found = with_part(found, &select.filter)?;
-    let found = with_each(found, select.group.items())?;
-    with_part(found, &select.partition)
+    with_front(on_exprs(alloc, select)?, select)
 }
 
 fn item_exprs<'a>(alloc: Global, items: &'a [SelectItem]) -> Result<Vec<&'a Expr>, AllocError>
