@@ -1,11 +1,12 @@
 -- What partitions show, one entry or one partition later, and the order in which changes stand.
-use Rattle.std.proofs.Common.{subst, ◌≡◌, ◌∙◌, ap, refl, sym, ℕ, zero, suc, ◌+◌, add-one, add-zero, List, [], ◌∷◌, ◌++◌, ◌<◌, arith, get_or, length, take}
+use Rattle.std.proofs.Common.{subst, ◌≡◌, ◌∙◌, ap, refl, sym, ℕ, zero, suc, ◌+◌, add-one, add-zero, List, [], ◌∷◌, ◌++◌, ◌<◌, arith, get_or, length, map, take}
 use Rattle.std.specs.Prelude.{flat_map, option_map, slice_get, unwrap_or, All, Option, None, Some}
 use Rattle.std.specs.Option.{IsSomeAnd}
 use Rattle.std.proofs.lemmas.Option.{slice_get_within}
 use Rattle.std.specs.List.{range_with_len}
 use Rattle.std.proofs.lemmas.List.{append-nil, get_or-map, length-map, take_more}
 use Rattle.std.proofs.lemmas.List.Concat.{flat_map-append}
+use Rattle.std.proofs.lemmas.List.Folds.{flat_map-map}
 use Rattle.std.specs.Cmp.{IsTotalOrder, nat_cmp_total, on_total, then_total}
 use Rattle.ksql_types.specs.declared.relation.Relation.{Relation}
 use Rattle.ksql_types.specs.declared.topic.TopicSpec.{TopicSpec}
@@ -83,3 +84,18 @@ pub topic-at : (s : Shelves) (items : List Item) (i : ℕ) (item : Item) → All
 topic-at s items i item all inside is =
     let relation = get_or-map relation_of items i item (relation_of item) inside ∙ ap relation_of (sym is) in
     subst (HasTopicOf s) relation (all i (relation_of item) (simp length-map inside))
+
+-- ---- lists that are alike under two functions
+
+pub alike-long : {A B C : Type 0} (f : A → C) (g : B → C) (xs : List A) (ys : List B) → map f xs ≡ map g ys → length xs ≡ length ys
+alike-long f g xs ys same = sym (length-map xs f) ∙ ap length same ∙ length-map ys g
+
+-- at each place
+pub alike-at : {A B C : Type 0} (f : A → C) (g : B → C) (xs : List A) (ys : List B) (i : ℕ) (x : A) (y : B) → i < length xs → i < length ys →
+    x ≡ get_or xs i x → y ≡ get_or ys i y → map f xs ≡ map g ys → f x ≡ g y
+alike-at f g xs ys i x y inside within at is same =
+    ap f at ∙ sym (get_or-map f xs i x (f x) inside) ∙ ap (λ cs. get_or cs i (f x)) same ∙ get_or-map g ys i y (f x) within ∙ ap g (sym is)
+
+-- and joined
+pub alike-joined : {A B C : Type 0} (f : A → List C) (g : B → List C) (xs : List A) (ys : List B) → map f xs ≡ map g ys → flat_map f xs ≡ flat_map g ys
+alike-joined f g xs ys same = sym (flat_map-map (λ cs. cs) f xs) ∙ ap (flat_map (λ cs. cs)) same ∙ flat_map-map (λ cs. cs) g ys

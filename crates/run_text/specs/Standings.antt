@@ -1,8 +1,15 @@
--- Changes that are lent, as they stand in partitions.
+-- Records and changes that are lent.
+use Rattle.std.specs.Borrow.{Bor}
+use Rattle.std.specs.Global.{Vec}
 use Rattle.std.specs.Prelude.{ℕ, List, map}
 use Rattle.ksql_place.specs.declared.change.Change.{Change}
+use Rattle.ksql_place.specs.declared.change.SourceRecord.{SourceRecord}
 use Rattle.run_text.specs.Shown.{Standing}
 use Rattle.run_text.specs.declared.visible.LentChange.{LentChange}
+
+-- records that are lent
+abbrev pub records_lent : Vec (Bor SourceRecord) → List SourceRecord
+records_lent records = map (λ r. r.now) records.items
 
 -- a change that is lent, as it stands in its partition
 abbrev pub standing_of : LentChange → Standing

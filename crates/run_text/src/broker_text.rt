@@ -3,6 +3,7 @@
 ghost use Rattle.std.specs.Prelude.{◌≡◌, ◌++◌, [], All, IfOk, OnOk, flat_map, map, string_bytes};
 ghost use Rattle.std.specs.List.{range_with_len};
 ghost use Rattle.ksql_place.specs.Ascending.{ascending};
+ghost use Rattle.ksql_place.specs.Order.{record_cmp};
 ghost use Rattle.ksql_program.specs.declared.program.Item.TheVariants.{Declared};
 ghost use Rattle.ksql_program.specs.Program.{relation_of, relations};
 ghost use Rattle.topic_log.specs.Shelves.{routes_in, shelf_of};
@@ -10,7 +11,7 @@ ghost use Rattle.core_state.specs.Shelf.{shelf_closed};
 ghost use Rattle.run_text.specs.Lines.{extent_text};
 ghost use Rattle.run_text.specs.Report.{section_of, skipped_of, IsPrintable};
 ghost use Rattle.run_text.specs.Shown.{declared_records, order_shown, query_shown, records_shown, section_shown, shown_report, shown_summary, standing_at, standing_cmp, HasTopicOf};
-ghost use Rattle.run_text.specs.Standings.{standing_of};
+ghost use Rattle.run_text.specs.Standings.{records_lent, standing_of};
 
 use crate::declared::declared_lines;
 use crate::program_report::push_order;
@@ -38,10 +39,17 @@ pub fn broker_report(
     ensures { IfOk result (λ text. string_bytes text ≡ shown_report program.now.items broker.now trace.now) }
 {
     let items = program.items.items();
-    let order = order_shown(alloc, broker, items)?;
+    let Consumption { of_items, order } = consumption_of(alloc, broker, items)?;
     let mut out = String::new(alloc);
     push_order(&mut out, items, order.as_slice())?;
-    push_sections(&mut out, alloc, Extent::Whole, broker, items)?;
+    push_sections(
+        &mut out,
+        alloc,
+        Extent::Whole,
+        broker,
+        items,
+        of_items.as_slice(),
+    )?;
     out.push_str(trace)?;
     out.push_str("end\n")?;
     Ok(out)
@@ -61,63 +69,79 @@ pub fn broker_summary(
     ensures { IfOk result (λ text. string_bytes text ≡ shown_summary program.now.items broker.now) }
 {
     let items = program.items.items();
+    let records = records_of_items(alloc, broker, items)?;
     let mut out = String::new(alloc);
-    push_sections(&mut out, alloc, Extent::Summary, broker, items)?;
+    push_sections(
+        &mut out,
+        alloc,
+        Extent::Summary,
+        broker,
+        items,
+        records.as_slice(),
+    )?;
     out.push_str("end\n")?;
     Ok(out)
 }
 
-/// Appends what is shown of each item, to this extent.
+/// Appends what is shown of each item, to this extent. These are the records of the topic of each.
 fn push_sections(
     out: &mut String,
     alloc: Global,
     extent: Extent,
     broker: &Broker,
     items: &[Item],
+    records: &[Vec<&SourceRecord>],
 ) -> Result<(), AllocError>
-    requires { All (HasTopicOf broker.now) (relations items.now) }
+    requires topics { All (HasTopicOf broker.now) (relations items.now) }
+    requires records { map records_lent records.now ≡ map (declared_records broker.now) items.now }
     ensures { OnOk result (string_bytes out.new
         ≡ string_bytes out.old ++ flat_map (extent_text extent) (map (section_shown broker.now) items.now)) }
 {
-    for item in items {
-        push_item_section(out, alloc, extent, broker, item)?;
+    for (number, item) in items.iter().enumerate() {
+        let of_topic = records[number].as_slice();
+        push_item_section(out, alloc, extent, broker, item, of_topic)?;
     }
     Ok(())
 }
 
-/// Appends what is shown of an item, to this extent.
+/// Appends what is shown of an item, to this extent. These are the records of its topic.
 fn push_item_section(
     out: &mut String,
     alloc: Global,
     extent: Extent,
     broker: &Broker,
     item: &Item,
+    records: &[&SourceRecord],
 ) -> Result<(), AllocError>
-    requires { HasTopicOf broker.now (relation_of item.now) }
+    requires topic { HasTopicOf broker.now (relation_of item.now) }
+    requires records { map (λ r. r.now) records.now ≡ declared_records broker.now item.now }
     ensures { OnOk result (string_bytes out.new
         ≡ string_bytes out.old ++ extent_text extent (section_shown broker.now item.now)) }
 {
     match item {
-        Item::Declared(relation) => push_declared_section(out, alloc, extent, broker, relation),
+        Item::Declared(relation) => {
+            push_declared_section(out, alloc, extent, broker, relation, records)
+        }
         Item::Started(query) => push_query_section(out, alloc, extent, broker, &query.out),
     }
 }
 
-/// Appends what is shown of a declared relation, to this extent.
+/// Appends what is shown of a declared relation, to this extent. These are the records of its topic.
 fn push_declared_section(
     out: &mut String,
     alloc: Global,
     extent: Extent,
     broker: &Broker,
     relation: &Relation,
+    records: &[&SourceRecord],
 ) -> Result<(), AllocError>
-    requires { HasTopicOf broker.now relation.now }
+    requires topic { HasTopicOf broker.now relation.now }
+    requires records { map (λ r. r.now) records.now ≡ records_shown broker.now relation.now }
     ensures { OnOk result (string_bytes out.new
         ≡ string_bytes out.old ++ extent_text extent (section_shown broker.now (Declared relation.now))) }
 {
-    let records = records_shown(alloc, broker, relation)?;
-    let lines = declared_lines(alloc, relation, records.as_slice())?;
-    let skipped = skipped_among(relation, records.as_slice());
+    let lines = declared_lines(alloc, relation, records)?;
+    let skipped = skipped_among(relation, records);
     let closed = broker.closed(relation.number);
     push_section(
         out,
@@ -159,39 +183,70 @@ fn skipped_among(relation: &Relation, records: &[&SourceRecord]) -> usize
         .count()
 }
 
-/// The order of consumption: the records of the topics of all declared relations, by their stamps.
-fn order_shown<'a>(
+/// The records of the topics of some items, by their stamps: those of each item, and all in the order of consumption.
+#[derive(Drop)]
+struct Consumption<'a> {
+    of_items: Vec<Vec<&'a SourceRecord>>,
+    order: Vec<&'a SourceRecord>,
+}
+
+/// What these items consume of their topics.
+fn consumption_of<'a>(
     alloc: Global,
     broker: &'a Broker,
     items: &[Item],
-) -> Result<Vec<&'a SourceRecord>, AllocError>
+) -> Result<Consumption<'a>, AllocError>
     requires { All (HasTopicOf broker.now) (relations items.now) }
-    ensures { IfOk result (λ order. map (λ r. r.now) order.items ≡ order_shown broker.now items.now) }
+    ensures records { IfOk result (λ made. map records_lent made.of_items.items ≡ map (declared_records broker.now) items.now) }
+    ensures order { IfOk result (λ made. map (λ r. r.now) made.order.items ≡ order_shown broker.now items.now) }
+{
+    let of_items = records_of_items(alloc, broker, items)?;
+    let order = order_of(alloc, of_items.as_slice())?;
+    Ok(Consumption { of_items, order })
+}
+
+/// All records of these topics, by their stamps.
+fn order_of<'a>(
+    alloc: Global,
+    records: &[Vec<&'a SourceRecord>],
+) -> Result<Vec<&'a SourceRecord>, AllocError>
+    ensures { IfOk result (λ order. map (λ r. r.now) order.items ≡ ascending record_cmp (flat_map records_lent records.now)) }
 {
     let mut order = Vec::new(alloc);
-    for item in items {
-        push_declared(&mut order, alloc, broker, item)?;
+    for of_topic in records {
+        order.extend_from_slice(of_topic.as_slice())?;
     }
     by_stamp(order)
 }
 
-/// Adds the records of an item's topic, where it is declared.
-fn push_declared<'a>(
-    order: &mut Vec<&'a SourceRecord>,
+/// The records of the topic of each item that is declared, by their stamps, and none of a query.
+fn records_of_items<'a>(
+    alloc: Global,
+    broker: &'a Broker,
+    items: &[Item],
+) -> Result<Vec<Vec<&'a SourceRecord>>, AllocError>
+    requires { All (HasTopicOf broker.now) (relations items.now) }
+    ensures { IfOk result (λ records. map records_lent records.items ≡ map (declared_records broker.now) items.now) }
+{
+    let mut records = Vec::with_capacity(alloc, items.len())?;
+    for item in items {
+        records.push(records_of(alloc, broker, item)?)?;
+    }
+    Ok(records)
+}
+
+/// The records of an item's topic, by their stamps, where it is declared.
+fn records_of<'a>(
     alloc: Global,
     broker: &'a Broker,
     item: &Item,
-) -> Result<(), AllocError>
+) -> Result<Vec<&'a SourceRecord>, AllocError>
     requires { HasTopicOf broker.now (relation_of item.now) }
-    ensures { OnOk result (map (λ r. r.now) order.new.items
-        ≡ map (λ r. r.now) order.old.items ++ declared_records broker.now item.now) }
+    ensures { IfOk result (λ records. records_lent records ≡ declared_records broker.now item.now) }
 {
     match item {
-        Item::Declared(relation) => {
-            let records = records_shown(alloc, broker, relation)?;
-            order.extend_from_slice(records.as_slice())
-        }
-        Item::Started(_) => Ok(()),
+        Item::Declared(relation) => records_shown(alloc, broker, relation),
+        Item::Started(_) => Ok(Vec::new(alloc)),
     }
 }
 

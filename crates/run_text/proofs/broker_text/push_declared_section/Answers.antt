@@ -1,4 +1,4 @@
-use Rattle.std.proofs.Common.{◌≡◌, ◌∙◌, ◌++◌, Bor, List, ap, map, string_bytes, subst}
+use Rattle.std.proofs.Common.{◌≡◌, ◌∙◌, ◌++◌, List, ap, map, string_bytes, subst}
 use Rattle.std.specs.Prelude.{OnOk}
 use Rattle.ksql_place.specs.declared.change.SourceRecord.{SourceRecord}
 use Rattle.query_meaning.specs.Meaning.{declared_changes}
@@ -10,15 +10,13 @@ use Rattle.run_text.proofs.ShownLemmas.{topic-inside}
 use Rattle.run_text.proofs.broker_text.push_declared_section.Goals as goal
 
 pub closed-closed-requires : goal.closed-closed-requires
-closed-closed-requires c = topic-inside c.args.broker.now c.args.relation.now c.requires
+closed-closed-requires c = topic-inside c.args.broker.now c.args.relation.now c.requires.topic
 
 pub returns : goal.returns
 returns c =
     let r = c.args.relation.now in
-    let lent = λ (rs : List (Bor SourceRecord)). map (λ (r : Bor SourceRecord). r.now) rs in
-    let skipped = c.skipped_among-skipped.ensures ∙ ap (skipped_of r) (ap lent c.as_slice-2.ensures.value ∙ c.in_ok-records.ensures) in
+    let skipped = c.skipped_among-skipped.ensures ∙ ap (skipped_of r) c.requires.records in
     let shown =
-    ap (map shown_of) c.as_slice-3.ensures.value ∙ c.in_ok-lines.ensures
-    ∙ ap (λ (rs : List SourceRecord). as_fed (declared_changes r rs)) (ap lent c.as_slice.ensures.value ∙ c.in_ok-records.ensures) in
+    ap (map shown_of) c.as_slice.ensures.value ∙ c.in_ok-lines.ensures ∙ ap (λ (rs : List SourceRecord). as_fed (declared_changes r rs)) c.requires.records in
     subst (λ (s : Section). OnOk c.push_section.result (string_bytes c.push_section.new.out ≡ string_bytes c.args.out.now ++ extent_text c.args.extent s))
     (section-made r _ _ _ _ _ _ c.closed-closed.ensures skipped shown) c.push_section.ensures

@@ -4,5 +4,5 @@ use Rattle.run_text.specs.Shown.{section_shown}
 use Rattle.run_text.proofs.broker_text.push_sections.Given as goal
 
 -- the sections of the items so far are written
-abbrev pub invariant-loop-item : goal.invariant-loop-item
-invariant-loop-item l = string_bytes l.out ≡ string_bytes l.initial.out ++ flat_map (extent_text l.extent) (map (section_shown l.broker) (take l.item-index l.items))
+abbrev pub invariant-loop-number : goal.invariant-loop-number
+invariant-loop-number l = string_bytes l.out ≡ string_bytes l.initial.out ++ flat_map (extent_text l.extent) (map (section_shown l.broker) (take l.number l.items))
