@@ -1,6 +1,6 @@
 -- All tasks of a round, one after another.
 use Rattle.std.proofs.Common.{◌≡◌, ◌∙◌, refl, sym, subst, ℕ, Bool, true, false, List, [], ◌∷◌, ◌++◌, map, append_assoc}
-use Rattle.std.specs.Prelude.{if◌then◌else◌, IfSome, Option, Some, None}
+use Rattle.std.specs.Prelude.{IfSome, Option, Some, None}
 use Rattle.std.specs.List.{AllByRecursion, AllZip}
 use Rattle.ksql_place.specs.declared.change.SourceRecord.{SourceRecord}
 use Rattle.ksql_program.specs.Sound.{IsSound}
@@ -27,33 +27,24 @@ use Rattle.cluster_core.proofs.Names.{AreApart}
 use Rattle.cluster_core.proofs.Settling.{settled}
 use Rattle.cluster_core.proofs.Tasks.{AreRunning, IsNamed, can-commit, top}
 
--- a task after the commits of a round: it waits with no proposal, unless its owner is lost
-abbrev pub after_offer : Option ℕ → Ran → Moved
-after_offer lost r = if is_with r.worker lost then r.moved else idle r.moved.task
-
--- what is offered of a task has its name
-pub named-offer : (lost : Option ℕ) (r : Ran) → IsNamed r.moved → IfSome (offered lost r) (λ p. p.task ≡ r.moved.task.name)
-named-offer lost r named = by (is_with r.worker lost)
-  where
-    by : (c : Bool) → IfSome (if c then None else r.moved.proposal) (λ p. p.task ≡ r.moved.task.name)
-    by true = tt
-    by false = named
+-- a task after the commits of a round: it waits with no proposal
+abbrev pub after_commit : Ran → Moved
+after_commit r = idle r.moved.task
 
 -- tasks of different names offer for different tasks
-apart-one : (lost : Option ℕ) (r : Ran) (rs : List Ran) → IsNamed r.moved → AllByRecursion (λ (x : Ran). IsNamed x.moved) rs →
-    AllByRecursion (λ (x : Ran). AreApart r.moved.task.name x.moved.task.name) rs → AllByRecursion (ProposeApart (offered lost r)) (map (offered lost) rs)
-apart-one lost r [] named all apart = tt
-apart-one lost r (x ∷ rs) named all apart =
-    (both (offered lost r) (offered lost x) (named-offer lost r named) (named-offer lost x all.0), apart-one lost r rs named all.1 apart.1)
+apart-one : (r : Ran) (rs : List Ran) → IsNamed r.moved → AllByRecursion (λ (x : Ran). IsNamed x.moved) rs →
+    AllByRecursion (λ (x : Ran). AreApart r.moved.task.name x.moved.task.name) rs → AllByRecursion (ProposeApart (offered r)) (map offered rs)
+apart-one r [] named all apart = tt
+apart-one r (x ∷ rs) named all apart = (both (offered r) (offered x) named all.0, apart-one r rs named all.1 apart.1)
   where
     both : (o q : Option Proposal) → IfSome o (λ p. p.task ≡ r.moved.task.name) → IfSome q (λ p. p.task ≡ x.moved.task.name) → IfSome o (λ a. IfSome q (λ b. a.task ≡ b.task → ⊥))
     both None q h k = tt
     both (Some a) None h k = tt
     both (Some a) (Some b) h k = λ same. apart.0 (sym h ∙ same ∙ k)
 
-apart-all : (lost : Option ℕ) (rs : List Ran) → AllByRecursion (λ (x : Ran). IsNamed x.moved) rs → Pairwise (λ (x y : Ran). AreApart x.moved.task.name y.moved.task.name) rs → Pairwise ProposeApart (map (offered lost) rs)
-apart-all lost [] named pairs = tt
-apart-all lost (r ∷ rs) named pairs = (apart-one lost r rs named.0 named.1 pairs.0, apart-all lost rs named.1 pairs.1)
+apart-all : (rs : List Ran) → AllByRecursion (λ (x : Ran). IsNamed x.moved) rs → Pairwise (λ (x y : Ran). AreApart x.moved.task.name y.moved.task.name) rs → Pairwise ProposeApart (map offered rs)
+apart-all [] named pairs = tt
+apart-all (r ∷ rs) named pairs = (apart-one r rs named.0 named.1 pairs.0, apart-all rs named.1 pairs.1)
 
 -- pairs of names are pairs of tasks
 pairs-of : (rs : List Ran) → Pairwise AreApart (map (λ (m : Moved). m.task.name) (map (λ (r : Ran). r.moved) rs)) → Pairwise (λ (x y : Ran). AreApart x.moved.task.name y.moved.task.name) rs
@@ -74,10 +65,10 @@ settle-fed r (q ∷ os) b c does = by q does.1 (settle-fed r os does.0 c does.2)
     by (Some p) applies rest = rest ∙ applies.fed
 
 module _ (items : List Item) (order : List SourceRecord) (sound : IsSound items) (fits : Fits items order) where
-  pub offers-apart : (b : Shelf) (lost : Option ℕ) (rs : List Ran) → AreRunning items order b (map (λ (r : Ran). r.moved) rs) → Pairwise ProposeApart (map (offered lost) rs)
-  offers-apart b lost rs run = apart-all lost rs (all-mapped IsNamed (λ (r : Ran). r.moved) rs run.named) (pairs-of rs run.apart)
+  pub offers-apart : (b : Shelf) (rs : List Ran) → AreRunning items order b (map (λ (r : Ran). r.moved) rs) → Pairwise ProposeApart (map offered rs)
+  offers-apart b rs run = apart-all rs (all-mapped IsNamed (λ (r : Ran). r.moved) rs run.named) (pairs-of rs run.apart)
 
-  -- ---- all go over what the broker has
+  -- ---- all go over what the broker has, but those of a worker that is lost
 
   module _ (b : Shelves) (topics : topics_of b ≡ (topology_of items).topics) where
     pub all-can-advance : HasParts b → CanBeStored items (topology_of items) order → (front : List Moved) (ss : List Seat) → AreRunning items order (shelf_of b) (front ++ map (λ (s : Seat). idle s.task) ss) →
@@ -88,44 +79,39 @@ module _ (items : List Item) (order : List SourceRecord) (sound : IsSound items)
       all-can-advance has law (front ++ idle x.task ∷ []) xs (subst (AreRunning items order (shelf_of b)) (sym (append_assoc front (idle x.task ∷ []) (map (λ (s : Seat). idle s.task) xs))) run),
     )
 
-    pub all-advanced : (front : List Moved) (ss : List Seat) (rs : List Ran) → AllZip (HasRun b) ss rs → AreRunning items order (shelf_of b) (front ++ map (λ (s : Seat). idle s.task) ss) →
-        AreRunning items order (shelf_of b) (front ++ map (λ (r : Ran). r.moved) rs)
-    all-advanced front [] [] zip run = run
-    all-advanced front [] (r ∷ rs) zip run = absurd zip
-    all-advanced front (x ∷ xs) [] zip run = absurd zip
-    all-advanced front (x ∷ xs) (r ∷ rs) zip run =
-        let now : AreRunning items order (shelf_of b) (front ++ r.moved ∷ map (λ (s : Seat). idle s.task) xs) =
-        advanced-task items order sound fits b topics front x.task (map (λ (s : Seat). idle s.task) xs) run r.moved zip.0.moved in
+    pub all-advanced : (lost : Option ℕ) (front : List Moved) (ss : List Seat) (rs : List Ran) → AllZip (HasRun lost b) ss rs →
+        AreRunning items order (shelf_of b) (front ++ map (λ (s : Seat). idle s.task) ss) → AreRunning items order (shelf_of b) (front ++ map (λ (r : Ran). r.moved) rs)
+    all-advanced lost front [] [] zip run = run
+    all-advanced lost front [] (r ∷ rs) zip run = absurd zip
+    all-advanced lost front (x ∷ xs) [] zip run = absurd zip
+    all-advanced lost front (x ∷ xs) (r ∷ rs) zip run =
         subst (AreRunning items order (shelf_of b)) (append_assoc front (r.moved ∷ []) (map (λ (y : Ran). y.moved) rs))
-        (all-advanced (front ++ r.moved ∷ []) xs rs zip.1 (subst (AreRunning items order (shelf_of b)) (sym (append_assoc front (r.moved ∷ []) (map (λ (s : Seat). idle s.task) xs))) now))
+        (all-advanced lost (front ++ r.moved ∷ []) xs rs zip.1
+        (subst (AreRunning items order (shelf_of b)) (sym (append_assoc front (r.moved ∷ []) (map (λ (s : Seat). idle s.task) xs))) (now (is_with x.worker lost) refl)))
+      where
+        now : (l : Bool) → is_with x.worker lost ≡ l → AreRunning items order (shelf_of b) (front ++ r.moved ∷ map (λ (s : Seat). idle s.task) xs)
+        now true is = subst (λ (m : Moved). AreRunning items order (shelf_of b) (front ++ m ∷ map (λ (s : Seat). idle s.task) xs)) (sym (zip.0.waits is)) run
+        now false is = advanced-task items order sound fits b topics front x.task (map (λ (s : Seat). idle s.task) xs) run r.moved (zip.0.moved is)
 
-  -- ---- all proposals are committed but those of a worker that is lost
+  -- ---- all proposals are committed
 
-  pub all-can-commit : (b : Shelf) (lost : Option ℕ) → ResultsRise items (topology_of items) order → (front : List Moved) (rs : List Ran) → AreRunning items order b (front ++ map (λ (r : Ran). r.moved) rs) →
-      AllByRecursion (λ o. IfSome o (CanCommit (top items order sound fits).routes b)) (map (offered lost) rs)
-  all-can-commit b lost rises front [] run = tt
-  all-can-commit b lost rises front (r ∷ rs) run = (
-    offer (is_with r.worker lost),
-    all-can-commit b lost rises (front ++ r.moved ∷ []) rs (subst (AreRunning items order b) (sym (append_assoc front (r.moved ∷ []) (map (λ (x : Ran). x.moved) rs))) run),
+  pub all-can-commit : (b : Shelf) → ResultsRise items (topology_of items) order → (front : List Moved) (rs : List Ran) → AreRunning items order b (front ++ map (λ (r : Ran). r.moved) rs) →
+      AllByRecursion (λ o. IfSome o (CanCommit (top items order sound fits).routes b)) (map offered rs)
+  all-can-commit b rises front [] run = tt
+  all-can-commit b rises front (r ∷ rs) run = (
+    one r.moved.proposal refl,
+    all-can-commit b rises (front ++ r.moved ∷ []) rs (subst (AreRunning items order b) (sym (append_assoc front (r.moved ∷ []) (map (λ (x : Ran). x.moved) rs))) run),
   )
     where
       one : (o : Option Proposal) → r.moved.proposal ≡ o → IfSome o (CanCommit (top items order sound fits).routes b)
       one None is = tt
       one (Some p) is = can-commit items order sound fits b front r.moved (map (λ (x : Ran). x.moved) rs) run p is rises
 
-      offer : (c : Bool) → IfSome (if c then None else r.moved.proposal) (CanCommit (top items order sound fits).routes b)
-      offer true = tt
-      offer false = one r.moved.proposal refl
-
-  pub all-settled : (lost : Option ℕ) (front : List Moved) (rs : List Ran) (b c : Shelf) → AllSettle (top items order sound fits).routes (map (offered lost) rs) b c →
-      AreRunning items order b (front ++ map (λ (r : Ran). r.moved) rs) → AreRunning items order c (front ++ map (after_offer lost) rs)
-  all-settled lost front [] b c same run = subst (λ (x : Shelf). AreRunning items order x (front ++ [])) (sym same) run
-  all-settled lost front (r ∷ rs) b c does run =
-      subst (AreRunning items order c) (append_assoc front (after_offer lost r ∷ []) (map (after_offer lost) rs))
-      (all-settled lost (front ++ after_offer lost r ∷ []) rs does.0 c does.2
-      (subst (AreRunning items order does.0) (sym (append_assoc front (after_offer lost r ∷ []) (map (λ (x : Ran). x.moved) rs))) (now (is_with r.worker lost) does.1)))
-    where
-      now : (l : Bool) → Settles (top items order sound fits).routes (if l then None else r.moved.proposal) b does.0 →
-          AreRunning items order does.0 (front ++ (if l then r.moved else idle r.moved.task) ∷ map (λ (x : Ran). x.moved) rs)
-      now true same = subst (λ (x : Shelf). AreRunning items order x (front ++ r.moved ∷ map (λ (x : Ran). x.moved) rs)) (sym same) run
-      now false settles = settled items order sound fits b does.0 front r.moved (map (λ (x : Ran). x.moved) rs) settles run
+  pub all-settled : (front : List Moved) (rs : List Ran) (b c : Shelf) → AllSettle (top items order sound fits).routes (map offered rs) b c →
+      AreRunning items order b (front ++ map (λ (r : Ran). r.moved) rs) → AreRunning items order c (front ++ map after_commit rs)
+  all-settled front [] b c same run = subst (λ (x : Shelf). AreRunning items order x (front ++ [])) (sym same) run
+  all-settled front (r ∷ rs) b c does run =
+      subst (AreRunning items order c) (append_assoc front (after_commit r ∷ []) (map after_commit rs))
+      (all-settled (front ++ after_commit r ∷ []) rs does.0 c does.2
+      (subst (AreRunning items order does.0) (sym (append_assoc front (after_commit r ∷ []) (map (λ (x : Ran). x.moved) rs)))
+      (settled items order sound fits b does.0 front r.moved (map (λ (x : Ran). x.moved) rs) does.1 run)))

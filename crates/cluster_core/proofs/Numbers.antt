@@ -37,7 +37,6 @@ use Rattle.cluster_core.specs.Rounds.{AllSettle, HasRun, Settles, noted, offered
 use Rattle.cluster_core.specs.declared.rounds.Ran.{Ran}
 use Rattle.cluster_core.specs.declared.seats.Seat.{Seat}
 use Rattle.cluster_core.proofs.Advancing.{bound-same, is, step}
-use Rattle.cluster_core.proofs.AllTasks.{named-offer}
 use Rattle.cluster_core.proofs.Names.{AreApart}
 use Rattle.cluster_core.proofs.Running.{both-true, named-itself, named-other, on_shelf}
 use Rattle.cluster_core.proofs.Tasks.{AreRunning, IsNamed, means, top}
@@ -97,11 +96,19 @@ pub record IsReady (r : Routes) (b : Shelves) (bound : TaskName → ℕ) (s : Se
   pub step : s.task.done ≡ (shelf_of b).done s.task.name
   pub goes : bound_of b s.task ≡ bound s.task.name
 
+-- a task keeps its name in a round
+pub same-name : (lost : Option ℕ) (b : Shelves) (s : Seat) (x : Ran) → HasRun lost b s x → x.moved.task.name ≡ s.task.name
+same-name lost b s x ran = by (is_with s.worker lost) refl
+  where
+    by : (l : Bool) → is_with s.worker lost ≡ l → x.moved.task.name ≡ s.task.name
+    by true is = ap (λ (m : Moved). m.task.name) (ran.waits is)
+    by false is = (ran.moved is).same.name
+
 module _ (r : Routes) (lost : Option ℕ) (b : Shelves) (bound : TaskName → ℕ) where
   -- what a task's own commit leaves
-  own-done : (from c : Shelf) (s : Seat) (x : Ran) → HasRun b s x → IsReady r b bound s → from.done s.task.name ≡ (shelf_of b).done s.task.name → Settles r (offered lost x) from c →
+  own-done : (from c : Shelf) (s : Seat) (x : Ran) → HasRun lost b s x → IsReady r b bound s → from.done s.task.name ≡ (shelf_of b).done s.task.name → Settles r (offered x) from c →
       c.done s.task.name ≡ (if takes_part lost (Some s.worker) then bound s.task.name else from.done s.task.name)
-  own-done from c s x ran ready same does = part (is_with s.worker lost) (subst (λ (w : ℕ). Settles r (if is_with w lost then None else x.moved.proposal) from c) ran.worker does)
+  own-done from c s x ran ready same does = part (is_with s.worker lost) refl
     where
       commits : (o : Option Proposal) → is_none o ≡ (bound_of b s.task == s.task.done) → IfSome o (IsProposedBy b s.task x.moved.task) → Settles r o from c → c.done s.task.name ≡ bound s.task.name
       commits None none proposed still =
@@ -109,14 +116,14 @@ module _ (r : Routes) (lost : Option ℕ) (b : Shelves) (bound : TaskName → �
           (λ i. (still i).done s.task.name) ∙ same ∙ sym ready.step ∙ sym equal ∙ ready.goes
       commits (Some p) none proposed applies = ap c.done (sym proposed.task) ∙ applies.done ∙ proposed.to ∙ ready.goes
 
-      part : (l : Bool) → Settles r (if l then None else x.moved.proposal) from c → c.done s.task.name ≡ (if not l then bound s.task.name else from.done s.task.name)
-      part true still = λ i. (still i).done s.task.name
-      part false settles = commits x.moved.proposal ran.moved.none ran.moved.proposal settles
+      part : (l : Bool) → is_with s.worker lost ≡ l → c.done s.task.name ≡ (if not l then bound s.task.name else from.done s.task.name)
+      part true is = let still : c ≡ from = subst (λ (m : Moved). Settles r m.proposal from c) (ran.waits is) does in λ i. (still i).done s.task.name
+      part false is = commits x.moved.proposal (ran.moved is).none (ran.moved is).proposal does
 
   -- what the commits of a round leave of what a task is done with
-  pub commits-done : (ss : List Seat) (rs : List Ran) → AllZip (HasRun b) ss rs → AllByRecursion (IsReady r b bound) ss → AllByRecursion (λ (x : Ran). IsNamed x.moved) rs →
+  pub commits-done : (ss : List Seat) (rs : List Ran) → AllZip (HasRun lost b) ss rs → AllByRecursion (IsReady r b bound) ss → AllByRecursion (λ (x : Ran). IsNamed x.moved) rs →
       Pairwise (λ (x y : Seat). AreApart x.task.name y.task.name) ss → (from c : Shelf) → AllByRecursion (λ (s : Seat). from.done s.task.name ≡ (shelf_of b).done s.task.name) ss →
-      AllSettle r (map (offered lost) rs) from c → (u : TaskName) → IsWriter r u → c.done u ≡ (if takes_part lost (owner_of (map owned_of ss) u) then bound u else from.done u)
+      AllSettle r (map offered rs) from c → (u : TaskName) → IsWriter r u → c.done u ≡ (if takes_part lost (owner_of (map owned_of ss) u) then bound u else from.done u)
   commits-done [] [] zip ready named apart from c same does u writes = λ i. (does i).done u
   commits-done [] (x ∷ rs) zip ready named apart from c same does u writes = absurd zip
   commits-done (s ∷ ss) [] zip ready named apart from c same does u writes = absurd zip
@@ -126,11 +133,11 @@ module _ (r : Routes) (lost : Option ℕ) (b : Shelves) (bound : TaskName → �
       mid : Shelf
       mid = does.0
 
-      offer : IfSome (offered lost x) (λ p. p.task ≡ s.task.name)
-      offer = subst (λ (v : TaskName). IfSome (offered lost x) (λ p. p.task ≡ v)) zip.0.moved.same.name (named-offer lost x named.0)
+      offer : IfSome (offered x) (λ p. p.task ≡ s.task.name)
+      offer = subst (λ (v : TaskName). IfSome (offered x) (λ p. p.task ≡ v)) (same-name lost b s x zip.0) named.0
 
       else-done : (v : TaskName) → IsWriter r v → AreApart s.task.name v → mid.done v ≡ from.done v
-      else-done v writer other = settle-done r (offered lost x) from mid v writer (name (offered lost x) offer) does.1
+      else-done v writer other = settle-done r (offered x) from mid v writer (name (offered x) offer) does.1
         where
           name : (q : Option Proposal) → IfSome q (λ p. p.task ≡ s.task.name) → IfSome q (λ p. AreApart p.task v)
           name None h = tt
@@ -188,9 +195,9 @@ module _ (items : List Item) (order : List SourceRecord) (sound : IsSound items)
   )
 
   -- what a task's offer is noted as
-  one-noted : (lost : Option ℕ) (s : Seat) (x : Ran) → HasRun b s x → IsReady (top items order sound fits).routes b (progress.bound (topology_of items) p) s → s.task.done ≡ p.done s.task.name →
-      noted (offered lost x) ≡ (if takes_part lost (Some s.worker) then progress.committed (topology_of items) p s.task.name else [])
-  one-noted lost s x ran ready done = ap (λ (w : ℕ). noted (if is_with w lost then None else x.moved.proposal)) ran.worker ∙ part (is_with s.worker lost)
+  one-noted : (lost : Option ℕ) (s : Seat) (x : Ran) → HasRun lost b s x → IsReady (top items order sound fits).routes b (progress.bound (topology_of items) p) s → s.task.done ≡ p.done s.task.name →
+      noted (offered x) ≡ (if takes_part lost (Some s.worker) then progress.committed (topology_of items) p s.task.name else [])
+  one-noted lost s x ran ready done = part (is_with s.worker lost) refl
     where
       test : (bound_of b s.task == s.task.done) ≡ (progress.bound (topology_of items) p s.task.name == p.done s.task.name)
       test = ap₂ (λ n k. n == k) ready.goes done
@@ -205,14 +212,14 @@ module _ (items : List Item) (order : List SourceRecord) (sound : IsSound items)
           let to : q.to ≡ progress.bound (topology_of items) p s.task.name = proposal.to ∙ ready.goes in
           (λ i. entry.Committed (proposal.task i) (from i) (to i) ∷ []) ∙ ap (λ (c : Bool). if c then [] else some) (none ∙ test)
 
-      part : (l : Bool) → noted (if l then None else x.moved.proposal) ≡ (if not l then progress.committed (topology_of items) p s.task.name else [])
-      part true = refl
-      part false = by x.moved.proposal ran.moved.none ran.moved.proposal
+      part : (l : Bool) → is_with s.worker lost ≡ l → noted (offered x) ≡ (if not l then progress.committed (topology_of items) p s.task.name else [])
+      part true is = ap (λ (m : Moved). noted m.proposal) (ran.waits is)
+      part false is = by x.moved.proposal (ran.moved is).none (ran.moved is).proposal
 
   -- what a round notes
-  pub all-noted : (lost : Option ℕ) (ss : List Seat) (rs : List Ran) → AllZip (HasRun b) ss rs →
+  pub all-noted : (lost : Option ℕ) (ss : List Seat) (rs : List Ran) → AllZip (HasRun lost b) ss rs →
       AllByRecursion (IsReady (top items order sound fits).routes b (progress.bound (topology_of items) p)) ss → AllByRecursion (λ (s : Seat). s.task.done ≡ p.done s.task.name) ss →
-      flat_map noted (map (offered lost) rs) ≡ flat_map (λ (o : Owned). if takes_part lost (Some o.worker) then progress.committed (topology_of items) p o.task else []) (map owned_of ss)
+      flat_map noted (map offered rs) ≡ flat_map (λ (o : Owned). if takes_part lost (Some o.worker) then progress.committed (topology_of items) p o.task else []) (map owned_of ss)
   all-noted lost [] [] zip ready dones = refl
   all-noted lost [] (x ∷ rs) zip ready dones = absurd zip
   all-noted lost (s ∷ ss) [] zip ready dones = absurd zip

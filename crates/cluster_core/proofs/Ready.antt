@@ -1,7 +1,7 @@
 -- What a round asks for, of a cluster that has come so far, and what the cluster is after it.
-use Rattle.std.proofs.Common.{◌≡◌, ◌∙◌, ap, ap₂, refl, sym, subst, ℕ, ◌+◌, Bool, true, false, List, [], ◌∷◌, ◌++◌, map, append_assoc}
+use Rattle.std.proofs.Common.{◌≡◌, ◌∙◌, ap, ap₂, refl, sym, subst, ℕ, ◌+◌, List, [], ◌∷◌, ◌++◌, map, append_assoc}
 use Rattle.std.proofs.lemmas.List.Elements.{All-from_recursion}
-use Rattle.std.specs.Prelude.{All, Contains, IfSome, if◌then◌else◌, flat_map, Option, None, Some}
+use Rattle.std.specs.Prelude.{All, Contains, IfSome, if◌then◌else◌, flat_map, Option, Some}
 use Rattle.std.specs.List.{AllByRecursion, AllPairs, AllZip}
 use Rattle.ksql_types.specs.declared.relation.TaskName.{TaskName}
 use Rattle.ksql_types.specs.declared.topic.TopicSpec.{TopicSpec}
@@ -18,11 +18,11 @@ use Rattle.storing_laws.proofs.RisingResults.{results-rising}
 use Rattle.storing_laws.proofs.Storing.{can-be-stored}
 use Rattle.topic_log.specs.Shelves.{routes_in, shelf_of, topics_of}
 use Rattle.topic_log.specs.declared.shelves.Shelves.{Shelves}
-use Rattle.assignor.specs.Rule.{is_with, owner_of}
+use Rattle.assignor.specs.Rule.{owner_of}
 use Rattle.assignor.specs.declared.assignment.Owned.{Owned}
 use Rattle.task_core.specs.Tasks.{TaskView}
 use Rattle.task_core.specs.declared.task.Moved.{Moved}
-use Rattle.cluster_core.specs.Cluster.{HasCome, HasComeWith, IsIdleBut, IsKept, idle}
+use Rattle.cluster_core.specs.Cluster.{HasCome, HasComeWith, IsKept, idle}
 use Rattle.cluster_core.specs.Few.{NodesHaveFew}
 use Rattle.cluster_core.specs.Moves.{owned_of}
 use Rattle.cluster_core.specs.Progress.{Progress, bound, committed, round, takes_part}
@@ -32,16 +32,16 @@ use Rattle.cluster_core.specs.declared.rounds.Ran.{Ran}
 use Rattle.cluster_core.specs.declared.seats.Seat.{Seat}
 use Rattle.cluster_core.specs.declared.sources.Source.{Source as Kept}
 use Rattle.cluster_core.proofs.Coming.{come-of, done-come, newest-come, running-of, topics-come}
-use Rattle.cluster_core.proofs.AllTasks.{after_offer, all-advanced, all-can-advance, all-can-commit, all-settled, offers-apart, settle-fed}
+use Rattle.cluster_core.proofs.AllTasks.{after_commit, all-advanced, all-can-advance, all-can-commit, all-settled, offers-apart, settle-fed}
 use Rattle.cluster_core.proofs.Lists.{all-mapped}
 use Rattle.cluster_core.proofs.Names.{AreApart}
-use Rattle.cluster_core.proofs.Numbers.{IsReady, all-newest, all-noted, all-ready, commits-done}
+use Rattle.cluster_core.proofs.Numbers.{IsReady, all-newest, all-noted, all-ready, commits-done, same-name}
 use Rattle.cluster_core.proofs.Tasks.{AreRunning, IsNamed, means}
 
 -- what a round leaves as it was, and what it does to the tasks and to the broker
 pub record IsRound (lost : Option ℕ) (c : Cluster) (rs : List Ran) (next : Cluster) : Type 0 where
-  pub ran : AllZip (HasRun c.broker) c.seats.items rs
-  pub settled : AllSettle (routes_in c.broker) (map (offered lost) rs) (shelf_of c.broker) (shelf_of next.broker)
+  pub ran : AllZip (HasRun lost c.broker) c.seats.items rs
+  pub settled : AllSettle (routes_in c.broker) (map offered rs) (shelf_of c.broker) (shelf_of next.broker)
   pub seats : next.seats.items ≡ map seat_of rs
   pub topics : topics_of next.broker ≡ topics_of c.broker
   pub topology : next.topology ≡ c.topology
@@ -49,33 +49,26 @@ pub record IsRound (lost : Option ℕ) (c : Cluster) (rs : List Ran) (next : Clu
   pub live : next.live.items ≡ c.live.items
   pub sources : next.sources.items ≡ c.sources.items
   pub rounds : next.rounds ≡ c.rounds + 1
-  pub journal : next.journal.items ≡ (c.journal.items ++ entry.Round (c.rounds + 1) ∷ []) ++ flat_map noted (map (offered lost) rs)
+  pub journal : next.journal.items ≡ (c.journal.items ++ entry.Round (c.rounds + 1) ∷ []) ++ flat_map noted (map offered rs)
 
 -- ---- lists
 
 -- the tasks after a round have the owners that they had
-ran-owners : (b : Shelves) (ss : List Seat) (rs : List Ran) → AllZip (HasRun b) ss rs → map owned_of (map seat_of rs) ≡ map owned_of ss
-ran-owners b [] [] zip = refl
-ran-owners b [] (x ∷ rs) zip = absurd zip
-ran-owners b (s ∷ ss) [] zip = absurd zip
-ran-owners b (s ∷ ss) (x ∷ rs) zip =
-    ap₂ (λ (o : Owned) (os : List Owned). o ∷ os) (λ i. record { task = zip.0.moved.same.name i; worker = zip.0.worker i }) (ran-owners b ss rs zip.1)
+ran-owners : (lost : Option ℕ) (b : Shelves) (ss : List Seat) (rs : List Ran) → AllZip (HasRun lost b) ss rs → map owned_of (map seat_of rs) ≡ map owned_of ss
+ran-owners lost b [] [] zip = refl
+ran-owners lost b [] (x ∷ rs) zip = absurd zip
+ran-owners lost b (s ∷ ss) [] zip = absurd zip
+ran-owners lost b (s ∷ ss) (x ∷ rs) zip =
+    ap₂ (λ (o : Owned) (os : List Owned). o ∷ os) (λ i. record { task = same-name lost b s x zip.0 i; worker = zip.0.worker i }) (ran-owners lost b ss rs zip.1)
 
-offer-task : (lost : Option ℕ) (x : Ran) → (after_offer lost x).task ≡ x.moved.task
-offer-task lost x = by (is_with x.worker lost)
-  where
-    by : (l : Bool) → (if l then x.moved else idle x.moved.task).task ≡ x.moved.task
-    by true = refl
-    by false = refl
+ran-tasks : (rs : List Ran) → map (λ (m : Moved). m.task) (map after_commit rs) ≡ map (λ (s : Seat). s.task) (map seat_of rs)
+ran-tasks [] = refl
+ran-tasks (x ∷ rs) = ap (λ (ts : List TaskView). x.moved.task ∷ ts) (ran-tasks rs)
 
-ran-tasks : (lost : Option ℕ) (rs : List Ran) → map (λ (m : Moved). m.task) (map (after_offer lost) rs) ≡ map (λ (s : Seat). s.task) (map seat_of rs)
-ran-tasks lost [] = refl
-ran-tasks lost (x ∷ rs) = ap₂ (λ (t : TaskView) (ts : List TaskView). t ∷ ts) (offer-task lost x) (ran-tasks lost rs)
-
--- only tasks of the lost worker wait with proposals
-ran-idle : (lost : Option ℕ) (rs : List Ran) → AllZip (IsIdleBut lost) (map seat_of rs) (map (after_offer lost) rs)
-ran-idle lost [] = tt
-ran-idle lost (x ∷ rs) = ((λ other. ap (λ (l : Bool). if l then x.moved else idle x.moved.task) other), ran-idle lost rs)
+-- and no proposal waits
+ran-idle : (rs : List Ran) → map after_commit rs ≡ map (λ (s : Seat). idle s.task) (map seat_of rs)
+ran-idle [] = refl
+ran-idle (x ∷ rs) = ap (λ (ms : List Moved). idle x.moved.task ∷ ms) (ran-idle rs)
 
 pairs-of-seats : (ss : List Seat) → Pairwise AreApart (map (λ (m : Moved). m.task.name) (map (λ (s : Seat). idle s.task) ss)) → Pairwise (λ (x y : Seat). AreApart x.task.name y.task.name) ss
 pairs-of-seats [] pairs = tt
@@ -103,26 +96,26 @@ module _ (items : List Item) (p : Progress) (c : Cluster) (sound : IsSound items
       (all-can-advance items p.order sound fits c.broker topics has
       (can-be-stored items p.order sound fits.fed h.texts fits.in_time fits.short fits.text) [] c.seats.items runs)
 
-  module _ (lost : Option ℕ) (rs : List Ran) (ran : AllZip (HasRun c.broker) c.seats.items rs) where
+  module _ (lost : Option ℕ) (rs : List Ran) (ran : AllZip (HasRun lost c.broker) c.seats.items rs) where
     run : AreRunning items p.order (shelf_of c.broker) (map (λ (r : Ran). r.moved) rs)
-    run = all-advanced items p.order sound h.progress.order c.broker topics [] c.seats.items rs ran runs
+    run = all-advanced items p.order sound h.progress.order c.broker topics lost [] c.seats.items rs ran runs
 
     -- each proposal can be committed
-    pub commit-ready : All (λ o. IfSome o (CanCommit (routes_in c.broker) (shelf_of c.broker))) (map (offered lost) rs)
+    pub commit-ready : All (λ o. IfSome o (CanCommit (routes_in c.broker) (shelf_of c.broker))) (map offered rs)
     commit-ready =
-        All-from_recursion (λ (o : Option Proposal). IfSome o (CanCommit (routes_in c.broker) (shelf_of c.broker))) (map (offered lost) rs)
-        (subst (λ (ts : List TopicSpec). AllByRecursion (λ (o : Option Proposal). IfSome o (CanCommit (routes_of ts) (shelf_of c.broker))) (map (offered lost) rs)) (sym topics)
-        (all-can-commit items p.order sound h.progress.order (shelf_of c.broker) lost (results-rising items p.order sound h.progress.order.fed) [] rs run))
+        All-from_recursion (λ (o : Option Proposal). IfSome o (CanCommit (routes_in c.broker) (shelf_of c.broker))) (map offered rs)
+        (subst (λ (ts : List TopicSpec). AllByRecursion (λ (o : Option Proposal). IfSome o (CanCommit (routes_of ts) (shelf_of c.broker))) (map offered rs)) (sym topics)
+        (all-can-commit items p.order sound h.progress.order (shelf_of c.broker) (results-rising items p.order sound h.progress.order.fed) [] rs run))
 
-    pub commit-apart : AllPairs ProposeApart (map (offered lost) rs)
-    commit-apart = all-from_pairwise ProposeApart (map (offered lost) rs) (offers-apart items p.order sound h.progress.order (shelf_of c.broker) lost rs run)
+    pub commit-apart : AllPairs ProposeApart (map offered rs)
+    commit-apart = all-from_pairwise ProposeApart (map offered rs) (offers-apart items p.order sound h.progress.order (shelf_of c.broker) rs run)
 
     -- ---- after the commits
 
     module _ (next : Cluster) (is : IsRound lost c rs next) where
       -- the steps of the routes of the program
-      settles : AllSettle (routes_of (topology_of items).topics) (map (offered lost) rs) (shelf_of c.broker) (shelf_of next.broker)
-      settles = subst (λ (ts : List TopicSpec). AllSettle (routes_of ts) (map (offered lost) rs) (shelf_of c.broker) (shelf_of next.broker)) topics is.settled
+      settles : AllSettle (routes_of (topology_of items).topics) (map offered rs) (shelf_of c.broker) (shelf_of next.broker)
+      settles = subst (λ (ts : List TopicSpec). AllSettle (routes_of ts) (map offered rs) (shelf_of c.broker) (shelf_of next.broker)) topics is.settled
 
       ready : AllByRecursion (IsReady (routes_of (topology_of items).topics) c.broker (bound (topology_of items) p)) c.seats.items
       ready = all-ready items p.order sound h.progress.order c.broker topics p h.fed (done-come items p waiting c h) [] c.seats.items runs
@@ -145,48 +138,40 @@ module _ (items : List Item) (p : Progress) (c : Cluster) (sound : IsSound items
           ∙ ap (λ (n : ℕ). if takes_part lost (owner_of p.owners u) then bound (topology_of items) p u else n) (done-come items p waiting c h u among)
 
       -- how far the cluster has come then
-      pub after-round : HasComeWith items (round lost c.topology p) (map (after_offer lost) rs) next × AllZip (IsIdleBut lost) next.seats.items (map (after_offer lost) rs)
-      after-round = (
-        subst (λ (t : Topology). HasComeWith items (round lost t p) (map (after_offer lost) rs) next) (sym h.topology)
-            (come-of items (round lost (topology_of items) p) (map (after_offer lost) rs) next (record {
-              texts = h.texts;
-              progress = record { sources = h.progress.sources; order = h.progress.order; none_later = h.progress.none_later; live = h.progress.live; owned = h.progress.owned };
-              topology = is.topology ∙ h.topology;
-              few = subst (λ (t : Topology). All NodesHaveFew t.subs) (sym is.topology) h.few;
-              chain = is.chain ∙ h.chain ∙ ap (λ (t : Topology). chain_of t.subs) (sym is.topology);
-              topics = is.topics ∙ h.topics ∙ ap (λ (t : Topology). t.topics) (sym is.topology);
-              live = is.live ∙ h.live;
-              owners = ap (map owned_of) is.seats ∙ ran-owners c.broker c.seats.items rs ran ∙ h.owners;
-              running = ran-tasks lost rs ∙ sym (ap (map (λ (s : Seat). s.task)) is.seats);
-              run = all-settled items p.order sound h.progress.order lost [] rs (shelf_of c.broker) (shelf_of next.broker) settles run;
-              fed = settle-fed (routes_in c.broker) (map (offered lost) rs) (shelf_of c.broker) (shelf_of next.broker) is.settled ∙ h.fed;
-              newest = λ u among.
-                  all-newest (routes_of (topology_of items).topics) (map (offered lost) rs) (shelf_of c.broker) (shelf_of next.broker) u
-                  ((means items p.order sound h.progress.order).writes u among) settles
-                  ∙ newest-come items p waiting c h u among;
-              done = done-next;
-              rounds = is.rounds ∙ ap (λ n. n + 1) h.rounds;
-              journal = is.journal
-                  ∙ append_assoc c.journal.items (entry.Round (c.rounds + 1) ∷ []) (flat_map noted (map (offered lost) rs))
-                  ∙ (λ i. h.journal i ++ entry.Round (h.rounds i + 1) ∷ noted-next i);
-              sources = subst (λ (xs : List Kept). AllZip IsKept xs p.sources) (sym is.sources) h.sources;
-            })),
-        subst (λ (ss : List Seat). AllZip (IsIdleBut lost) ss (map (after_offer lost) rs)) (sym is.seats) (ran-idle lost rs),
-      )
+      pub after-round : HasCome items (round lost c.topology p) next
+      after-round =
+          subst (λ (ms : List Moved). HasComeWith items (round lost c.topology p) ms next) (ran-idle rs ∙ sym (ap (map (λ (s : Seat). idle s.task)) is.seats))
+          (subst (λ (t : Topology). HasComeWith items (round lost t p) (map after_commit rs) next) (sym h.topology)
+          (come-of items (round lost (topology_of items) p) (map after_commit rs) next (record {
+            texts = h.texts;
+            progress = record { sources = h.progress.sources; order = h.progress.order; none_later = h.progress.none_later; live = h.progress.live; owned = h.progress.owned };
+            topology = is.topology ∙ h.topology;
+            few = subst (λ (t : Topology). All NodesHaveFew t.subs) (sym is.topology) h.few;
+            chain = is.chain ∙ h.chain ∙ ap (λ (t : Topology). chain_of t.subs) (sym is.topology);
+            topics = is.topics ∙ h.topics ∙ ap (λ (t : Topology). t.topics) (sym is.topology);
+            live = is.live ∙ h.live;
+            owners = ap (map owned_of) is.seats ∙ ran-owners lost c.broker c.seats.items rs ran ∙ h.owners;
+            running = ran-tasks rs ∙ sym (ap (map (λ (s : Seat). s.task)) is.seats);
+            run = all-settled items p.order sound h.progress.order [] rs (shelf_of c.broker) (shelf_of next.broker) settles run;
+            fed = settle-fed (routes_in c.broker) (map offered rs) (shelf_of c.broker) (shelf_of next.broker) is.settled ∙ h.fed;
+            newest = λ u among.
+                all-newest (routes_of (topology_of items).topics) (map offered rs) (shelf_of c.broker) (shelf_of next.broker) u
+                ((means items p.order sound h.progress.order).writes u among) settles
+                ∙ newest-come items p waiting c h u among;
+            done = done-next;
+            rounds = is.rounds ∙ ap (λ n. n + 1) h.rounds;
+            journal = is.journal
+                ∙ append_assoc c.journal.items (entry.Round (c.rounds + 1) ∷ []) (flat_map noted (map offered rs))
+                ∙ (λ i. h.journal i ++ entry.Round (h.rounds i + 1) ∷ noted-next i);
+            sources = subst (λ (xs : List Kept). AllZip IsKept xs p.sources) (sym is.sources) h.sources;
+          })))
         where
           steps : (ss : List Seat) → AllByRecursion (IsReady (routes_of (topology_of items).topics) c.broker (bound (topology_of items) p)) ss → AllByRecursion (λ (s : Seat). s.task.done ≡ (shelf_of c.broker).done s.task.name) ss
           steps [] all = tt
           steps (s ∷ ss) all = (all.0.step, steps ss all.1)
 
-          noted-next : flat_map noted (map (offered lost) rs) ≡ flat_map (λ (o : Owned). if takes_part lost (Some o.worker) then committed (topology_of items) p o.task else []) p.owners
+          noted-next : flat_map noted (map offered rs) ≡ flat_map (λ (o : Owned). if takes_part lost (Some o.worker) then committed (topology_of items) p o.task else []) p.owners
           noted-next =
               all-noted items p.order sound h.progress.order c.broker topics p h.fed (done-come items p waiting c h) lost c.seats.items rs ran ready
               (own-done c.seats.items runs.among (steps c.seats.items ready))
               ∙ ap (flat_map (λ (o : Owned). if takes_part lost (Some o.worker) then committed (topology_of items) p o.task else [])) h.owners
-
--- where no worker is lost, none waits with a proposal
-pub none-waits : (ss : List Seat) (ms : List Moved) → AllZip (IsIdleBut None) ss ms → ms ≡ map (λ (s : Seat). idle s.task) ss
-none-waits [] [] zip = refl
-none-waits [] (m ∷ ms) zip = absurd zip
-none-waits (s ∷ ss) [] zip = absurd zip
-none-waits (s ∷ ss) (m ∷ ms) zip = ap₂ (λ (x : Moved) (xs : List Moved). x ∷ xs) (zip.0 refl) (none-waits ss ms zip.1)

@@ -1,7 +1,7 @@
 -- What moves tasks: other live workers, or a task that is lost.
 use Rattle.std.proofs.Common.{◌≡◌, ◌∙◌, ap, refl, sym, subst, ℕ, Bool, false, List, [], ◌∷◌, ◌++◌, length, map, Result, Ok, Err, IfOk}
 use Rattle.std.proofs.lemmas.List.{length-map}
-use Rattle.std.specs.Prelude.{IsTrue, Option, not}
+use Rattle.std.specs.Prelude.{IsTrue, not}
 use Rattle.std.specs.List.{AllByRecursion, AllZip}
 use Rattle.std.specs.List.Sorted.{IsStrictlyIncreasing}
 use Rattle.ksql_types.specs.declared.relation.TaskName.{TaskName}
@@ -14,7 +14,7 @@ use Rattle.core_state.specs.declared.journal.JournalEntry.TheVariants as entry
 use Rattle.assignor.specs.Rule.{assignment, is_live}
 use Rattle.assignor.specs.declared.assignment.Owned.{Owned}
 use Rattle.task_core.specs.declared.task.Moved.{Moved}
-use Rattle.cluster_core.specs.Cluster.{CanMove, HasCome, HasComeWith, IsIdleAt, IsIdleBut, IsOwned, KeepPlaces, idle}
+use Rattle.cluster_core.specs.Cluster.{CanMove, HasCome, HasComeWith, IsIdleAt, IsOwned, KeepPlaces, idle}
 use Rattle.cluster_core.specs.Moves.{are_at, kept_of, owned_of}
 use Rattle.cluster_core.specs.Progress.{Progress, has_left, is_task}
 use Rattle.cluster_core.specs.declared.cluster.Cluster.{Cluster}
@@ -31,10 +31,6 @@ ok-more (Err e) f h = tt
 all-idle : (leaves : TaskName → Bool) (ss : List Seat) → AllZip (λ (s : Seat) (m : Moved). leaves s.task.name ≡ false → m ≡ idle s.task) ss (map (λ (s : Seat). idle s.task) ss)
 all-idle leaves [] = tt
 all-idle leaves (s ∷ ss) = ((λ stays. refl), all-idle leaves ss)
-
-pub idle-but : (lost : Option ℕ) (ss : List Seat) → AllZip (IsIdleBut lost) ss (map (λ (s : Seat). idle s.task) ss)
-idle-but lost [] = tt
-idle-but lost (s ∷ ss) = ((λ is. refl), idle-but lost ss)
 
 pub idle-live : (live : List ℕ) (ss : List Seat) → AllZip (IsIdleAt live) ss (map (λ (s : Seat). idle s.task) ss)
 idle-live live [] = tt

@@ -21,7 +21,7 @@ use Rattle.topic_log.specs.declared.shelves.Shelves.{Shelves}
 use Rattle.task_core.specs.Core.{core_of, inputs_at, nodes_at}
 use Rattle.task_core.specs.Tasks.{TaskView}
 use Rattle.task_core.specs.declared.task.Moved.{Moved}
-use Rattle.assignor.specs.Rule.{is_live, is_with}
+use Rattle.assignor.specs.Rule.{is_live}
 use Rattle.assignor.specs.declared.assignment.Owned.{Owned}
 use Rattle.feed_laws.specs.Feeds.{Source}
 use Rattle.feed_laws.specs.Fitting.{AreSourcesOf, Fits}
@@ -108,10 +108,6 @@ pub record HasComeWith (items : List Item) (p : Progress) (ms : List Moved) (c :
 -- a cluster of a program has come so far: no task waits with a proposal
 abbrev pub HasCome : List Item → Progress → Cluster → Type 0
 HasCome items p c = HasComeWith items p (map (λ s. idle s.task) c.seats.items) c
-
--- a task waits with no proposal, unless its owner is lost
-abbrev pub IsIdleBut : Option ℕ → Seat → Moved → Type 0
-IsIdleBut lost s m = is_with s.worker lost ≡ false → m ≡ idle s.task
 
 -- a task waits with no proposal where its owner is live
 abbrev pub IsIdleAt : List ℕ → Seat → Moved → Type 0

@@ -1,5 +1,5 @@
 -- What a round does: each task goes over what the broker has as the round begins, and then each proposal is committed.
-use Rattle.std.specs.Prelude.{◌≡◌, ◌==◌, ◌≤◌, ℕ, List, [], ◌∷◌, if◌then◌else◌, IfNone, IfSome, IsSome, Option, Some, None, is_none, option_map, slice_get, ◌<◌}
+use Rattle.std.specs.Prelude.{◌≡◌, ◌==◌, ◌≤◌, ℕ, true, false, List, [], ◌∷◌, IfNone, IfSome, IsSome, Option, Some, None, is_none, option_map, slice_get, ◌<◌}
 use Rattle.ksql_types.specs.declared.topic.TopicSpec.{TopicSpec}
 use Rattle.core_state.specs.Routes.{IsWriter, Routes}
 use Rattle.core_state.specs.Shelf.{Shelf, ShelfApplies}
@@ -13,6 +13,7 @@ use Rattle.assignor.specs.Rule.{is_with}
 use Rattle.topic_log.specs.Ready.{IsProposal}
 use Rattle.topic_log.specs.Shelves.{part_at, topics_of}
 use Rattle.topic_log.specs.declared.shelves.Shelves.{Shelves}
+use Rattle.cluster_core.specs.Cluster.{idle}
 use Rattle.cluster_core.specs.declared.rounds.Ran.{Ran}
 use Rattle.cluster_core.specs.declared.seats.Seat.{Seat}
 
@@ -52,17 +53,18 @@ pub record CanCommit (r : Routes) (b : Shelf) (p : Proposal) : Type 0 where
 
 -- ---- tasks at their owners
 
--- a task ran at its owner
-pub record HasRun (b : Shelves) (s : Seat) (r : Ran) : Type 0 where
+-- a task at its owner after a round: it went over what the broker has, or waits as before where its owner is lost
+pub record HasRun (lost : Option ℕ) (b : Shelves) (s : Seat) (r : Ran) : Type 0 where
   pub worker : r.worker ≡ s.worker
-  pub moved : IsAdvanced b s.task r.moved
+  pub waits : is_with s.worker lost ≡ true → r.moved ≡ idle s.task
+  pub moved : is_with s.worker lost ≡ false → IsAdvanced b s.task r.moved
 
 abbrev pub seat_of : Ran → Seat
 seat_of r = record { worker = r.worker; task = r.moved.task }
 
--- what a task offers to commit: nothing where its owner is lost
-abbrev pub offered : Option ℕ → Ran → Option Proposal
-offered lost r = if is_with r.worker lost then None else r.moved.proposal
+-- what a task offers to commit
+abbrev pub offered : Ran → Option Proposal
+offered r = r.moved.proposal
 
 -- two proposals aren't of one task
 abbrev pub ProposeApart : Option Proposal → Option Proposal → Type 0

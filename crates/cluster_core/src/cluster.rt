@@ -9,7 +9,7 @@ ghost use Rattle.topology.specs.Tasks.{chain_of};
 ghost use Rattle.topology.specs.Topologies.{topology_of};
 ghost use Rattle.feed_laws.specs.Fitting.{AreFilesOf};
 ghost use Rattle.task_core.specs.declared.task.Moved.{Moved as OneMoved};
-ghost use Rattle.cluster_core.specs.Cluster.{CanMove, HasCome, HasComeWith, IsBuilt, IsIdleAt, IsIdleBut};
+ghost use Rattle.cluster_core.specs.Cluster.{CanMove, HasCome, HasComeWith, IsBuilt, IsIdleAt};
 ghost use Rattle.cluster_core.specs.Progress.{Progress, after_assignment, after_line, after_loss, after_moves, after_steps, before_workers, feed, is_task, opening, round, rounds, taken, with_worker, without_worker};
 
 use crate::few::check_few;
@@ -184,12 +184,12 @@ impl Cluster {
         }
     }
 
-    /// The cluster after a round. What the tasks of a lost worker propose is lost; they are still where they were.
+    /// The cluster after a round. The tasks of a lost worker stay as they were.
     fn round(mut self, alloc: Global, lost: Option<u32>) -> Result<Cluster, AllocError>
         requires come { (items : List OneItem) × (p : Progress) × IsSound items × HasCome items p self }
         ensures topology { IfOk result (λ next. next.topology ≡ self.topology) }
         ensures next { IfOk result (λ next. (items : List OneItem) (p : Progress) → IsSound items → HasCome items p self →
-            (ms : List OneMoved) × HasComeWith items (round lost self.topology p) ms next × AllZip (IsIdleBut lost) next.seats.items ms) }
+            HasCome items (round lost self.topology p) next) }
     {
         if self.rounds == u32::MAX {
             return Err(AllocError);
@@ -197,8 +197,8 @@ impl Cluster {
         let rounds = self.rounds + 1;
         self.journal.push(JournalEntry::Round { number: rounds })?;
         ask_parts(&self.broker, self.topology.topics.items());
-        let rans = advance_all(alloc, self.seats, &self.broker)?;
-        let seats = commit_all(alloc, &mut self.broker, rans, lost, &mut self.journal)?;
+        let rans = advance_all(alloc, self.seats, &self.broker, lost)?;
+        let seats = commit_all(alloc, &mut self.broker, rans, &mut self.journal)?;
         Ok(Cluster {
             seats,
             rounds,
@@ -216,12 +216,11 @@ impl Cluster {
         self.assigned(alloc, live)
     }
 
-    /// The cluster without a worker. What its tasks proposed is lost.
+    /// The cluster without a worker.
     fn without(self, alloc: Global, worker: u32) -> Result<Cluster, AllocError>
-        requires come { (items : List OneItem) × (p : Progress) × (ms : List OneMoved) × IsSound items × HasComeWith items p ms self
-            × AllZip (IsIdleBut (Some worker)) self.seats.items ms }
-        ensures { IfOk result (λ next. (items : List OneItem) (p : Progress) (ms : List OneMoved) → IsSound items → HasComeWith items p ms self →
-            AllZip (IsIdleBut (Some worker)) self.seats.items ms → HasCome items (after_assignment self.topology (without_worker worker p.live) p) next) }
+        requires come { (items : List OneItem) × (p : Progress) × IsSound items × HasCome items p self }
+        ensures { IfOk result (λ next. (items : List OneItem) (p : Progress) → IsSound items → HasCome items p self →
+            HasCome items (after_assignment self.topology (without_worker worker p.live) p) next) }
     {
         let live = without_worker(alloc, self.live.as_slice(), worker)?;
         self.assigned(alloc, live)

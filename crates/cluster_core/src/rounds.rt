@@ -1,5 +1,5 @@
 //! A round: each task goes over what its inputs are closed for, and then each proposal is committed.
-ghost use Rattle.std.specs.Prelude.{◌≡◌, ◌++◌, if◌then◌else◌, flat_map, map, All, IfOk, IfSome, None, OnOk, Some};
+ghost use Rattle.std.specs.Prelude.{◌≡◌, ◌++◌, flat_map, map, All, IfOk, IfSome, OnOk, Some};
 ghost use Rattle.std.specs.List.{AllPairs, AllZip};
 ghost use Rattle.core_state.specs.Shelf.{ShelfApplies};
 ghost use Rattle.assignor.specs.Rule.{is_with};
@@ -25,57 +25,85 @@ pub fn ask_parts(broker: &Broker, topics: &[TopicSpec])
     }
 }
 
-/// A task after it went over what its inputs show, what it proposes, and the worker that owns it.
+/// A task after a round, what it proposes, and the worker that owns it.
 #[derive(Drop)]
 pub struct Ran {
     pub worker: u32,
     pub moved: Moved,
 }
 
-/// The tasks after a round on a broker, in their order, with their proposals.
-pub fn advance_all(alloc: Global, seats: Vec<Seat>, broker: &Broker) -> Result<Vec<Ran>, AllocError>
+/// The tasks after a round on a broker, in their order, with their proposals. Those of a worker that is lost in the round
+/// don't run: what they propose would be lost.
+pub fn advance_all(
+    alloc: Global,
+    seats: Vec<Seat>,
+    broker: &Broker,
+    lost: Option<u32>,
+) -> Result<Vec<Ran>, AllocError>
     requires { All (λ s. CanAdvance broker.now s.task) seats.items }
-    ensures { IfOk result (λ rans. AllZip (HasRun broker.now) seats.items rans.items) }
+    ensures { IfOk result (λ rans. AllZip (HasRun lost broker.now) seats.items rans.items) }
 {
     let mut rans = Vec::with_capacity(alloc, seats.len())?;
     for seat in seats {
-        let Seat { worker, task } = seat;
-        let moved = task.advance(alloc, broker)?;
-        rans.push(Ran { worker, moved })?;
+        rans.push(outcome_of(alloc, seat, broker, lost)?)?;
     }
     Ok(rans)
 }
 
-/// Commits the proposals, in the order of the tasks, but those of a worker that is lost, and answers the tasks.
+/// A task after a round on a broker, with its proposal. It stays as it is where its worker is lost.
+fn outcome_of(
+    alloc: Global,
+    seat: Seat,
+    broker: &Broker,
+    lost: Option<u32>,
+) -> Result<Ran, AllocError>
+    requires { CanAdvance broker.now seat.task }
+    ensures { IfOk result (HasRun lost broker.now seat) }
+{
+    let Seat { worker, task } = seat;
+    let moved = if is_lost(lost, worker) {
+        Moved {
+            task,
+            proposal: None,
+        }
+    } else {
+        task.advance(alloc, broker)?
+    };
+    Ok(Ran { worker, moved })
+}
+
+/// Whether a worker is the one that is lost.
+fn is_lost(lost: Option<u32>, worker: u32) -> bool
+    ensures { result ≡ is_with worker lost }
+{
+    match lost {
+        Some(other) => other == worker,
+        None => false,
+    }
+}
+
+/// Commits the proposals, in the order of the tasks, and answers the tasks.
 pub fn commit_all(
     alloc: Global,
     broker: &mut Broker,
     rans: Vec<Ran>,
-    lost: Option<u32>,
     journal: &mut Vec<JournalEntry>,
 ) -> Result<Vec<Seat>, AllocError>
-    requires each { All (λ o. IfSome o (CanCommit (routes_in broker.old) (shelf_of broker.old))) (map (offered lost) rans.items) }
-    requires apart { AllPairs ProposeApart (map (offered lost) rans.items) }
+    requires each { All (λ o. IfSome o (CanCommit (routes_in broker.old) (shelf_of broker.old))) (map offered rans.items) }
+    requires apart { AllPairs ProposeApart (map offered rans.items) }
     ensures topics { OnOk result (topics_of broker.new ≡ topics_of broker.old) }
     ensures seats { IfOk result (λ seats. seats.items ≡ map seat_of rans.items) }
-    ensures settled { OnOk result (AllSettle (routes_in broker.old) (map (offered lost) rans.items) (shelf_of broker.old) (shelf_of broker.new)) }
-    ensures journal { OnOk result (journal.new.items ≡ journal.old.items ++ flat_map noted (map (offered lost) rans.items)) }
+    ensures settled { OnOk result (AllSettle (routes_in broker.old) (map offered rans.items) (shelf_of broker.old) (shelf_of broker.new)) }
+    ensures journal { OnOk result (journal.new.items ≡ journal.old.items ++ flat_map noted (map offered rans.items)) }
 {
     let mut seats = Vec::with_capacity(alloc, rans.len())?;
     for ran in rans {
         let Ran { worker, moved } = ran;
         let Moved { task, proposal } = moved;
-        settle(alloc, broker, offered(lost, worker, proposal), journal)?;
+        settle(alloc, broker, proposal, journal)?;
         seats.push(Seat { worker, task })?;
     }
     Ok(seats)
-}
-
-/// What a worker's task offers to commit: nothing where the worker is lost.
-fn offered(lost: Option<u32>, worker: u32, proposal: Option<Proposal>) -> Option<Proposal>
-    ensures { result ≡ (if is_with worker lost then None else proposal) }
-{
-    if lost == Some(worker) { None } else { proposal }
 }
 
 /// Commits what a task offers, where it does.

@@ -10,5 +10,5 @@ use Rattle.cluster_core.proofs.rounds.advance_all.Given as goal
 abbrev pub invariant-loop-seat : goal.invariant-loop-seat
 invariant-loop-seat l = record {
   can : AllByRecursion (λ (s : Seat). CanAdvance l.broker s.task) (into_iter_items l.seat-iterator);
-  ran : (later : List Ran) → AllZip (HasRun l.broker) (into_iter_items l.seat-iterator) later → AllZip (HasRun l.broker) l.fn.seats.items (l.rans.items ++ later);
+  ran : (later : List Ran) → AllZip (HasRun l.lost l.broker) (into_iter_items l.seat-iterator) later → AllZip (HasRun l.lost l.broker) l.fn.seats.items (l.rans.items ++ later);
 }

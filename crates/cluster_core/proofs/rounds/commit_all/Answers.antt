@@ -21,7 +21,7 @@ loop-ran-init c =
     let left : into_iter_items c.into_iter-ran-iterator.result ≡ c.args.rans.items = c.into_iter-ran-iterator.ensures.into_iter_gives.0 in
     let r : Routes = routes_in c.args.broker.now in
     let b : Shelf = shelf_of c.args.broker.now in
-    let offers : List Ran → List (Option Proposal) = map (offered c.args.lost) in
+    let offers : List Ran → List (Option Proposal) = map offered in
     record {
       topics = refl;
       each = subst (λ (rs : List Ran). AllByRecursion (λ (o : Option Proposal). IfSome o (CanCommit r b)) (offers rs)) (sym left)
@@ -36,16 +36,15 @@ pub loop-ran-preserved : goal.loop-ran-preserved
 loop-ran-preserved c =
     let ran : Ran = c.in-Some.ran in
     let seat : Seat = seat_of ran in
-    let offer : Option Proposal = offered c.args.lost ran in
-    let offers : List Ran → List (Option Proposal) = map (offered c.args.lost) in
+    let offer : Option Proposal = offered ran in
+    let offers : List Ran → List (Option Proposal) = map offered in
     let rest : List Ran = into_iter_items c.next.new.self in
     let steps : into_iter_items c.loop-ran.ran-iterator ≡ ran ∷ rest = c.in-Some.ensures.steps.0 in
     let r : Routes = routes_in c.args.broker.now in
     let b : Shelf = shelf_of c.loop-ran.broker in
     let next : Shelf = shelf_of c.settle.new.broker in
-    let is : c.offered.result ≡ offer = c.offered.ensures in
     let settles : Settles r offer b next =
-    subst (λ (o : Option Proposal). Settles r o b next) is (subst (λ (ts : List TopicSpec). Settles (routes_of ts) c.offered.result b next) c.loop-ran.invariant.topics c.in_ok-settle.ensures.settled) in
+    subst (λ (ts : List TopicSpec). Settles (routes_of ts) offer b next) c.loop-ran.invariant.topics c.in_ok-settle.ensures.settled in
     let each = subst (λ (rs : List Ran). AllByRecursion (λ (o : Option Proposal). IfSome o (CanCommit r b)) (offers rs)) steps c.loop-ran.invariant.each in
     let apart = subst (λ (rs : List Ran). Pairwise ProposeApart (offers rs)) steps c.loop-ran.invariant.apart in
     record {
@@ -59,7 +58,7 @@ loop-ran-preserved c =
           ∙ c.loop-ran.invariant.seats;
       settled = λ last h. c.loop-ran.invariant.settled last (subst (λ (rs : List Ran). AllSettle r (offers rs) b last) (sym steps) (next, settles, h));
       journal =
-          ap (λ (es : List JournalEntry). es ++ flat_map noted (offers rest)) (c.in_ok-settle.ensures.journal ∙ ap (λ (o : Option Proposal). c.loop-ran.journal.items ++ noted o) is)
+          ap (λ (es : List JournalEntry). es ++ flat_map noted (offers rest)) c.in_ok-settle.ensures.journal
           ∙ append_assoc c.loop-ran.journal.items (noted offer) (flat_map noted (offers rest))
           ∙ ap (λ (rs : List Ran). c.loop-ran.journal.items ++ flat_map noted (offers rs)) (sym steps)
           ∙ c.loop-ran.invariant.journal;

@@ -15,10 +15,10 @@ invariant-loop-ran l =
     let left = into_iter_items l.ran-iterator in
     record {
       topics : topics_of l.broker ≡ topics_of l.fn.broker;
-      each : AllByRecursion (λ (o : Option Proposal). IfSome o (CanCommit (routes_in l.fn.broker) (shelf_of l.broker))) (map (offered l.lost) left);
-      apart : Pairwise ProposeApart (map (offered l.lost) left);
+      each : AllByRecursion (λ (o : Option Proposal). IfSome o (CanCommit (routes_in l.fn.broker) (shelf_of l.broker))) (map offered left);
+      apart : Pairwise ProposeApart (map offered left);
       seats : l.seats.items ++ map seat_of left ≡ map seat_of l.fn.rans.items;
-      settled : (next : Shelf) → AllSettle (routes_in l.fn.broker) (map (offered l.lost) left) (shelf_of l.broker) next →
-          AllSettle (routes_in l.fn.broker) (map (offered l.lost) l.fn.rans.items) (shelf_of l.fn.broker) next;
-      journal : l.journal.items ++ flat_map noted (map (offered l.lost) left) ≡ l.fn.journal.items ++ flat_map noted (map (offered l.lost) l.fn.rans.items);
+      settled : (next : Shelf) → AllSettle (routes_in l.fn.broker) (map offered left) (shelf_of l.broker) next →
+          AllSettle (routes_in l.fn.broker) (map offered l.fn.rans.items) (shelf_of l.fn.broker) next;
+      journal : l.journal.items ++ flat_map noted (map offered left) ≡ l.fn.journal.items ++ flat_map noted (map offered l.fn.rans.items);
     }

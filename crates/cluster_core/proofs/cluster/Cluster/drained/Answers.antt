@@ -1,11 +1,9 @@
-use Rattle.std.proofs.Common.{◌≡◌, ◌∙◌, ℕ, List, subst, sym, arith}
+use Rattle.std.proofs.Common.{◌≡◌, ◌∙◌, ℕ, subst, sym, arith}
 use Rattle.std.specs.Prelude.{None}
 use Rattle.topology.specs.declared.topology.Topology.{Topology}
-use Rattle.task_core.specs.declared.task.Moved.{Moved}
-use Rattle.cluster_core.specs.Cluster.{HasCome, HasComeWith}
+use Rattle.cluster_core.specs.Cluster.{HasCome}
 use Rattle.cluster_core.specs.Progress.{Progress, round, rounds}
 use Rattle.cluster_core.proofs.Numbers.{rounds-next}
-use Rattle.cluster_core.proofs.Ready.{none-waits}
 use Rattle.cluster_core.proofs.cluster.Cluster.drained.Goals as goal
 
 pub round-requires : goal.round-requires
@@ -23,8 +21,7 @@ loop-turn-preserved c = record {
       let next = c.in_ok-cluster.ensures.next items (rounds t n p) sound (c.loop-turn.invariant.come items p sound h) in
       subst (λ (q : Progress). HasCome items q c.in_ok-cluster.cluster) (sym (rounds-next t n p))
       (subst (λ (s : Topology). HasCome items (round None s (rounds t n p)) c.in_ok-cluster.cluster) c.loop-turn.invariant.topology
-      (subst (λ (ms : List Moved). HasComeWith items (round None c.loop-turn.cluster.topology (rounds t n p)) ms c.in_ok-cluster.cluster)
-      (none-waits c.in_ok-cluster.cluster.seats.items next.0 next.2) next.1));
+      next);
 }
 
 pub returns : goal.returns

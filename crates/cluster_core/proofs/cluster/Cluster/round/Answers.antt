@@ -6,7 +6,6 @@ use Rattle.topic_log.specs.Shelves.{AreTopics}
 use Rattle.cluster_core.specs.Rounds.{noted, offered}
 use Rattle.cluster_core.specs.declared.cluster.Cluster.{Cluster}
 use Rattle.cluster_core.specs.declared.rounds.Ran.{Ran}
-use Rattle.cluster_core.proofs.AllTasks.{after_offer}
 use Rattle.cluster_core.proofs.Ready.{advance-ready, after-round, commit-apart, commit-ready}
 use Rattle.cluster_core.proofs.Topics.{are-topics}
 use Rattle.cluster_core.proofs.cluster.Cluster.round.Goals as goal
@@ -42,7 +41,6 @@ returns-clause-next c items p sound h =
       rounds = old.rounds + 1;
       journal = c.commit_all.new.journal;
     } in
-    let made =
     after-round items p old sound h c.args.lost rans c.in_ok-rans.ensures next
     (record {
       ran = c.in_ok-rans.ensures;
@@ -54,6 +52,5 @@ returns-clause-next c items p sound h =
       live = refl;
       sources = refl;
       rounds = refl;
-      journal = c.in_ok-seats.ensures.journal ∙ ap (λ (es : List JournalEntry). es ++ flat_map noted (map (offered c.args.lost) rans)) c.in_ok-push.ensures.items;
-    }) in
-    (map (after_offer c.args.lost) rans, made.0, made.1)
+      journal = c.in_ok-seats.ensures.journal ∙ ap (λ (es : List JournalEntry). es ++ flat_map noted (map offered rans)) c.in_ok-push.ensures.items;
+    })

@@ -1,12 +1,10 @@
 -- A step: its line is noted, and then it is taken.
-use Rattle.std.proofs.Common.{◌∷◌, ◌++◌, [], map, refl, subst, sym}
-use Rattle.std.specs.Prelude.{Some}
+use Rattle.std.proofs.Common.{◌∷◌, ◌++◌, [], refl, subst, sym}
 use Rattle.topology.specs.declared.schedule.Step.{Step}
 use Rattle.core_state.specs.declared.journal.JournalEntry.TheVariants as entry
-use Rattle.cluster_core.specs.Cluster.{HasCome, idle}
+use Rattle.cluster_core.specs.Cluster.{HasCome}
 use Rattle.cluster_core.specs.Progress.{Progress, after_step, feed, taken}
-use Rattle.cluster_core.specs.declared.seats.Seat.{Seat}
-use Rattle.cluster_core.proofs.Turning.{begun, idle-but, ok-more}
+use Rattle.cluster_core.proofs.Turning.{begun, ok-more}
 use Rattle.cluster_core.proofs.cluster.Cluster.step.Goals as goal
 
 pub round_losing-requires : goal.round_losing-requires
@@ -42,11 +40,9 @@ without-requires c =
       come = (
         come.0,
         record come.1 { journal = come.1.journal ++ entry.Step c.args.step.now.line ∷ [] },
-        map (λ (s : Seat). idle s.task) c.args.self.seats.items,
         come.2,
         begun come.0 come.1 c.args.self _ c.args.step.now.line
             (record { topology = refl; chain = refl; broker = refl; these = refl; seats = refl; sources = refl; rounds = refl; notes = c.in_ok-push.ensures.items }) come.3,
-        idle-but (Some c.in-Stop.worker) c.args.self.seats.items,
       );
     }
 
@@ -127,9 +123,9 @@ returns-in-Stop c = ok-more c.without.result
     (λ next has items p sound h.
     let now : Progress = record p { journal = p.journal ++ entry.Step c.args.step.now.line ∷ [] } in
     subst (λ (s : Step). HasCome items (after_step c.args.self.topology now s) next) (sym c.in-Stop.is)
-    (has items now (map (λ (s : Seat). idle s.task) c.args.self.seats.items) sound
+    (has items now sound
     (begun items p c.args.self _ c.args.step.now.line
-    (record { topology = refl; chain = refl; broker = refl; these = refl; seats = refl; sources = refl; rounds = refl; notes = c.in_ok-push.ensures.items }) h) (idle-but (Some c.in-Stop.worker) c.args.self.seats.items)))
+    (record { topology = refl; chain = refl; broker = refl; these = refl; seats = refl; sources = refl; rounds = refl; notes = c.in_ok-push.ensures.items }) h)))
     c.without.ensures
 
 pub returns-in-Lose : goal.returns-in-Lose
