@@ -1,14 +1,38 @@
 use Rattle.std.proofs.Common.{◌∙◌, List, subst, sym}
 use Rattle.std.proofs.lemmas.Result.{err_from_is_err_and}
-use Rattle.std.specs.Prelude.{All}
+use Rattle.std.specs.Prelude.{All, IfSome}
 use Rattle.ksql_program.specs.declared.program.Item.{Item}
+use Rattle.ksql_cli.specs.Command.{AreRead}
 use Rattle.ksql_cli.specs.Run.{declared_of}
+use Rattle.ksql_cli.specs.Stages.{AreDueIn, IsExpected}
 use Rattle.ksql_cli.specs.Steps.{IsFeedable}
 use Rattle.ksql_cli.proofs.Runs.{files-read, schedule-cause, schedule-due, topics-cause, topics-due}
 use Rattle.ksql_cli.proofs.Sounds.{feedable}
 use Rattle.ksql_cli.proofs.Stages.{grown-both, later-joined, may-grow}
 use Rattle.ksql_cli.proofs.TopicLaws.{whole_few, whole_short}
+use Rattle.ksql_cli.proofs.run.run.Given as given
 use Rattle.ksql_cli.proofs.run.run.Goals as goal
+use Rattle.ksql_cli.proofs.run.run.Goals.{After-schedule_of}
+
+-- the files that were read before the schedule
+fed : (g : given.Over) (c : After-schedule_of g) → IfSome (g.F.Folder.files c.args.folder.now) (λ all. AreRead c.args.asked.now all c.in_ok-program.program c.in_ok-files.files.items)
+fed g c =
+    files-read c.args.asked.now (g.F.Folder.files c.args.folder.now) c.in_ok-program.program c.items.result.now c.items.ensures.value c.in_ok-program.ensures.read
+    (g.F.Folder.files c.accepted_program.new.folder) c.in_ok-program.ensures.same_files c.items-2.result.now c.items-2.ensures c.items-topics.result.now c.items-topics.ensures.value
+    c.whole_room.result c.whole_room.ensures c.new.result.items c.in_ok-files.files.items c.new.ensures.items c.in_ok-files.ensures.found
+
+-- what was due up to the schedule
+due : (g : given.Over) (c : After-schedule_of g) → IsExpected c.args.asked.now.schedule (g.F.Folder.failed c.read_topics.new.folder) (g.F.Folder.failed c.schedule_of.new.folder)
+    → IfSome (g.F.Folder.files c.args.folder.now) (λ all. AreDueIn c.args.asked.now all (g.F.Folder.failed c.args.folder.now) (g.F.Folder.failed c.schedule_of.new.folder))
+due g c joined =
+    schedule-due c.args.asked.now (g.F.Folder.files c.args.folder.now) c.in_ok-program.program c.in_ok-files.files.items
+    (fed g c)
+    (g.F.Folder.failed c.args.folder.now) (g.F.Folder.failed c.read_topics.new.folder) (g.F.Folder.failed c.schedule_of.new.folder)
+    (topics-due c.args.asked.now (g.F.Folder.files c.args.folder.now) c.in_ok-program.program c.items.result.now c.items.ensures.value c.in_ok-program.ensures.read
+    (g.F.Folder.files c.accepted_program.new.folder) c.in_ok-program.ensures.same_files c.items-2.result.now c.items-2.ensures c.items-topics.result.now c.items-topics.ensures.value
+    c.whole_room.result c.whole_room.ensures (g.F.Folder.failed c.args.folder.now) (g.F.Folder.failed c.accepted_program.new.folder) (g.F.Folder.failed c.read_topics.new.folder)
+    c.in_ok-program.ensures.grows c.in_ok-files.ensures.reads)
+    joined
 
 pub read_topics-requires-clause-feedable : goal.read_topics-requires-clause-feedable
 read_topics-requires-clause-feedable g c =
@@ -52,9 +76,7 @@ returns-in_err-schedule-clause-cause g c =
     let then = g.F.Folder.failed c.read_topics.new.folder in
     let p = err_from_is_err_and c.from_residual-in_err-schedule.result c.from_residual-in_err-schedule.ensures.1 in
     rw (p.1, p.2) (schedule-cause c.args.asked.now (g.F.Folder.files c.args.folder.now) c.in_ok-program.program c.in_ok-files.files.items
-    (files-read c.args.asked.now (g.F.Folder.files c.args.folder.now) c.in_ok-program.program c.items.result.now c.items.ensures.value c.in_ok-program.ensures.read
-    (g.F.Folder.files c.accepted_program.new.folder) c.in_ok-program.ensures.same_files c.items-2.result.now c.items-2.ensures c.items-topics.result.now c.items-topics.ensures.value
-    c.whole_room.result c.whole_room.ensures c.new.result.items c.in_ok-files.files.items c.new.ensures.items c.in_ok-files.ensures.found)
+    (fed g (goal.at.returns-in_err-schedule-clause-cause g c).After-schedule_of)
     (g.F.Folder.files c.read_topics.new.folder) (c.in_ok-files.ensures.same_files ∙ c.in_ok-program.ensures.same_files)
     old then (g.F.Folder.failed c.schedule_of.new.folder) c.in_err-schedule.field-0.0
     (grown-both old mid then (may-grow old mid c.items.result.now c.in_ok-program.ensures.grows) c.in_ok-files.ensures.grows) c.in_err-schedule.ensures.cause)
@@ -69,40 +91,10 @@ returns-in_err-schedule-clause-joined g c =
     (grown-both old mid then (may-grow old mid c.items.result.now c.in_ok-program.ensures.grows) c.in_ok-files.ensures.grows) c.in_err-schedule.ensures.joined)
 
 pub returns-in_err-schedule-clause-reads : goal.returns-in_err-schedule-clause-reads
-returns-in_err-schedule-clause-reads g c =
-    schedule-due c.args.asked.now (g.F.Folder.files c.args.folder.now) c.in_ok-program.program c.in_ok-files.files.items
-    (files-read c.args.asked.now (g.F.Folder.files c.args.folder.now) c.in_ok-program.program c.items.result.now c.items.ensures.value c.in_ok-program.ensures.read
-    (g.F.Folder.files c.accepted_program.new.folder) c.in_ok-program.ensures.same_files c.items-2.result.now c.items-2.ensures c.items-topics.result.now c.items-topics.ensures.value
-    c.whole_room.result c.whole_room.ensures c.new.result.items c.in_ok-files.files.items c.new.ensures.items c.in_ok-files.ensures.found)
-    (g.F.Folder.failed c.args.folder.now) (g.F.Folder.failed c.read_topics.new.folder) (g.F.Folder.failed c.schedule_of.new.folder)
-    (topics-due c.args.asked.now (g.F.Folder.files c.args.folder.now) c.in_ok-program.program c.items.result.now c.items.ensures.value c.in_ok-program.ensures.read
-    (g.F.Folder.files c.accepted_program.new.folder) c.in_ok-program.ensures.same_files c.items-2.result.now c.items-2.ensures c.items-topics.result.now c.items-topics.ensures.value
-    c.whole_room.result c.whole_room.ensures (g.F.Folder.failed c.args.folder.now) (g.F.Folder.failed c.accepted_program.new.folder) (g.F.Folder.failed c.read_topics.new.folder)
-    c.in_ok-program.ensures.grows c.in_ok-files.ensures.reads)
-    c.in_err-schedule.ensures.grows
+returns-in_err-schedule-clause-reads g c = due g (goal.at.returns-in_err-schedule-clause-reads g c).After-schedule_of c.in_err-schedule.ensures.grows
 
 pub returns-clause-reads : goal.returns-clause-reads
-returns-clause-reads g c =
-    schedule-due c.args.asked.now (g.F.Folder.files c.args.folder.now) c.in_ok-program.program c.in_ok-files.files.items
-    (files-read c.args.asked.now (g.F.Folder.files c.args.folder.now) c.in_ok-program.program c.items.result.now c.items.ensures.value c.in_ok-program.ensures.read
-    (g.F.Folder.files c.accepted_program.new.folder) c.in_ok-program.ensures.same_files c.items-2.result.now c.items-2.ensures c.items-topics.result.now c.items-topics.ensures.value
-    c.whole_room.result c.whole_room.ensures c.new.result.items c.in_ok-files.files.items c.new.ensures.items c.in_ok-files.ensures.found)
-    (g.F.Folder.failed c.args.folder.now) (g.F.Folder.failed c.read_topics.new.folder) (g.F.Folder.failed c.schedule_of.new.folder)
-    (topics-due c.args.asked.now (g.F.Folder.files c.args.folder.now) c.in_ok-program.program c.items.result.now c.items.ensures.value c.in_ok-program.ensures.read
-    (g.F.Folder.files c.accepted_program.new.folder) c.in_ok-program.ensures.same_files c.items-2.result.now c.items-2.ensures c.items-topics.result.now c.items-topics.ensures.value
-    c.whole_room.result c.whole_room.ensures (g.F.Folder.failed c.args.folder.now) (g.F.Folder.failed c.accepted_program.new.folder) (g.F.Folder.failed c.read_topics.new.folder)
-    c.in_ok-program.ensures.grows c.in_ok-files.ensures.reads)
-    c.in_ok-schedule.ensures.grows
+returns-clause-reads g c = due g (goal.at.returns-clause-reads g c).After-schedule_of c.in_ok-schedule.ensures.grows
 
 pub returns-in_err-cluster-clause-reads : goal.returns-in_err-cluster-clause-reads
-returns-in_err-cluster-clause-reads g c =
-    schedule-due c.args.asked.now (g.F.Folder.files c.args.folder.now) c.in_ok-program.program c.in_ok-files.files.items
-    (files-read c.args.asked.now (g.F.Folder.files c.args.folder.now) c.in_ok-program.program c.items.result.now c.items.ensures.value c.in_ok-program.ensures.read
-    (g.F.Folder.files c.accepted_program.new.folder) c.in_ok-program.ensures.same_files c.items-2.result.now c.items-2.ensures c.items-topics.result.now c.items-topics.ensures.value
-    c.whole_room.result c.whole_room.ensures c.new.result.items c.in_ok-files.files.items c.new.ensures.items c.in_ok-files.ensures.found)
-    (g.F.Folder.failed c.args.folder.now) (g.F.Folder.failed c.read_topics.new.folder) (g.F.Folder.failed c.schedule_of.new.folder)
-    (topics-due c.args.asked.now (g.F.Folder.files c.args.folder.now) c.in_ok-program.program c.items.result.now c.items.ensures.value c.in_ok-program.ensures.read
-    (g.F.Folder.files c.accepted_program.new.folder) c.in_ok-program.ensures.same_files c.items-2.result.now c.items-2.ensures c.items-topics.result.now c.items-topics.ensures.value
-    c.whole_room.result c.whole_room.ensures (g.F.Folder.failed c.args.folder.now) (g.F.Folder.failed c.accepted_program.new.folder) (g.F.Folder.failed c.read_topics.new.folder)
-    c.in_ok-program.ensures.grows c.in_ok-files.ensures.reads)
-    c.in_ok-schedule.ensures.grows
+returns-in_err-cluster-clause-reads g c = due g (goal.at.returns-in_err-cluster-clause-reads g c).After-schedule_of c.in_ok-schedule.ensures.grows
