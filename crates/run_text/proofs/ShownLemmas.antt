@@ -1,10 +1,10 @@
--- What partitions show, one entry or one partition later, and the order in which changes stand.
-use Rattle.std.proofs.Common.{subst, ◌≡◌, ◌∙◌, ap, refl, sym, ℕ, zero, suc, ◌+◌, add-one, add-zero, List, [], ◌∷◌, ◌++◌, ◌<◌, arith, get_or, length, map, take}
+-- What partitions show, one partition later, and the order in which changes stand.
+use Rattle.std.proofs.Common.{subst, ◌≡◌, ◌∙◌, ap, refl, sym, ℕ, zero, suc, ◌+◌, add-one, add-zero, List, [], ◌∷◌, ◌++◌, ◌<◌, arith, get_or, length, map}
 use Rattle.std.specs.Prelude.{flat_map, option_map, slice_get, unwrap_or, All, Option, None, Some}
 use Rattle.std.specs.Option.{IsSomeAnd}
 use Rattle.std.proofs.lemmas.Option.{slice_get_within}
 use Rattle.std.specs.List.{range_with_len}
-use Rattle.std.proofs.lemmas.List.{append-nil, get_or-map, length-map, take_more}
+use Rattle.std.proofs.lemmas.List.{append-nil, get_or-map, length-map}
 use Rattle.std.proofs.lemmas.List.Concat.{flat_map-append}
 use Rattle.std.proofs.lemmas.List.Folds.{flat_map-map}
 use Rattle.std.specs.Cmp.{IsTotalOrder, nat_cmp_total, on_total, then_total}
@@ -14,34 +14,23 @@ use Rattle.ksql_place.specs.Routing.{partitions_of}
 use Rattle.ksql_place.specs.declared.change.Change.{Change}
 use Rattle.ksql_place.specs.declared.change.SourceRecord.{SourceRecord}
 use Rattle.ksql_place.proofs.Orders.{place_total}
-use Rattle.core_state.specs.declared.log.LogEntry.{LogEntry}
-use Rattle.core_state.specs.declared.log.LogEntry.TheVariants.{Fed, Said}
 use Rattle.ksql_program.specs.Program.{relation_of, relations}
 use Rattle.ksql_program.specs.declared.program.Item.{Item}
+use Rattle.topic_log.specs.Entries.{entries_of}
 use Rattle.topic_log.specs.Shelves.{topics_of}
 use Rattle.topic_log.specs.declared.shelves.Shelves.{Shelves}
 use Rattle.run_text.specs.Shown.{changes_in, records_in, standing_cmp, HasTopicOf, Standing}
 
-pub records_in-append : (xs ys : List LogEntry) → records_in (xs ++ ys) ≡ records_in xs ++ records_in ys
-records_in-append [] ys = refl
-records_in-append (Fed r ∷ xs) ys = ap (λ (rs : List SourceRecord). r ∷ rs) (records_in-append xs ys)
-records_in-append (Said x ∷ xs) ys = records_in-append xs ys
+-- the records, or the changes, of a partition are those among its entries
+pub records_in-entries : (rs : List SourceRecord) (cs : List Change) → records_in (entries_of rs cs) ≡ rs
+records_in-entries [] [] = refl
+records_in-entries [] (c ∷ cs) = records_in-entries [] cs
+records_in-entries (r ∷ rs) cs = ap (λ (more : List SourceRecord). r ∷ more) (records_in-entries rs cs)
 
-pub changes_in-append : (xs ys : List LogEntry) → changes_in (xs ++ ys) ≡ changes_in xs ++ changes_in ys
-changes_in-append [] ys = refl
-changes_in-append (Fed r ∷ xs) ys = changes_in-append xs ys
-changes_in-append (Said x ∷ xs) ys = ap (λ (cs : List Change). x ∷ cs) (changes_in-append xs ys)
-
--- one entry more
-pub records_in-more : (xs : List LogEntry) (i : ℕ) (x : LogEntry) → i < length xs → x ≡ get_or xs i x →
-    records_in (take (i + 1) xs) ≡ records_in (take i xs) ++ records_in (x ∷ [])
-records_in-more xs i x inside is =
-    ap records_in (take_more xs i x inside) ∙ records_in-append (take i xs) (get_or xs i x ∷ []) ∙ ap (λ (y : LogEntry). records_in (take i xs) ++ records_in (y ∷ [])) (sym is)
-
-pub changes_in-more : (xs : List LogEntry) (i : ℕ) (x : LogEntry) → i < length xs → x ≡ get_or xs i x →
-    changes_in (take (i + 1) xs) ≡ changes_in (take i xs) ++ changes_in (x ∷ [])
-changes_in-more xs i x inside is =
-    ap changes_in (take_more xs i x inside) ∙ changes_in-append (take i xs) (get_or xs i x ∷ []) ∙ ap (λ (y : LogEntry). changes_in (take i xs) ++ changes_in (y ∷ [])) (sym is)
+pub changes_in-entries : (rs : List SourceRecord) (cs : List Change) → changes_in (entries_of rs cs) ≡ cs
+changes_in-entries [] [] = refl
+changes_in-entries [] (c ∷ cs) = ap (λ (more : List Change). c ∷ more) (changes_in-entries [] cs)
+changes_in-entries (r ∷ rs) cs = changes_in-entries rs cs
 
 pub standing_total : IsTotalOrder standing_cmp
 standing_total = then_total (on_total (λ (s : Standing). s.change.place) place_total) (on_total (λ (s : Standing). s.part) nat_cmp_total)

@@ -261,7 +261,7 @@ fn records_shown<'a>(
 {
     let mut records = Vec::new(alloc);
     for part in 0..broker.partitions(relation.number) {
-        push_records(&mut records, broker.visible(relation.number, part))?;
+        push_records(&mut records, broker.visible(relation.number, part).fed)?;
     }
     by_stamp(records)
 }
@@ -278,7 +278,11 @@ fn changes_shown<'a>(
 {
     let mut changes = Vec::new(alloc);
     for part in 0..broker.partitions(relation.number) {
-        push_changes(&mut changes, part, broker.visible(relation.number, part))?;
+        push_changes(
+            &mut changes,
+            part,
+            broker.visible(relation.number, part).said,
+        )?;
     }
     by_place(changes)
 }

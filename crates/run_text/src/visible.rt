@@ -5,11 +5,10 @@ ghost use Rattle.ksql_place.specs.Ascending.{ascending};
 ghost use Rattle.ksql_place.specs.Order.{record_cmp};
 ghost use Rattle.run_text.specs.Lines.{shown_of};
 ghost use Rattle.run_text.specs.Printed.{shown_in};
-ghost use Rattle.run_text.specs.Shown.{changes_in, records_in, standing_cmp};
+ghost use Rattle.run_text.specs.Shown.{standing_cmp};
 ghost use Rattle.run_text.specs.Standings.{standing_in, standing_of};
 
 use crate::line::Line;
-use core_state::LogEntry;
 use ksql_place::{Change, SourceRecord, cmp_place};
 use std::alloc::{AllocError, Global};
 use std::cmp::Ordering;
@@ -21,35 +20,29 @@ pub struct LentChange<'a> {
     pub change: &'a Change,
 }
 
-/// Adds the records among the entries of a partition.
+/// Adds the records of a partition.
 pub fn push_records<'a>(
     records: &mut Vec<&'a SourceRecord>,
-    entries: &'a [LogEntry],
+    more: &'a [SourceRecord],
 ) -> Result<(), AllocError>
-    ensures { OnOk result (map (λ r. r.now) records.new.items ≡ map (λ r. r.now) records.old.items ++ records_in entries.now) }
+    ensures { OnOk result (map (λ r. r.now) records.new.items ≡ map (λ r. r.now) records.old.items ++ more.now) }
 {
-    for entry in entries {
-        match entry {
-            LogEntry::Fed(fed) => records.push(fed)?,
-            LogEntry::Said(_) => {}
-        }
+    for fed in more {
+        records.push(fed)?;
     }
     Ok(())
 }
 
-/// Adds the changes among the entries of a partition.
+/// Adds the changes of a partition.
 pub fn push_changes<'a>(
     changes: &mut Vec<LentChange<'a>>,
     part: u32,
-    entries: &'a [LogEntry],
+    more: &'a [Change],
 ) -> Result<(), AllocError>
-    ensures { OnOk result (map standing_of changes.new.items ≡ map standing_of changes.old.items ++ standing_in part (changes_in entries.now)) }
+    ensures { OnOk result (map standing_of changes.new.items ≡ map standing_of changes.old.items ++ standing_in part more.now) }
 {
-    for entry in entries {
-        match entry {
-            LogEntry::Fed(_) => {}
-            LogEntry::Said(change) => changes.push(LentChange { part, change })?,
-        }
+    for change in more {
+        changes.push(LentChange { part, change })?;
     }
     Ok(())
 }

@@ -7,12 +7,12 @@ ghost use Rattle.topic_log.specs.Ready.{IsProposal};
 ghost use Rattle.topic_log.specs.Shelves.{AreTopics, part_at, routes_in, shelf_of, topics_of};
 
 use crate::threads::crosses_threads;
-use core_state::{LogEntry, Proposal};
+use core_state::Proposal;
 use ksql_place::{Body, Change, Changes, Decoded, Path, Place, SourceRecord, Stamp};
 use ksql_types::{Changelog, Chars, Items, Key, StoreEntry, TaskName, TopicSpec, Writer};
 use std::alloc::{AllocError, Global};
 use std::test::Fail;
-use topic_log::{Broker, Prepared};
+use topic_log::{Broker, Entries, Prepared};
 
 mod commits;
 
@@ -71,6 +71,11 @@ fn brokers_cross_threads(_rt: HostRuntime) -> Result<(), Fail> {
     Ok(())
 }
 
+/// Whether a partition shows nothing.
+fn is_empty(shown: Entries<'_>) -> bool {
+    shown.fed.is_empty() && shown.said.is_empty()
+}
+
 #[test]
 fn a_broker_begins_with_nothing(rt: HostRuntime) -> Result<(), Fail> {
     let alloc = rt.alloc();
@@ -81,7 +86,7 @@ fn a_broker_begins_with_nothing(rt: HostRuntime) -> Result<(), Fail> {
         assert_eq!(rt; broker.closed(topic), 0);
         assert_eq!(rt; broker.partitions(topic), 2);
         for part in 0..broker.partitions(topic) {
-            assert!(rt; broker.visible(topic, part).is_empty());
+            assert!(rt; is_empty(broker.visible(topic, part)));
         }
     }
     assert!(rt; is_fresh(&broker, TaskName { sub: 0, part: 0 }));
@@ -168,12 +173,10 @@ fn feed_three(alloc: Global, broker: &mut Broker) -> Result<u64, AllocError>
 }
 
 /// The offsets of the records that a partition shows.
-fn offsets(alloc: Global, shown: &[LogEntry]) -> Result<Vec<u64>, AllocError> {
+fn offsets(alloc: Global, shown: Entries<'_>) -> Result<Vec<u64>, AllocError> {
     let mut offsets = Vec::new(alloc);
-    for entry in shown {
-        if let LogEntry::Fed(record) = entry {
-            offsets.push(record.stamp.offset)?;
-        }
+    for record in shown.fed {
+        offsets.push(record.stamp.offset)?;
     }
     Ok(offsets)
 }
@@ -194,7 +197,7 @@ fn a_feed_is_visible(rt: HostRuntime) -> Result<(), Fail> {
     assert!(rt; first.as_slice() == [0, 1].as_slice());
     assert!(rt; second.as_slice() == [0].as_slice());
     for part in 0..broker.partitions(1) {
-        assert!(rt; broker.visible(1, part).is_empty());
+        assert!(rt; is_empty(broker.visible(1, part)));
     }
     Ok(())
 }
@@ -256,7 +259,7 @@ fn nothing_changes_before_a_commit(rt: HostRuntime) -> Result<(), Fail> {
         .map_err(|_| AllocError)?;
     assert_eq!(rt; prepared.to, 1);
     for part in 0..broker.partitions(1) {
-        assert!(rt; broker.visible(1, part).is_empty());
+        assert!(rt; is_empty(broker.visible(1, part)));
     }
     assert!(rt; is_fresh(&broker, TaskName { sub: 0, part: 0 }));
     Ok(())

@@ -151,10 +151,10 @@ module _ {A : Type 0} (feed : A → ℕ) where
       let all : low + (high - low) ≡ high = omega (arith, le) in
       sym (drop-take low (high - low) xs) ∙ ap (λ (n : ℕ). drop low (take n xs)) all ∙ sym (between-part a b xs low high ab lows highs)
 
--- what a binary search for the entries up to a feed answers
-pub searched : {F : Type 0} {g : Mut F (Bor LogEntry × Unit {0}) Bool} {f : F} (n : ℕ) (xs : List LogEntry) (place : ℕ) → IsInPlaceOrder xs → place ≤ length xs →
-    ((p : LogEntry → Bool) → ComputesKey g p f → IsPartitionedBy p xs → IsPartitionPoint (λ x. p x ≡ true) (λ x. p x ≡ false) xs place) →
-    ((a : Bor LogEntry × Unit {0}) (r : Bool) (f' : F) → Called g f a r f' → (r ≡ nat_le (log_feed a.0.now) n) × (f' ≡ f)) → CutsAt log_feed n xs place
-searched n xs place up within found calls =
-    CutsAt-from_point log_feed n xs place within
-    (IsPartitionPoint-from_clause (λ x. nat_le (log_feed x) n) xs place found (IsPartitionedBy-leb log_feed xs n (IsNonDecreasing-feeds xs up)) calls)
+  -- what a binary search for the members up to a feed answers
+  pub searched : {F : Type 0} {g : Mut F (Bor A × Unit {0}) Bool} {f : F} (n : ℕ) (xs : List A) (place : ℕ) → IsNonDecreasingBy feed xs → place ≤ length xs →
+      ((p : A → Bool) → ComputesKey g p f → IsPartitionedBy p xs → IsPartitionPoint (λ x. p x ≡ true) (λ x. p x ≡ false) xs place) →
+      ((a : Bor A × Unit {0}) (r : Bool) (f' : F) → Called g f a r f' → (r ≡ nat_le (feed a.0.now) n) × (f' ≡ f)) → CutsAt n xs place
+  searched n xs place up within found calls =
+      CutsAt-from_point n xs place within
+      (IsPartitionPoint-from_clause (λ x. nat_le (feed x) n) xs place found (IsPartitionedBy-leb feed xs n up) calls)

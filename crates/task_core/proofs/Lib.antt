@@ -1,4 +1,5 @@
 pub mod Cuts
+pub mod Lists
 pub mod Merging
 pub mod Stepping
 pub mod Takes

@@ -6,13 +6,16 @@ use Rattle.ksql_types.specs.declared.value.Value.{Value}
 use Rattle.ksql_place.specs.Ascending.{ascending}
 use Rattle.ksql_place.specs.Order.{between_cmp}
 use Rattle.ksql_place.specs.Said.{saying}
+use Rattle.ksql_place.specs.declared.stamp.Place.{Place}
 use Rattle.ksql_nodes.specs.Entries.{Entry, from_side}
 use Rattle.query_meaning.specs.Queries.{entry_cmp, key_cells}
 use Rattle.topology.specs.Contents.{with_cells}
 use Rattle.topology.specs.declared.topology.SubInput.{SubInput}
 use Rattle.core_state.specs.declared.log.LogEntry.{LogEntry}
 use Rattle.core_state.specs.declared.log.LogEntry.TheVariants.{Fed, Said}
+use Rattle.topic_log.specs.Entries.{entries_in}
 use Rattle.topic_log.specs.Order.{IsInPlaceOrder, place_of}
+use Rattle.task_core.specs.declared.places.Front.{Front}
 use Rattle.task_core.specs.declared.reader.Reader.{Reader}
 use Rattle.task_core.specs.declared.reader.Rest.{Rest}
 
@@ -32,7 +35,7 @@ taken_as kind side input (Said c) = from_side side (with_cells input.keys c ∷ 
 
 -- the same of what is left of an input
 abbrev pub rest_on : ℕ → Rest → List Entry
-rest_on side r = flat_map (taken_as r.kind side r.input) r.entries.now
+rest_on side r = flat_map (taken_as r.kind side r.input) (entries_in r.entries)
 
 -- what is left of all that a reader gives
 abbrev pub pending : Reader → List Entry
@@ -40,15 +43,19 @@ pending r = ascending (entry_cmp r.left.input.relation r.right.input.relation) (
 
 -- how many entries are left
 abbrev pub left_len : Reader → ℕ
-left_len r = length r.left.entries.now + length r.right.entries.now
+left_len r = length (entries_in r.left.entries) + length (entries_in r.right.entries)
 
 -- what is left of both inputs stands in the order of places
 pub record IsOrdered (r : Reader) : Type 0 where
-  pub left : IsInPlaceOrder r.left.entries.now
-  pub right : IsInPlaceOrder r.right.entries.now
+  pub left : IsInPlaceOrder (entries_in r.left.entries)
+  pub right : IsInPlaceOrder (entries_in r.right.entries)
 
 -- whether the first of the left entries goes next: it isn't after the first of the right ones
 abbrev pub goes_left : ℕ → ℕ → List LogEntry → List LogEntry → Bool
 goes_left left right [] ys = false
 goes_left left right (x ∷ xs) [] = true
 goes_left left right (x ∷ xs) (y ∷ ys) = not (is_gt (between_cmp (place_of x) left (place_of y) right))
+
+-- the place whose stamp and path are lent
+abbrev pub place_at : Front → Place
+place_at front = record { stamp = front.stamp.now; path = front.path.now }

@@ -4,6 +4,7 @@ ghost use Rattle.ksql_nodes.specs.declared.node.Node.{Node as OneNode};
 ghost use Rattle.core_state.specs.Shelf.{shelf_closed};
 ghost use Rattle.core_state.specs.State.{lowest};
 ghost use Rattle.core_state.specs.Wired.{between, log_feed};
+ghost use Rattle.topic_log.specs.Entries.{entries_in};
 ghost use Rattle.topic_log.specs.Order.{IsInPlaceOrder};
 ghost use Rattle.topic_log.specs.Shelves.{part_at, routes_in, shelf_of, topics_of};
 ghost use Rattle.task_core.specs.Readers.{IsOrdered, pending};
@@ -13,7 +14,7 @@ use crate::feeds::fed_between;
 use crate::reader::{Reader, Rest};
 use ksql_nodes::Node;
 use ksql_types::Kind;
-use topic_log::Broker;
+use topic_log::{Broker, Entries};
 use topology::SubInput;
 
 /// The feeds after `from` up to `to`, in the partitions of a number.
@@ -93,8 +94,8 @@ fn rest_of<'a>(broker: &'a Broker, feeds: Feeds, kind: Kind, input: SubInput) ->
     requires forward { feeds.from ≤ feeds.to }
     ensures kind { result.kind ≡ kind }
     ensures input { result.input ≡ input }
-    ensures order { IsInPlaceOrder result.entries.now }
-    ensures entries { result.entries.now ≡ between log_feed feeds.from feeds.to ((shelf_of broker.now).shown input.topic feeds.part) }
+    ensures order { IsInPlaceOrder (entries_in result.entries) }
+    ensures entries { entries_in result.entries ≡ between log_feed feeds.from feeds.to ((shelf_of broker.now).shown input.topic feeds.part) }
 {
     let shown = broker.visible(input.topic, feeds.part);
     Rest {
@@ -108,7 +109,7 @@ fn rest_of<'a>(broker: &'a Broker, feeds: Feeds, kind: Kind, input: SubInput) ->
 fn nothing<'a>(kind: Kind) -> Rest<'a>
     ensures kind { result.kind ≡ kind }
     ensures input { result.input.relation ≡ 0 }
-    ensures entries { result.entries.now ≡ [] }
+    ensures entries { entries_in result.entries ≡ [] }
 {
     Rest {
         kind,
@@ -117,6 +118,9 @@ fn nothing<'a>(kind: Kind) -> Rest<'a>
             relation: 0,
             keys: 0,
         },
-        entries: &[],
+        entries: Entries {
+            fed: &[],
+            said: &[],
+        },
     }
 }

@@ -1,15 +1,17 @@
 //! What a task takes of what its inputs show, in the order of the places.
-ghost use Rattle.std.specs.Prelude.{◌≡◌, ◌∷◌, ◌++◌, [], ◌+◌, ◌<◌, ◌≤◌, ◌==◌, IfOk, OnOk, drop, flat_map, length, take};
+ghost use Rattle.std.specs.Prelude.{◌≡◌, ◌++◌, ◌+◌, ◌<◌, ◌==◌, IfOk, OnOk, drop, flat_map, length, option_map, slice_get, take};
 ghost use Rattle.op_chain.specs.Chain.{entries_of};
-ghost use Rattle.task_core.specs.Readers.{IsOrdered, goes_left, left_len, pending, taken_as};
+ghost use Rattle.topic_log.specs.Entries.{entries_in};
+ghost use Rattle.topic_log.specs.Order.{place_of};
+ghost use Rattle.task_core.specs.Readers.{IsOrdered, goes_left, left_len, pending, place_at, taken_as};
 
-use crate::places::cmp_entries;
+use crate::places::{Front, cmp_fronts};
 use crate::whole::{push_said, push_whole};
-use core_state::LogEntry;
 use ksql_types::Kind;
 use op_chain::Entry;
 use std::alloc::{AllocError, Global};
 use std::cmp::Ordering;
+use topic_log::Entries;
 use topology::SubInput;
 
 /// The most entries that a reader gives at once: few, so that they stay in the processor's cache while they go through the nodes.
@@ -20,7 +22,7 @@ const MOST: usize = 32;
 pub struct Rest<'a> {
     pub kind: Kind,
     pub input: SubInput,
-    pub entries: &'a [LogEntry],
+    pub entries: Entries<'a>,
 }
 
 /// What is left of the inputs of a task. One that has no second input has nothing on the right.
@@ -35,7 +37,7 @@ impl Reader<'_> {
     pub fn is_done(&self) -> bool
         ensures { result ≡ (left_len self.now == 0) }
     {
-        self.left.entries.is_empty() && self.right.entries.is_empty()
+        self.left.is_done() && self.right.is_done()
     }
 
     /// Takes the next entries of those that are left, some of them at once.
@@ -70,26 +72,46 @@ impl Reader<'_> {
 
     /// Whether the first of the left entries goes next.
     fn is_left_next(&self) -> bool
-        ensures { let r = self.now in result ≡ goes_left r.left.input.relation r.right.input.relation r.left.entries.now r.right.entries.now }
+        ensures { let r = self.now in
+            result ≡ goes_left r.left.input.relation r.right.input.relation (entries_in r.left.entries) (entries_in r.right.entries) }
     {
-        match (self.left.entries, self.right.entries) {
-            ([], _) => false,
-            (_, []) => true,
-            ([left, ..], [right, ..]) => self.is_in_front(left, right),
-        }
-    }
-
-    /// Whether an entry of the left input isn't after one of the right input.
-    fn is_in_front(&self, left: &LogEntry, right: &LogEntry) -> bool
-        ensures { let r = self.now in result ≡ goes_left r.left.input.relation r.right.input.relation (left.now ∷ []) (right.now ∷ []) }
-    {
+        let Some(right) = self.right.front() else {
+            return !self.left.is_done();
+        };
+        let Some(left) = self.left.front() else {
+            return false;
+        };
         let first = self.left.input.relation;
         let second = self.right.input.relation;
-        cmp_entries(left, first, right, second) != Ordering::Greater
+        cmp_fronts(&left, first, &right, second) != Ordering::Greater
     }
 }
 
 impl Rest<'_> {
+    /// Whether nothing is left.
+    fn is_done(&self) -> bool
+        ensures { result ≡ (length (entries_in self.now.entries) == 0) }
+    {
+        self.entries.fed.is_empty() && self.entries.said.is_empty()
+    }
+
+    /// The place of the first entry that is left, where there is one: a record has the empty path.
+    fn front(&self) -> Option<Front<'_>>
+        ensures { option_map place_at result ≡ option_map place_of (slice_get (entries_in self.now.entries) 0) }
+    {
+        match (self.entries.fed, self.entries.said) {
+            ([record, ..], _) => Some(Front {
+                stamp: &record.stamp,
+                path: &[],
+            }),
+            ([], [change, ..]) => Some(Front {
+                stamp: &change.place.stamp,
+                path: change.place.path.items(),
+            }),
+            ([], []) => None,
+        }
+    }
+
     /// Takes the first entry off, and adds what a task takes of it on a side.
     fn take_first(
         &mut self,
@@ -97,32 +119,23 @@ impl Rest<'_> {
         side: u32,
         taken: &mut Vec<Entry>,
     ) -> Result<(), AllocError>
-        requires { 0 < length self.old.entries.now }
         ensures kind { self.new.kind ≡ self.old.kind }
         ensures input { self.new.input ≡ self.old.input }
-        ensures rest { self.new.entries.now ≡ drop 1 self.old.entries.now }
+        ensures rest { entries_in self.new.entries ≡ drop 1 (entries_in self.old.entries) }
         ensures taken { OnOk result (entries_of taken.new.items
-            ≡ entries_of taken.old.items ++ flat_map (taken_as self.old.kind side self.old.input) (take 1 self.old.entries.now)) }
-    {
-        let first = &self.entries[0];
-        self.entries = &self.entries[1..];
-        self.push_taken(alloc, side, first, taken)
-    }
-
-    /// Adds what a task takes of an entry on a side.
-    fn push_taken(
-        &self,
-        alloc: Global,
-        side: u32,
-        entry: &LogEntry,
-        taken: &mut Vec<Entry>,
-    ) -> Result<(), AllocError>
-        ensures { OnOk result (entries_of taken.new.items ≡ entries_of taken.old.items ++ taken_as self.now.kind side self.now.input entry.now) }
+            ≡ entries_of taken.old.items ++ flat_map (taken_as self.old.kind side self.old.input) (take 1 (entries_in self.old.entries))) }
     {
         let columns = self.input.keys;
-        match entry {
-            LogEntry::Fed(record) => push_said(alloc, taken, side, self.kind, columns, record),
-            LogEntry::Said(change) => push_whole(alloc, taken, side, columns, change),
+        match (self.entries.fed, self.entries.said) {
+            ([record, rest @ ..], _) => {
+                self.entries.fed = rest;
+                push_said(alloc, taken, side, self.kind, columns, record)
+            }
+            ([], [change, rest @ ..]) => {
+                self.entries.said = rest;
+                push_whole(alloc, taken, side, columns, change)
+            }
+            ([], []) => Ok(()),
         }
     }
 }

@@ -26,8 +26,10 @@ use Rattle.core_state.specs.declared.log.LogEntry.{LogEntry}
 use Rattle.core_state.specs.declared.log.LogEntry.TheVariants.{Said}
 use Rattle.core_state.specs.declared.log.Proposal.{Proposal}
 use Rattle.topic_log.specs.Commits.{PartCommits, TopicCommits, TopicFits, gathered, waiting_lists}
+use Rattle.topic_log.specs.Entries.{shown_in}
 use Rattle.topic_log.specs.Ready.{HasRoom, IsReady}
 use Rattle.topic_log.specs.Shelves.{AreShelves, IsTopic, IsPartShelf, IsTopicShelf, Waits, closed_in, dones_of, part_at, routes_in, shelf_of, task_at, topics_of, waiting_in}
+use Rattle.topic_log.proofs.Contents.{shows-sent}
 use Rattle.topic_log.specs.declared.prepared.Prepared.{Prepared}
 use Rattle.topic_log.specs.declared.shelves.PartShelf.{PartShelf}
 use Rattle.topic_log.specs.declared.shelves.Shelves.{Shelves}
@@ -92,14 +94,14 @@ record Inside (s next : Shelves) (closed writer topic q : ℕ) (sent : List Chan
   commits : PartCommits closed writer sent part made
   within : writer < length part.waiting.items
 
-waiting_in-lists : (k : ℕ) (p : PartShelf) → waiting_in k p ≡ get_or (waiting_lists p) k []
+pub waiting_in-lists : (k : ℕ) (p : PartShelf) → waiting_in k p ≡ get_or (waiting_lists p) k []
 waiting_in-lists k p = ap (λ (o : Option (List Change)). unwrap_or o []) (sym (slice_get-map (λ w. w.items) p.waiting.items k)) ∙ unwrap_or-slice_get (waiting_lists p) k []
 
 abbrev waiting_at : ℕ → Option PartShelf → List Change
 waiting_at k o = unwrap_or (option_map (waiting_in k) o) []
 
 abbrev shown_at : Option PartShelf → List LogEntry
-shown_at o = unwrap_or (option_map (λ p. p.shown.items) o) []
+shown_at o = unwrap_or (option_map shown_in o) []
 
 module _ (s next : Shelves) (closed writer topic q : ℕ) (sent : List Change) (h : Inside s next closed writer topic q sent) where
   waiting-was : (u : TaskName) → (routes_in s).output u ≡ topic → (shelf_of s).waiting u q ≡ get_or (waiting_lists h.part) u.part []
@@ -131,7 +133,7 @@ module _ (s next : Shelves) (closed writer topic q : ℕ) (sent : List Change) (
           ∙ sym (get_or-set_other (waiting_lists h.part) writer u.part (waiting_in writer h.part ++ sent) [] (λ e. apart (same (e ∙ sym at))))
 
   shown-now : (shelf_of next).shown topic q ≡ (shelf_of s).shown topic q ++ map Said (merged (map (upto closed) (gathered writer sent h.part)))
-  shown-now = ap shown_at h.now ∙ h.commits.shown ∙ ap (λ (xs : List LogEntry). xs ++ map Said (merged (map (upto closed) (gathered writer sent h.part)))) (sym (ap shown_at h.was))
+  shown-now = ap shown_at h.now ∙ shows-sent h.part h.made (merged (map (upto closed) (gathered writer sent h.part))) h.commits.fed h.commits.said ∙ ap (λ (xs : List LogEntry). xs ++ map Said (merged (map (upto closed) (gathered writer sent h.part)))) (sym (ap shown_at h.was))
 
 -- ---- what was prepared fits
 

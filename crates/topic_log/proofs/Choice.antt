@@ -32,7 +32,7 @@ nat_low m n h = grind (arith, nat_tests)
 pub feed_low : (x y : Change) → is_gt (change_cmp x y) ≡ false → feed_of x ≤ feed_of y
 feed_low x y h = nat_low (feed_of x) (feed_of y) (first_low (nat_cmp (feed_of x) (feed_of y)) _ _ h)
 
-due_le : (c n : ℕ) → nat_le n c ≡ true → n ≤ c
+pub due_le : (c n : ℕ) → nat_le n c ≡ true → n ≤ c
 due_le c n h = grind (arith, nat_tests)
 
 le_due : (c n : ℕ) → n ≤ c → nat_le n c ≡ true

@@ -13,7 +13,7 @@ use Rattle.std.proofs.lemmas.Bool.{and_left, and_parts, cases_lt, cond-false, eq
 use Rattle.std.proofs.lemmas.List.{append-nil, get_or-append_right, get_or-map, get_or_append_left, length-append, length-map, nil_from_length}
 use Rattle.std.proofs.lemmas.List.Elements.{All-append, All-filter, All-head, All-map, All-tail, All-weaker}
 use Rattle.std.proofs.lemmas.List.Kept.{AllPairs-filter}
-use Rattle.std.proofs.lemmas.Option.{get_or_from_slice_get, same_Some, slice_get-map, slice_get_past}
+use Rattle.std.proofs.lemmas.Option.{get_or_from_slice_get, same_Some, option_and_then_some, slice_get-map, slice_get_past}
 use Rattle.ksql_types.specs.declared.relation.TaskName.{TaskName}
 use Rattle.ksql_types.specs.declared.topic.TopicSpec.{TopicSpec}
 use Rattle.ksql_place.specs.Ascending.{Rises, ascending}
@@ -32,9 +32,11 @@ use Rattle.topic_log.specs.declared.shelves.Shelves.{Shelves}
 use Rattle.topic_log.specs.declared.shelves.TaskShelf.{TaskShelf}
 use Rattle.topic_log.specs.declared.shelves.TopicShelf.{TopicShelf}
 use Rattle.topic_log.specs.Feeding.{IsThere, RiseApart, TopicWillShow, WillShow, WillShowAll}
+use Rattle.topic_log.specs.Entries.{shown_in}
 use Rattle.topic_log.specs.Order.{IsInPlaceOrder, feed_in, place_of}
-use Rattle.topic_log.specs.Shelves.{AreShelves, AreTopics, IsPartShelf, IsSourcePart, IsTopicShelf, Waits, routes_in, shelf_of, task_at, closed_in, dones_of, topics_of, waiting_in}
+use Rattle.topic_log.specs.Shelves.{AreShelves, AreTopics, IsPartShelf, IsSourcePart, IsTopicShelf, Waits, part_at, routes_in, shelf_of, task_at, closed_in, dones_of, topics_of, waiting_in}
 use Rattle.topic_log.specs.Views.{EachAt, topic_views}
+use Rattle.topic_log.proofs.Contents.{shows-fed}
 use Rattle.topic_log.proofs.InOrder.{Ascends-from_rises}
 use Rattle.topic_log.proofs.OneTopic.{All-slice_get, IfSome-at, part_in, slice_get-some, writers-of}
 use Rattle.topic_log.proofs.ViewLemmas.{IsPartShelf-same, part-some, part_view-same, topics-same}
@@ -164,11 +166,19 @@ none-written r records topic q written sources =
 
 -- ---- what each partition shows afterwards
 
-abbrev shown_in : Option PartShelf → List LogEntry
-shown_in o = unwrap_or (option_map (λ p. p.shown.items) o) []
+abbrev shown_at : Option PartShelf → List LogEntry
+shown_at o = unwrap_or (option_map shown_in o) []
+
+-- either no record stands in a partition, or no change is shown there
+abbrev Either : List SourceRecord → ℕ → ℕ → Option PartShelf → Type 0
+Either records topic q o = (filter (is_in topic q) records ≡ []) ⊎ IfSome o (λ p. p.said.items ≡ [])
 
 abbrev waits_in : ℕ → Option PartShelf → List Change
 waits_in writer o = unwrap_or (option_map (waiting_in writer) o) []
+
+shown-is : (records : List SourceRecord) (topic q : ℕ) (op p : PartShelf) → WillShow records [] topic q op p → (filter (is_in topic q) records ≡ []) ⊎ (op.said.items ≡ []) →
+    shown_in p ≡ shown_in op ++ map Fed (filter (is_in topic q) records)
+shown-is records topic q op p w either = shows-fed op p (filter (is_in topic q) records) either (sym (append-nil p.fed.items) ∙ w.fed) w.said
 
 module _ (records : List SourceRecord) (was now : List TopicShelf) (shows : WillShowAll records [] was now) where
   topic-pair : (topic : ℕ) → PairAt (TopicWillShow records []) was now topic
@@ -177,22 +187,23 @@ module _ (records : List SourceRecord) (was now : List TopicShelf) (shows : Will
   part-pair : (topic : ℕ) (o t : TopicShelf) → TopicWillShow records [] topic o t → (q : ℕ) → PairAt (λ q p n. WillShow records [] topic q p n) o.parts.items t.parts.items q
   part-pair topic o t w q = pair-at (λ q p n. WillShow records [] topic q p n) o.parts.items t.parts.items w.len w.parts q
 
-  shown-next : All (IsThere was) records → (topic q : ℕ) → shown_in (part_in q (slice_get now topic)) ≡ shown_in (part_in q (slice_get was topic)) ++ map Fed (filter (is_in topic q) records)
-  shown-next there topic q =
-      let absent : part_in q (slice_get was topic) ≡ None → part_in q (slice_get now topic) ≡ None → shown_in (part_in q (slice_get now topic)) ≡ shown_in (part_in q (slice_get was topic)) ++ map Fed (filter (is_in topic q) records) =
-      λ a b. ap shown_in b ∙ sym (ap (λ (rs : List SourceRecord). [] ++ map Fed rs) (none-absent was records topic q a there))
-      ∙ ap (λ (o : Option PartShelf). shown_in o ++ map Fed (filter (is_in topic q) records)) (sym a) in
-      elim (topic-pair topic) as (λ _. shown_in (part_in q (slice_get now topic)) ≡ shown_in (part_in q (slice_get was topic)) ++ map Fed (filter (is_in topic q) records)) [
+  shown-next : All (IsThere was) records → (topic q : ℕ) → Either records topic q (part_in q (slice_get was topic)) → shown_at (part_in q (slice_get now topic)) ≡ shown_at (part_in q (slice_get was topic)) ++ map Fed (filter (is_in topic q) records)
+  shown-next there topic q either =
+      let absent : part_in q (slice_get was topic) ≡ None → part_in q (slice_get now topic) ≡ None → shown_at (part_in q (slice_get now topic)) ≡ shown_at (part_in q (slice_get was topic)) ++ map Fed (filter (is_in topic q) records) =
+      λ a b. ap shown_at b ∙ sym (ap (λ (rs : List SourceRecord). [] ++ map Fed rs) (none-absent was records topic q a there))
+      ∙ ap (λ (o : Option PartShelf). shown_at o ++ map Fed (filter (is_in topic q) records)) (sym a) in
+      elim (topic-pair topic) as (λ _. shown_at (part_in q (slice_get now topic)) ≡ shown_at (part_in q (slice_get was topic)) ++ map Fed (filter (is_in topic q) records)) [
         | inl nothing ↦ absent (ap (part_in q) nothing.0) (ap (part_in q) nothing.1)
         | inr both ↦ (
             let o : TopicShelf = both.0 in
             let t : TopicShelf = both.1 in
-            elim (part-pair topic o t both.4 q) as (λ _. shown_in (part_in q (slice_get now topic)) ≡ shown_in (part_in q (slice_get was topic)) ++ map Fed (filter (is_in topic q) records)) [
+            elim (part-pair topic o t both.4 q) as (λ _. shown_at (part_in q (slice_get now topic)) ≡ shown_at (part_in q (slice_get was topic)) ++ map Fed (filter (is_in topic q) records)) [
               | inl nothing ↦ absent (ap (part_in q) both.2 ∙ nothing.0) (ap (part_in q) both.3 ∙ nothing.1)
               | inr part ↦ (
                   let w : WillShow records [] topic q part.0 part.1 = part.4 in
-                  ap shown_in (ap (part_in q) both.3 ∙ part.3) ∙ sym (append-nil part.1.shown.items) ∙ w.shown
-                  ∙ ap (λ (o : Option PartShelf). shown_in o ++ map Fed (filter (is_in topic q) records)) (sym (ap (part_in q) both.2 ∙ part.2)))
+                  ap shown_at (ap (part_in q) both.3 ∙ part.3)
+                  ∙ shown-is records topic q part.0 part.1 w (subst (Either records topic q) (ap (part_in q) both.2 ∙ part.2) either)
+                  ∙ ap (λ (o : Option PartShelf). shown_at o ++ map Fed (filter (is_in topic q) records)) (sym (ap (part_in q) both.2 ∙ part.2)))
             ])
       ]
 
@@ -240,6 +251,19 @@ sources-there s records sources = All-weaker (λ r. IsSourcePart s r.stamp.topic
 sources-unwritten : (s : Shelves) (records : List SourceRecord) → All (λ r. IsSourcePart s r.stamp.topic r.stamp.part) records → All (λ r. (routes_in s).writers r.stamp.topic ≡ []) records
 sources-unwritten s records sources = All-weaker (λ r. IsSourcePart s r.stamp.topic r.stamp.part) (λ r. (routes_in s).writers r.stamp.topic ≡ []) (λ r h. h.0) records sources
 
+-- a partition of a topic that no task writes shows no change
+unwritten : (s : Shelves) → AreShelves s → (topic q : ℕ) → (routes_in s).writers topic ≡ [] → IfSome (part_at s topic q) (λ p. p.said.items ≡ [])
+unwritten s are topic q e = by (part_at s topic q) refl
+  where
+    by : (o : Option PartShelf) → part_at s topic q ≡ o → IfSome o (λ p. p.said.items ≡ [])
+    by None at = tt
+    by (Some p) at =
+        option_and_then_some (λ (t : TopicShelf). slice_get t.parts.items q) (slice_get s.topics.items topic) p at
+        (λ t there inside.
+        let shelf : IsTopicShelf s.fed t = All-slice_get (IsTopicShelf s.fed) s.topics.items topic t are.each there in
+        let none : t.tasks.items ≡ [] = nil_from_length t.tasks.items (shelf.tasks ∙ ap length (sym (writers-of s topic t there) ∙ e)) in
+        (All-slice_get (IsPartShelf (closed_in s.fed t) (dones_of t)) t.parts.items q p shelf.each inside).unwritten (ap (map (λ k. k.done)) none))
+
 module _ (s next : Shelves) (records : List SourceRecord) (shows : WillShowAll records [] s.topics.items next.topics.items) where
   pub topics-next : topics_of next ≡ topics_of s
   topics-next = specs-next records s.topics.items next.topics.items shows
@@ -249,17 +273,19 @@ module _ (s next : Shelves) (records : List SourceRecord) (shows : WillShowAll r
       ap (λ (topics : List TopicSpec). option_and_then (λ k. slice_get k.tasks.items u.part) (slice_get next.topics.items ((routes_of topics).output u))) topics-next
       ∙ task-next records s.topics.items next.topics.items shows ((routes_in s).output u) u.part
 
-  pub feeds-next : next.fed ≡ s.fed + 1 → All (λ r. IsSourcePart s r.stamp.topic r.stamp.part) records → ShelfFeeds (routes_in s) records (shelf_of s) (shelf_of next)
-  feeds-next fed sources =
+  pub feeds-next : AreShelves s → next.fed ≡ s.fed + 1 → All (λ r. IsSourcePart s r.stamp.topic r.stamp.part) records → ShelfFeeds (routes_in s) records (shelf_of s) (shelf_of next)
+  feeds-next are fed sources =
       let was : List TopicShelf = s.topics.items in
       let now : List TopicShelf = next.topics.items in
-      let shown : (topic q : ℕ) → (shelf_of next).shown topic q ≡ (shelf_of s).shown topic q ++ map Fed (filter (is_in topic q) records) =
+      let shown : (topic q : ℕ) → Either records topic q (part_at s topic q) → (shelf_of next).shown topic q ≡ (shelf_of s).shown topic q ++ map Fed (filter (is_in topic q) records) =
       shown-next records was now shows (sources-there s records sources) in
+      let nowhere : (topic q : ℕ) → ¬ ((routes_in s).writers topic ≡ []) → filter (is_in topic q) records ≡ [] =
+      λ topic q written. none-written (routes_in s) records topic q written (sources-unwritten s records sources) in
       record {
         fed = fed;
-        sources = λ topic q _. shown topic q;
-        written = λ topic q written. shown topic q
-            ∙ ap (λ (rs : List SourceRecord). (shelf_of s).shown topic q ++ map Fed rs) (none-written (routes_in s) records topic q written (sources-unwritten s records sources))
+        sources = λ topic q e. shown topic q (inr (unwritten s are topic q e));
+        written = λ topic q written. shown topic q (inl (nowhere topic q written))
+            ∙ ap (λ (rs : List SourceRecord). (shelf_of s).shown topic q ++ map Fed rs) (nowhere topic q written)
             ∙ append-nil ((shelf_of s).shown topic q);
         waiting = λ u _ q. ap (λ (topics : List TopicSpec). waits_in u.part (part_in q (slice_get now ((routes_of topics).output u)))) topics-next
             ∙ waits-next records was now shows u.part ((routes_in s).output u) q;
@@ -274,9 +300,6 @@ zip-nil : {A W : Type 0} (R S : A → W → Type 0) (ws : List W) → AllZip R [
 zip-nil R S [] h = tt
 zip-nil R S (w ∷ ws) h = absurd h
 
-shown-is : (records : List SourceRecord) (topic q : ℕ) (op p : PartShelf) → WillShow records [] topic q op p → p.shown.items ≡ op.shown.items ++ map Fed (filter (is_in topic q) records)
-shown-is records topic q op p w = sym (append-nil p.shown.items) ∙ w.shown
-
 -- a source is closed up to the new feed, and what other topics show stays
 part-kept : (records : List SourceRecord) (fed topic q : ℕ) (op p : PartShelf) → Rises record_cmp (filter (is_in topic q) records) → All (λ r. r.stamp.feed ≡ fed + 1) records → WillShow records [] topic q op p →
     (ks : List TaskShelf) → (¬ (ks ≡ []) → filter (is_in topic q) records ≡ []) → IsPartShelf (lowest fed (λ k. k.done) ks) (map (λ k. k.done) ks) op →
@@ -284,21 +307,22 @@ part-kept : (records : List SourceRecord) (fed topic q : ℕ) (op p : PartShelf)
 part-kept records fed topic q op p rises of_feed w [] nowhere h =
     let new : List SourceRecord = filter (is_in topic q) records in
     let of_new : All (λ r. r.stamp.feed ≡ fed + 1) new = All-filter (is_in topic q) (λ r. r.stamp.feed ≡ fed + 1) records of_feed in
-    let shown : p.shown.items ≡ op.shown.items ++ map Fed new = shown-is records topic q op p w in
+    let shown : shown_in p ≡ shown_in op ++ map Fed new = shown-is records topic q op p w (inr (h.unwritten refl)) in
     record {
       in_order = subst IsInPlaceOrder (sym shown)
-          (order-next fed op.shown.items new h.in_order h.is_closed rises of_new);
-      is_closed = subst (All (λ x. feed_in x ≤ fed + 1)) (sym shown) (All-append (λ x. feed_in x ≤ fed + 1) op.shown.items (map Fed new)
-          (All-weaker (λ x. feed_in x ≤ fed) (λ x. feed_in x ≤ fed + 1) (λ x le. omega arith) op.shown.items h.is_closed)
+          (order-next fed (shown_in op) new h.in_order h.is_closed rises of_new);
+      is_closed = subst (All (λ x. feed_in x ≤ fed + 1)) (sym shown) (All-append (λ x. feed_in x ≤ fed + 1) (shown_in op) (map Fed new)
+          (All-weaker (λ x. feed_in x ≤ fed) (λ x. feed_in x ≤ fed + 1) (λ x le. omega arith) (shown_in op) h.is_closed)
           (All-map (λ x. feed_in x ≤ fed + 1) Fed new (All-weaker (λ r. r.stamp.feed ≡ fed + 1) (λ r. feed_in (Fed r) ≤ fed + 1) (λ r e. omega arith) new of_new)));
+      unwritten = λ none. ap (λ (v : Vec Change). v.items) w.said ∙ h.unwritten refl;
       waits = zip-nil (λ done w. Waits fed done w.items) (λ done w. Waits (fed + 1) done w.items) p.waiting.items
           (subst (λ (ws : Vec (VecDeque Change Global)). AllZip (λ done w. Waits fed done w.items) [] ws.items) (sym w.waiting) h.waits);
     }
 part-kept records fed topic q op p rises of_feed w (k ∷ ks) nowhere h =
     let nothing : filter (is_in topic q) records ≡ [] = nowhere (λ e. cc) in
-    let shown : p.shown.items ≡ op.shown.items = shown-is records topic q op p w ∙ ap (λ (rs : List SourceRecord). op.shown.items ++ map Fed rs) nothing ∙ append-nil op.shown.items in
+    let fed : p.fed.items ≡ op.fed.items = sym (append-nil p.fed.items) ∙ w.fed ∙ ap (λ (rs : List SourceRecord). op.fed.items ++ rs) nothing ∙ append-nil op.fed.items in
     IsPartShelf-same (least (λ k. k.done) k ks) (map (λ k. k.done) (k ∷ ks)) op p
-    (part_view-same op p (sym shown) (sym (ap (λ (ws : Vec (VecDeque Change Global)). map (λ w. w.items) ws.items) w.waiting))) h
+    (part_view-same op p (sym fed) (sym (ap (λ (v : Vec Change). v.items) w.said)) (sym (ap (λ (ws : Vec (VecDeque Change Global)). map (λ w. w.items) ws.items) w.waiting))) h
 
 topic-kept : (records : List SourceRecord) (fed topic : ℕ) (o t : TopicShelf) → RiseApart records → All (λ r. r.stamp.feed ≡ fed + 1) records →
     ((q : ℕ) → ¬ (o.tasks.items ≡ []) → filter (is_in topic q) records ≡ []) → TopicWillShow records [] topic o t → IsTopicShelf fed o → IsTopicShelf (fed + 1) t

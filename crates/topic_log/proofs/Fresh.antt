@@ -10,6 +10,7 @@ use Rattle.std.proofs.lemmas.Option.{option_and_then_some, same_Some}
 use Rattle.ksql_types.specs.declared.relation.TaskName.{TaskName}
 use Rattle.ksql_types.specs.declared.topic.TopicSpec.{TopicSpec}
 use Rattle.ksql_place.specs.declared.change.Change.{Change}
+use Rattle.ksql_place.specs.declared.change.SourceRecord.{SourceRecord}
 use Rattle.core_state.specs.Routes.{tasks_of_writer}
 use Rattle.core_state.specs.Shelf.{ShelfOpens}
 use Rattle.core_state.specs.declared.log.LogEntry.{LogEntry}
@@ -17,6 +18,7 @@ use Rattle.topic_log.specs.declared.shelves.PartShelf.{PartShelf}
 use Rattle.topic_log.specs.declared.shelves.Shelves.{Shelves}
 use Rattle.topic_log.specs.declared.shelves.TaskShelf.{TaskShelf}
 use Rattle.topic_log.specs.declared.shelves.TopicShelf.{TopicShelf}
+use Rattle.topic_log.specs.Entries.{entries_of, shown_in}
 use Rattle.topic_log.specs.Opening.{IsEmptyPart, IsFreshTask, IsFreshTopic, task_count}
 use Rattle.topic_log.specs.Order.{IsInPlaceOrder, feed_in}
 use Rattle.topic_log.specs.Shelves.{AreShelves, AreTopics, IsPartShelf, IsTopicShelf, Waits, closed_in, dones_of, part_at, routes_in, shelf_of, topics_of, waiting_in}
@@ -33,10 +35,14 @@ zip-all R (x ∷ xs) (y ∷ ys) count all = (all.0 x, zip-all R xs ys (omega ari
 none-waits : (closed done : ℕ) (xs : List Change) → xs ≡ [] → Waits closed done xs
 none-waits closed done xs none = subst (λ (ys : List Change). Waits closed done ys) (sym none) (λ i j d low high. absurd (omega arith), λ k d low. absurd (omega arith))
 
+none-shown-in : {n : ℕ} (p : PartShelf) → IsEmptyPart n p → shown_in p ≡ []
+none-shown-in p empty = ap₂ (λ (rs : List SourceRecord) (xs : List Change). entries_of rs xs) empty.fed empty.said
+
 empty-part : (closed : ℕ) (dones : List ℕ) (p : PartShelf) → IsEmptyPart (length dones) p → IsPartShelf closed dones p
-empty-part closed dones p empty = record {
-  in_order = subst (λ (xs : List LogEntry). IsInPlaceOrder xs) (sym empty.shown) (λ i j d low high. absurd (omega arith));
-  is_closed = All-same (λ x. feed_in x ≤ closed) p.shown.items [] empty.shown (All-nil (λ x. feed_in x ≤ closed));
+empty-part closed dones p empty = let none : shown_in p ≡ [] = none-shown-in p empty in record {
+  in_order = subst (λ (xs : List LogEntry). IsInPlaceOrder xs) (sym none) (λ i j d low high. absurd (omega arith));
+  is_closed = All-same (λ x. feed_in x ≤ closed) (shown_in p) [] none (All-nil (λ x. feed_in x ≤ closed));
+  unwritten = λ unwritten. empty.said;
   waits = zip-all (λ done w. Waits closed done w.items) dones p.waiting.items (sym empty.writers)
       (recursion_from_All (λ w. (done : ℕ) → Waits closed done w.items) p.waiting.items
       (All-weaker (λ w. w.items ≡ []) (λ w. (done : ℕ) → Waits closed done w.items) (λ w none done. none-waits closed done w.items none) p.waiting.items empty.waiting));
@@ -108,15 +114,15 @@ part-fresh topics s fresh i q p at =
     let topic : (topic : TopicSpec) × IsFreshTopic topic t = fresh-at topics s.topics.items fresh.topics_fresh i t there in
     (task_count topic.0, All-slice_get (IsEmptyPart (task_count topic.0)) t.parts.items q p topic.1.empty inside))
 
-abbrev shown_in : Option PartShelf → List LogEntry
-shown_in o = unwrap_or (option_map (λ p. p.shown.items) o) []
+abbrev shown_at : Option PartShelf → List LogEntry
+shown_at o = unwrap_or (option_map shown_in o) []
 
 abbrev waiting_of : ℕ → Option PartShelf → List Change
 waiting_of part o = unwrap_or (option_map (waiting_in part) o) []
 
-none-in : (topics : List TopicSpec) (s : Shelves) → AreFresh topics s → (i q : ℕ) (o : Option PartShelf) → part_at s i q ≡ o → shown_in o ≡ []
+none-in : (topics : List TopicSpec) (s : Shelves) → AreFresh topics s → (i q : ℕ) (o : Option PartShelf) → part_at s i q ≡ o → shown_at o ≡ []
 none-in topics s fresh i q None at = refl
-none-in topics s fresh i q (Some p) at = (part-fresh topics s fresh i q p at).1.shown
+none-in topics s fresh i q (Some p) at = none-shown-in p (part-fresh topics s fresh i q p at).1
 
 none-at : (n part : ℕ) (p : PartShelf) → IsEmptyPart n p → (o : Option (VecDeque Change Global)) → slice_get p.waiting.items part ≡ o → unwrap_or (option_map (λ w. w.items) o) [] ≡ []
 none-at n part p empty None at = refl

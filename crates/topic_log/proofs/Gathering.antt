@@ -18,7 +18,7 @@ use Rattle.topic_log.specs.declared.shelves.PartShelf.{PartShelf}
 
 -- the partition in which this waits of a writer
 abbrev pub with_waiting : PartShelf → ℕ → VecDeque Change Global → PartShelf
-with_waiting p writer w = record { shown = p.shown; waiting = with_item p.waiting writer w }
+with_waiting p writer w = record { fed = p.fed; said = p.said; waiting = with_item p.waiting writer w }
 
 module _ (p : PartShelf) (writer : ℕ) (was now : VecDeque Change Global) (sent : List Change) (within : writer < length p.waiting.items) (at : was ≡ get_or p.waiting.items writer was) (more : now.items ≡ was.items ++ sent) where
   waiting-was : waiting_in writer p ≡ was.items

@@ -10,11 +10,13 @@ use Rattle.std.proofs.lemmas.Option.{get_or_from_slice_get, slice_get-map, slice
 use Rattle.ksql_place.specs.Ascending.{Rises}
 use Rattle.ksql_place.specs.Routing.{change_cmp}
 use Rattle.ksql_place.specs.declared.change.Change.{Change}
-use Rattle.core_state.specs.Routes.{tasks_of_writer}
-use Rattle.core_state.specs.State.{after, feed_of, least, lowest}
+use Rattle.core_state.specs.Routes.{merged, tasks_of_writer}
+use Rattle.core_state.specs.State.{after, feed_of, least, lowest, upto}
 use Rattle.topic_log.specs.Commits.{EachFits, PartCommits, TopicCommits, TopicFits, gathered, waiting_lists}
+use Rattle.topic_log.specs.Entries.{shown_in}
 use Rattle.topic_log.specs.Order.{IsInPlaceOrder, feed_in}
 use Rattle.topic_log.specs.Shelves.{IsPartShelf, IsTopicShelf, Waits, closed_in, dones_of, waiting_in}
+use Rattle.topic_log.proofs.Contents.{shows-sent}
 use Rattle.topic_log.specs.declared.prepared.Prepared.{Prepared}
 use Rattle.topic_log.specs.declared.shelves.PartShelf.{PartShelf}
 use Rattle.topic_log.specs.declared.shelves.TaskShelf.{TaskShelf}
@@ -137,9 +139,13 @@ module _ (closed from to writer : ℕ) (dones : List ℕ) (p : PartShelf) (sent 
       (λ d xs waits. All-weaker (λ x. (closed < feed_of x) × (feed_of x ≤ d)) (λ x. closed < feed_of x) (λ x h. h.0) xs waits.1) (set dones writer to) (gathered writer sent p) gathered_wait
 
   pub part_kept : (now : ℕ) (next : PartShelf) → closed ≤ now → PartCommits now writer sent p next → IsPartShelf now (set dones writer to) next
-  part_kept now next up commits = record {
-    in_order = subst IsInPlaceOrder (sym commits.shown) (in_order_more closed now p.shown.items (gathered writer sent p) kept.in_order kept.is_closed gathered_later);
-    is_closed = subst (All (λ x. feed_in x ≤ now)) (sym commits.shown) (closed_more closed now p.shown.items (gathered writer sent p) up kept.is_closed gathered_later);
+  part_kept now next up commits = let shown = shows-sent p next (merged (map (upto now) (gathered writer sent p))) commits.fed commits.said in record {
+    in_order = subst IsInPlaceOrder (sym shown) (in_order_more closed now (shown_in p) (gathered writer sent p) kept.in_order kept.is_closed gathered_later);
+    is_closed = subst (All (λ x. feed_in x ≤ now)) (sym shown) (closed_more closed now (shown_in p) (gathered writer sent p) up kept.is_closed gathered_later);
+    unwritten = λ none.
+        let same = length-set dones writer to in
+        let no : length (set dones writer to) ≡ 0 = ap length none in
+        absurd (omega (arith, within, same, no));
     waits =
         zip-unmap (Waits now) (λ w. w.items) (set dones writer to) next.waiting.items
         (subst (AllZip (Waits now) (set dones writer to)) (sym commits.waiting)

@@ -1,5 +1,6 @@
 pub mod Applying
 pub mod Choice
+pub mod Contents
 pub mod Counted
 pub mod Due
 pub mod EachPlace
@@ -19,3 +20,4 @@ pub mod Rooms
 pub mod Showing
 pub mod Shown
 pub mod ViewLemmas
+pub mod Whole

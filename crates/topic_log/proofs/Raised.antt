@@ -18,6 +18,7 @@ use Rattle.topic_log.specs.declared.shelves.PartShelf.{PartShelf}
 use Rattle.topic_log.specs.declared.shelves.Shelves.{Shelves}
 use Rattle.topic_log.specs.declared.shelves.TaskShelf.{TaskShelf}
 use Rattle.topic_log.specs.declared.shelves.TopicShelf.{TopicShelf}
+use Rattle.topic_log.specs.Entries.{shown_in}
 use Rattle.topic_log.specs.Ready.{HasRoom, IsReady}
 use Rattle.topic_log.specs.Shelves.{AreShelves, IsPartShelf, IsTopicShelf, closed_in, dones_of, part_at, routes_in, shelf_of, task_at, topics_of, waiting_in}
 use Rattle.topic_log.proofs.OneTopic.{All-slice_get, Replaces, lowest-map, map-set_same, part-else, part-there, part-was, routes-same, same-task, shelves-kept, slice_get-set_else, slice_get-set_same, task-else, task-there, task-was, topics-same}
@@ -115,7 +116,7 @@ module _ {s next : Shelves} {u : TaskName} {t changed : TopicShelf} {k raised : 
   pub raises : Raises s next u t changed k raised → IsWriter (routes_in s) u → ShelfRaises (routes_in s) u (shelf_of s) (shelf_of next)
   raises h is = record {
     fed = h.fed;
-    shown = λ i q. ap (λ (o : Option PartShelf). unwrap_or (option_map (λ (p : PartShelf). p.shown.items) o) []) (parts-same h i q);
+    shown = λ i q. ap (λ (o : Option PartShelf). unwrap_or (option_map shown_in o) []) (parts-same h i q);
     waiting = λ v writes q. waiting-same h v q;
     done = λ v writes. ap (λ (o : Option ℕ). unwrap_or o 0) (said-same (λ (k : TaskShelf). k.done) h h.done v);
     logs = λ v writes. ap (λ (o : Option (List StoreEntry)). unwrap_or o []) (said-same (λ (k : TaskShelf). k.logs.items) h (ap (λ (l : Vec StoreEntry). l.items) h.logs) v);

@@ -13,8 +13,6 @@ use Rattle.ksql_place.specs.declared.change.Change.{Change}
 use Rattle.ksql_place.proofs.Ascending.{Ascends}
 use Rattle.core_state.specs.Routes.{merged}
 use Rattle.core_state.specs.State.{after, feed_of, upto}
-use Rattle.core_state.specs.declared.log.LogEntry.{LogEntry}
-use Rattle.core_state.specs.declared.log.LogEntry.TheVariants.{Said}
 use Rattle.topic_log.specs.Commits.{GoesFirst, IsNext, dues, first_if, is_due, waiting_lists}
 use Rattle.topic_log.specs.Ready.{waiting_len}
 use Rattle.topic_log.specs.declared.shelves.PartShelf.{PartShelf}
@@ -31,8 +29,9 @@ due_not_late c n h = grind (arith, nat_tests)
 -- what waits now, and what is shown, where a partition is on the way from the first
 pub record IsShowing (closed : ℕ) (first now : PartShelf) : Type 0 where
   pub ascends : EachAscends change_cmp (waiting_lists now)
-  pub room : length now.shown.items + waiting_len now ≤ vec_capacity now.shown
-  pub shown : now.shown.items ++ map Said (merged (map (upto closed) (waiting_lists now))) ≡ first.shown.items ++ map Said (merged (map (upto closed) (waiting_lists first)))
+  pub fed : now.fed ≡ first.fed
+  pub room : length now.said.items + waiting_len now ≤ vec_capacity now.said
+  pub said : now.said.items ++ merged (map (upto closed) (waiting_lists now)) ≡ first.said.items ++ merged (map (upto closed) (waiting_lists first))
   pub waiting : map (after closed) (waiting_lists now) ≡ map (after closed) (waiting_lists first)
 
 dues-at_list : (c : ℕ) (ls : List (List Change)) (j : ℕ) → get_or (dues c ls) j None ≡ first_if (is_due c) (get_or ls j [])
@@ -68,31 +67,32 @@ pub waiting_len-lists : (p : PartShelf) → waiting_len p ≡ sum (map length (w
 waiting_len-lists p = ap sum (map-map length (λ w. w.items) p.waiting.items)
 
 -- at first
-pub show_none : (c : ℕ) (first : PartShelf) → All (λ w. Rises change_cmp w.items) first.waiting.items → length first.shown.items + waiting_len first ≤ vec_capacity first.shown → IsShowing c first first
-show_none c first rises room = record { ascends = EachAscends-from_all (λ w. w.items) first.waiting.items (recursion_from_All (λ w. Rises change_cmp w.items) first.waiting.items rises); room = room; shown = refl; waiting = refl }
+pub show_none : (c : ℕ) (first : PartShelf) → All (λ w. Rises change_cmp w.items) first.waiting.items → length first.said.items + waiting_len first ≤ vec_capacity first.said → IsShowing c first first
+show_none c first rises room = record { ascends = EachAscends-from_all (λ w. w.items) first.waiting.items (recursion_from_All (λ w. Rises change_cmp w.items) first.waiting.items rises); fed = refl; room = room; said = refl; waiting = refl }
 
 -- one more change is shown
 pub show_more : (c : ℕ) (first now next : PartShelf) (i : ℕ) (x : Change) (rest : List Change) → IsShowing c first now →
     IsNext (dues c (waiting_lists now)) (length (waiting_lists now)) (Some i) → get_or (waiting_lists now) i [] ≡ x ∷ rest →
-    waiting_lists next ≡ set (waiting_lists now) i rest → next.shown.items ≡ now.shown.items ++ Said x ∷ [] → vec_capacity next.shown ≡ vec_capacity now.shown →
+    waiting_lists next ≡ set (waiting_lists now) i rest → next.fed ≡ now.fed → next.said.items ≡ now.said.items ++ x ∷ [] → vec_capacity next.said ≡ vec_capacity now.said →
     IsShowing c first next × (waiting_len next + 1 ≡ waiting_len now)
-show_more c first now next i x rest h (None, best) at waits shows cap = absurd best
-show_more c first now next i x rest h (Some y, best) at waits shows cap =
+show_more c first now next i x rest h (None, best) at waits fed shows cap = absurd best
+show_more c first now next i x rest h (Some y, best) at waits fed shows cap =
     let ls = waiting_lists now in
     let step = merged_step c ls i x y rest h.ascends best at in
     let fewer : waiting_len next + 1 ≡ waiting_len now =
     ap (λ (n : ℕ). n + 1) (waiting_len-lists next ∙ ap (λ (us : List (List Change)). sum (map length us)) waits) ∙ lengths-set ls i x rest best.within at ∙ sym (waiting_len-lists now) in (
       record {
         ascends = subst (EachAscends change_cmp) (sym waits) (EachAscends-set change_total ls i x rest best.within at h.ascends);
+        fed = fed ∙ h.fed;
         room =
-            let shows-len : length next.shown.items ≡ length now.shown.items + 1 = ap length shows ∙ length_push now.shown.items (Said x) in
-            let room : length now.shown.items + waiting_len now ≤ vec_capacity now.shown = h.room in
+            let shows-len : length next.said.items ≡ length now.said.items + 1 = ap length shows ∙ length_push now.said.items x in
+            let room : length now.said.items + waiting_len now ≤ vec_capacity now.said = h.room in
             omega (arith, shows-len, room, fewer, cap);
-        shown =
-            ap₂ (λ (us : List LogEntry) (ws : List (List Change)). us ++ map Said (merged (map (upto c) ws))) shows waits
-            ∙ append_assoc now.shown.items (Said x ∷ []) (map Said (merged (map (upto c) (set ls i rest))))
-            ∙ ap (λ (us : List Change). now.shown.items ++ map Said us) (sym step.0)
-            ∙ h.shown;
+        said =
+            ap₂ (λ (us : List Change) (ws : List (List Change)). us ++ merged (map (upto c) ws)) shows waits
+            ∙ append_assoc now.said.items (x ∷ []) (merged (map (upto c) (set ls i rest)))
+            ∙ ap (λ (us : List Change). now.said.items ++ us) (sym step.0)
+            ∙ h.said;
         waiting = ap (map (after c)) waits ∙ filters-set (λ z. nat_lt c (feed_of z)) ls i x rest at (late_not_due c (feed_of x) step.1) ∙ h.waiting;
       },
       fewer,
@@ -100,13 +100,13 @@ show_more c first now next i x rest h (Some y, best) at waits shows cap =
 
 -- where nothing more is due, all of it is shown
 pub show_all : (c : ℕ) (first now : PartShelf) → IsShowing c first now → IsNext (dues c (waiting_lists now)) (length (waiting_lists now)) None →
-    (now.shown.items ≡ first.shown.items ++ map Said (merged (map (upto c) (waiting_lists first)))) × (waiting_lists now ≡ map (after c) (waiting_lists first))
+    (now.said.items ≡ first.said.items ++ merged (map (upto c) (waiting_lists first))) × (waiting_lists now ≡ map (after c) (waiting_lists first))
 show_all c first now h (Some y, best) = absurd best
 show_all c first now h (None, best) =
     let ls = waiting_lists now in
     let none = nothing_passes change_total (is_due c) (λ z. nat_lt c (feed_of z)) (due_downward c) (λ z. due_not_late c (feed_of z)) ls h.ascends
     (λ j below. sym (dues-at_list c ls j) ∙ best j below) in (
-      sym (append-nil now.shown.items) ∙ ap (λ (us : List Change). now.shown.items ++ map Said (ascending change_cmp us)) (sym none.0) ∙ h.shown,
+      sym (append-nil now.said.items) ∙ ap (λ (us : List Change). now.said.items ++ ascending change_cmp us) (sym none.0) ∙ h.said,
       sym none.1 ∙ h.waiting,
     )
 
@@ -122,12 +122,16 @@ some_first : (p : Change → Bool) (xs : List Change) (y : Change) → first_if 
 some_first p [] y is = absurd (cc (is))
 some_first p (x ∷ xs) y is = omega arith
 
+pub next_within : (c : ℕ) (p : PartShelf) (i : ℕ) → IsNext (dues c (waiting_lists p)) (length (waiting_lists p)) (Some i) → i < length p.waiting.items
+next_within c p i (None, best) = absurd best
+next_within c p i (Some y, best) = subst (λ (n : ℕ). i < n) (length-map p.waiting.items (λ w. w.items)) best.within
+
 -- the writer that is next has a first change
 pub next_has : (c : ℕ) (p : PartShelf) (i : ℕ) (d : VecDeque Change Global) → IsNext (dues c (waiting_lists p)) (length (waiting_lists p)) (Some i) → d ≡ get_or p.waiting.items i d →
     (get_or (waiting_lists p) i [] ≡ d.items) × (0 < length d.items)
 next_has c p i d (None, best) is = absurd best
 next_has c p i d (Some y, best) is =
-    let within : i < length p.waiting.items = subst (λ (n : ℕ). i < n) (length-map p.waiting.items (λ w. w.items)) best.within in
+    let within : i < length p.waiting.items = next_within c p i (Some y, best) in
     let at : get_or (waiting_lists p) i [] ≡ d.items = get_or-map (λ w. w.items) p.waiting.items i d [] within ∙ ap (λ (w : VecDeque Change Global). w.items) (sym is) in
     (at, some_first (is_due c) d.items y (ap (first_if (is_due c)) (sym at) ∙ sym (dues-at_list c (waiting_lists p) i) ∙ best.at))
 

@@ -5,8 +5,6 @@ use Rattle.std.proofs.lemmas.Bool.{cond-false, cond-true}
 use Rattle.std.proofs.lemmas.List.{append_assoc, length-append, length-set}
 use Rattle.std.proofs.lemmas.Option.{IfSome_then, slice_get_within}
 use Rattle.ksql_place.specs.declared.change.SourceRecord.{SourceRecord}
-use Rattle.core_state.specs.declared.log.LogEntry.{LogEntry}
-use Rattle.core_state.specs.declared.log.LogEntry.TheVariants.{Fed}
 use Rattle.core_state.specs.State.{is_in}
 use Rattle.topic_log.specs.declared.shelves.PartShelf.{PartShelf}
 use Rattle.topic_log.specs.declared.shelves.TopicShelf.{TopicShelf}
@@ -26,21 +24,23 @@ module _ (all : List SourceRecord) (r : SourceRecord) (rest : List SourceRecord)
 
   shows-else : (topic q : ℕ) (was now : PartShelf) → is_in topic q r ≡ false → WillShow all (r ∷ rest) topic q was now → WillShow all rest topic q was now
   shows-else topic q was now elsewhere h = record {
-    shown = ap (λ (rs : List SourceRecord). now.shown.items ++ map Fed rs) (sym (passed topic q elsewhere)) ∙ h.shown;
+    fed = ap (λ (rs : List SourceRecord). now.fed.items ++ rs) (sym (passed topic q elsewhere)) ∙ h.fed;
+    said = h.said;
     waiting = h.waiting;
     room = subst (λ (rs : List SourceRecord). HasShownRoom (length rs) now) (passed topic q elsewhere) h.room;
   }
 
-  shows-here : (was now next : PartShelf) → next.shown.items ≡ now.shown.items ++ Fed r ∷ [] → vec_capacity next.shown ≡ vec_capacity now.shown → next.waiting ≡ now.waiting →
+  shows-here : (was now next : PartShelf) → next.fed.items ≡ now.fed.items ++ r ∷ [] → vec_capacity next.fed ≡ vec_capacity now.fed → next.said ≡ now.said → next.waiting ≡ now.waiting →
       WillShow all (r ∷ rest) r.stamp.topic r.stamp.part was now → WillShow all rest r.stamp.topic r.stamp.part was next
-  shows-here was now next items cap waiting h =
+  shows-here was now next items cap said waiting h =
       let left : List SourceRecord = filter (is_in r.stamp.topic r.stamp.part) rest in
       record {
-        shown = ap (λ (xs : List LogEntry). xs ++ map Fed left) items ∙ append_assoc now.shown.items (Fed r ∷ []) (map Fed left)
-            ∙ ap (λ (rs : List SourceRecord). now.shown.items ++ map Fed rs) (sym taken) ∙ h.shown;
+        fed = ap (λ (xs : List SourceRecord). xs ++ left) items ∙ append_assoc now.fed.items (r ∷ []) left
+            ∙ ap (λ (rs : List SourceRecord). now.fed.items ++ rs) (sym taken) ∙ h.fed;
+        said = said ∙ h.said;
         waiting = waiting ∙ h.waiting;
         room =
-            let longer : length next.shown.items ≡ length now.shown.items + 1 = ap length items ∙ length-append now.shown.items (Fed r ∷ []) ∙ omega arith in
+            let longer : length next.fed.items ≡ length now.fed.items + 1 = ap length items ∙ length-append now.fed.items (r ∷ []) ∙ omega arith in
             let count : count_in r.stamp.topic r.stamp.part (r ∷ rest) ≡ 1 + length left = ap length taken ∙ omega arith in
             omega (arith, h.room, cap);
       }
@@ -56,10 +56,10 @@ module _ (all : List SourceRecord) (r : SourceRecord) (rest : List SourceRecord)
   }
 
   topic-here : (was now next : TopicShelf) (part put : PartShelf) → r.stamp.part < length now.parts.items → part ≡ get_or now.parts.items r.stamp.part part →
-      put.shown.items ≡ part.shown.items ++ Fed r ∷ [] → vec_capacity put.shown ≡ vec_capacity part.shown → put.waiting ≡ part.waiting →
+      put.fed.items ≡ part.fed.items ++ r ∷ [] → vec_capacity put.fed ≡ vec_capacity part.fed → put.said ≡ part.said → put.waiting ≡ part.waiting →
       next.spec ≡ now.spec → next.tasks ≡ now.tasks → next.parts.items ≡ set now.parts.items r.stamp.part put →
       TopicWillShow all (r ∷ rest) r.stamp.topic was now → TopicWillShow all rest r.stamp.topic was next
-  topic-here was now next part put within at items cap waiting spec tasks parts h =
+  topic-here was now next part put within at items cap said waiting spec tasks parts h =
       let topic : ℕ = r.stamp.topic in
       let P : ℕ → PartShelf → Type 0 = λ q part. IfSome (slice_get was.parts.items q) (λ old. WillShow all (r ∷ rest) topic q old part) in
       let Q : ℕ → PartShelf → Type 0 = λ q part. IfSome (slice_get was.parts.items q) (λ old. WillShow all rest topic q old part) in
@@ -70,16 +70,16 @@ module _ (all : List SourceRecord) (r : SourceRecord) (rest : List SourceRecord)
         parts = subst (EachAt Q) (sym parts) (EachAt-written P Q now.parts.items r.stamp.part put within
             (λ q other apart shows. IfSome_then (slice_get was.parts.items q) shows (λ old w. shows-else topic q old other (is_in-part topic q r apart) w))
             (let there : P r.stamp.part part = subst (P r.stamp.part) (sym at) (h.parts r.stamp.part part within) in
-            IfSome_then (slice_get was.parts.items r.stamp.part) there (λ old w. shows-here old part put items cap waiting w))
+            IfSome_then (slice_get was.parts.items r.stamp.part) there (λ old w. shows-here old part put items cap said waiting w))
             h.parts);
       }
 
   pub show-next : (was now : List TopicShelf) (t next : TopicShelf) (part put : PartShelf) → r.stamp.topic < length now → t ≡ get_or now r.stamp.topic t →
       r.stamp.part < length t.parts.items → part ≡ get_or t.parts.items r.stamp.part part →
-      put.shown.items ≡ part.shown.items ++ Fed r ∷ [] → vec_capacity put.shown ≡ vec_capacity part.shown → put.waiting ≡ part.waiting →
+      put.fed.items ≡ part.fed.items ++ r ∷ [] → vec_capacity put.fed ≡ vec_capacity part.fed → put.said ≡ part.said → put.waiting ≡ part.waiting →
       next.spec ≡ t.spec → next.tasks ≡ t.tasks → next.parts.items ≡ set t.parts.items r.stamp.part put →
       WillShowAll all (r ∷ rest) was now → WillShowAll all rest was (set now r.stamp.topic next)
-  show-next was now t next part put within at part_within part_at items cap waiting spec tasks parts h =
+  show-next was now t next part put within at part_within part_at items cap said waiting spec tasks parts h =
       let topic : ℕ = r.stamp.topic in
       let P : ℕ → TopicShelf → Type 0 = λ topic t. IfSome (slice_get was topic) (λ old. TopicWillShow all (r ∷ rest) topic old t) in
       let Q : ℕ → TopicShelf → Type 0 = λ topic t. IfSome (slice_get was topic) (λ old. TopicWillShow all rest topic old t) in
@@ -88,7 +88,7 @@ module _ (all : List SourceRecord) (r : SourceRecord) (rest : List SourceRecord)
         topics = EachAt-written P Q now topic next within
             (λ k other apart shows. IfSome_then (slice_get was k) shows (λ old w. topic-else k old other apart w))
             (let there : P topic t = subst (P topic) (sym at) (h.topics topic t within) in
-            IfSome_then (slice_get was topic) there (λ old w. topic-here old t next part put part_within part_at items cap waiting spec tasks parts w))
+            IfSome_then (slice_get was topic) there (λ old w. topic-here old t next part put part_within part_at items cap said waiting spec tasks parts w))
             h.topics;
       }
 

@@ -8,6 +8,7 @@ use Rattle.ksql_types.specs.declared.relation.TaskName.{TaskName}
 use Rattle.ksql_types.specs.declared.topic.TopicSpec.{TopicSpec}
 use Rattle.ksql_place.specs.declared.change.Change.{Change}
 use Rattle.core_state.specs.Routes.{routes_of, tasks_of_writer, topic_from}
+use Rattle.core_state.specs.declared.log.LogEntry.{LogEntry}
 use Rattle.core_state.specs.Shelf.{Shelf, ShelfStays}
 use Rattle.core_state.specs.State.{least, lowest}
 use Rattle.topic_log.specs.declared.shelves.PartShelf.{PartShelf}
@@ -15,6 +16,7 @@ use Rattle.topic_log.specs.declared.shelves.Shelves.{Shelves}
 use Rattle.topic_log.specs.declared.shelves.TaskShelf.{TaskShelf}
 use Rattle.topic_log.specs.declared.shelves.TopicShelf.{TopicShelf}
 use Rattle.topic_log.specs.Order.{IsInPlaceOrder, feed_in}
+use Rattle.topic_log.specs.Entries.{entries_of, shown_in}
 use Rattle.topic_log.specs.Shelves.{AreShelves, AreTopics, IsPartShelf, IsTopicShelf, Waits, closed_in, dones_of, part_at, routes_in, shelf_of, task_at, topics_of, waiting_in}
 use Rattle.topic_log.specs.Views.{PartView, TaskView, TopicView, part_view, task_view, topic_view, topic_views}
 
@@ -49,8 +51,8 @@ AllZip-same f R (d ∷ ds) (x ∷ xs) (y ∷ ys) e h =
 pub task_view-same : (a b : TaskShelf) → a.done ≡ b.done → a.newest ≡ b.newest → a.logs.items ≡ b.logs.items → task_view a ≡ task_view b
 task_view-same a b done newest logs = cc
 
-pub part_view-same : (a b : PartShelf) → a.shown.items ≡ b.shown.items → map (λ w. w.items) a.waiting.items ≡ map (λ w. w.items) b.waiting.items → part_view a ≡ part_view b
-part_view-same a b shown waiting = cc
+pub part_view-same : (a b : PartShelf) → a.fed.items ≡ b.fed.items → a.said.items ≡ b.said.items → map (λ w. w.items) a.waiting.items ≡ map (λ w. w.items) b.waiting.items → part_view a ≡ part_view b
+part_view-same a b fed said waiting = cc
 
 pub topic_view-same : (a b : TopicShelf) → a.spec ≡ b.spec → map part_view a.parts.items ≡ map part_view b.parts.items → map task_view a.tasks.items ≡ map task_view b.tasks.items → topic_view a ≡ topic_view b
 topic_view-same a b spec parts tasks = cc
@@ -66,10 +68,13 @@ view_task_at vs t = option_and_then (λ v. slice_get v.tasks t.part) (slice_get 
 abbrev pub view_waiting : ℕ → PartView → List Change
 view_waiting writer v = unwrap_or (slice_get v.waiting writer) []
 
+abbrev pub view_shown : PartView → List LogEntry
+view_shown v = entries_of v.fed v.said
+
 abbrev pub view_shelf : ℕ → List TopicView → Shelf
 view_shelf fed vs = record {
   fed = fed;
-  shown = λ topic q. unwrap_or (option_map (λ v. v.shown) (view_part_at vs topic q)) [];
+  shown = λ topic q. unwrap_or (option_map view_shown (view_part_at vs topic q)) [];
   waiting = λ t q. unwrap_or (option_map (view_waiting t.part) (view_part_at vs ((routes_of (map (λ v. v.spec) vs)).output t) q)) [];
   done = λ t. unwrap_or (option_map (λ v. v.done) (view_task_at vs t)) 0;
   newest = λ t. unwrap_or (option_map (λ v. v.newest) (view_task_at vs t)) 0;
@@ -125,7 +130,7 @@ shelf-view s =
     let task : (t : TaskName) → option_map task_view (option_and_then (λ k. slice_get k.tasks.items t.part) (slice_get s.topics.items ((routes_in s).output t))) ≡ view_task_at vs t =
     λ t. task-view s.topics.items ((routes_in s).output t) t.part ∙ ap (λ n. option_and_then (λ v. slice_get v.tasks t.part) (slice_get vs n)) (output t) in
     record {
-      shown = λ topic q. field part_view (λ p. p.shown.items) (λ v. v.shown) (λ p. refl) [] (part_at s topic q) ∙ ap (λ (o : Option PartView). unwrap_or (option_map (λ v. v.shown) o) []) (part-view s.topics.items topic q);
+      shown = λ topic q. field part_view shown_in view_shown (λ p. refl) [] (part_at s topic q) ∙ ap (λ (o : Option PartView). unwrap_or (option_map view_shown o) []) (part-view s.topics.items topic q);
       waiting = λ t q. field part_view (waiting_in t.part) (view_waiting t.part) (waiting-view t.part) [] (part_at s ((routes_in s).output t) q)
           ∙ ap (λ (o : Option PartView). unwrap_or (option_map (view_waiting t.part) o) []) (part-view s.topics.items ((routes_in s).output t) q ∙ ap (λ n. view_part_at vs n q) (output t));
       done = λ t. field task_view (λ k. k.done) (λ v. v.done) (λ k. refl) 0 (task_at s t) ∙ ap (λ (o : Option TaskView). unwrap_or (option_map (λ v. v.done) o) 0) (task t);
@@ -169,10 +174,11 @@ stays s next e fed =
 
 pub IsPartShelf-same : (closed : ℕ) (dones : List ℕ) (p q : PartShelf) → part_view p ≡ part_view q → IsPartShelf closed dones p → IsPartShelf closed dones q
 IsPartShelf-same closed dones p q e h =
-    let shown : p.shown.items ≡ q.shown.items = ap (λ (v : PartView). v.shown) e in
+    let shown : shown_in p ≡ shown_in q = ap view_shown e in
     record {
       in_order = subst IsInPlaceOrder shown h.in_order;
       is_closed = subst (All (λ x. feed_in x ≤ closed)) shown h.is_closed;
+      unwritten = λ none. sym (ap (λ (v : PartView). v.said) e) ∙ h.unwritten none;
       waits = AllZip-same (λ w. w.items) (Waits closed) dones p.waiting.items q.waiting.items (ap (λ (v : PartView). v.waiting) e) h.waits;
     }
 

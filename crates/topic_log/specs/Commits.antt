@@ -1,5 +1,5 @@
 -- What of the changes that wait is due, and what a commit does to a partition.
-use Rattle.std.specs.Prelude.{◌≡◌, ℕ, ◌+◌, ◌<◌, ◌≤◌, Bool, true, false, List, [], ◌∷◌, ◌++◌, length, map, All, nat_le, if◌then◌else◌, Option, Some, None, IfSome, slice_get, slice_index_or, slice_set, vec_capacity}
+use Rattle.std.specs.Prelude.{◌≡◌, ℕ, ◌+◌, ◌<◌, ◌≤◌, ◌⊎◌, Bool, true, false, List, [], ◌∷◌, ◌++◌, length, map, All, nat_le, if◌then◌else◌, Option, Some, None, IfSome, slice_get, slice_index_or, slice_set, vec_capacity}
 use Rattle.std.specs.Global.{Vec}
 use Rattle.std.specs.Ordering.{is_gt, is_lt}
 use Rattle.ksql_place.specs.Ascending.{Rises}
@@ -7,7 +7,6 @@ use Rattle.ksql_place.specs.Routing.{change_cmp}
 use Rattle.ksql_place.specs.declared.change.Change.{Change}
 use Rattle.core_state.specs.Routes.{merged}
 use Rattle.core_state.specs.State.{after, feed_of, upto}
-use Rattle.core_state.specs.declared.log.LogEntry.TheVariants.{Said}
 use Rattle.topic_log.specs.declared.prepared.Prepared.{Prepared}
 use Rattle.topic_log.specs.declared.shelves.PartShelf.{PartShelf}
 use Rattle.topic_log.specs.declared.shelves.TaskShelf.{TaskShelf}
@@ -60,6 +59,17 @@ IsNext ds n next = (best : Option Change) × IsBest ds n next best
 abbrev pub waiting_lists : PartShelf → List (List Change)
 waiting_lists p = map (λ w. w.items) p.waiting.items
 
+-- of these lists all but this one are empty
+abbrev pub IsAlone : List (List Change) → ℕ → Type 0
+IsAlone ls i = (k : ℕ) → (k ≡ i) ⊎ (slice_index_or ls k [] ≡ [])
+
+-- nothing waits but of this writer, all of it is due, and no change is shown
+pub record IsWholeDue (closed : ℕ) (p : PartShelf) (writer : ℕ) : Type 0 where
+  pub within : writer < length p.waiting.items
+  pub alone : IsAlone (waiting_lists p) writer
+  pub due : All (λ x. feed_of x ≤ closed) (waiting_in writer p)
+  pub none : p.said.items ≡ []
+
 -- the same, with what a writer sends
 abbrev pub gathered : ℕ → List Change → PartShelf → List (List Change)
 gathered writer sent p = slice_set (waiting_lists p) writer (waiting_in writer p ++ sent)
@@ -72,7 +82,8 @@ pub record PartFits (writer : ℕ) (sent : List Change) (p : PartShelf) : Type 0
 
 -- what a writer sent is put to what waits, and what is due of it is shown
 pub record PartCommits (closed writer : ℕ) (sent : List Change) (old new : PartShelf) : Type 0 where
-  pub shown : new.shown.items ≡ old.shown.items ++ map Said (merged (map (upto closed) (gathered writer sent old)))
+  pub fed : new.fed ≡ old.fed
+  pub said : new.said.items ≡ old.said.items ++ merged (map (upto closed) (gathered writer sent old))
   pub waiting : waiting_lists new ≡ map (after closed) (gathered writer sent old)
 
 -- each partition has room for what a writer sends there

@@ -28,12 +28,13 @@ pub record IsCounted (topic : ℕ) (records : List SourceRecord) (t : TopicShelf
 
 -- a partition has room to show so many more records
 abbrev pub HasShownRoom : ℕ → PartShelf → Type 0
-HasShownRoom more part = length part.shown.items + more ≤ vec_capacity part.shown
+HasShownRoom more part = length part.fed.items + more ≤ vec_capacity part.fed
 
 -- A partition shows with those records that are left what it was and all records that stand there, and has room for them. What
 -- waits stays.
 pub record WillShow (all rest : List SourceRecord) (topic q : ℕ) (was now : PartShelf) : Type 0 where
-  pub shown : now.shown.items ++ map Fed (filter (is_in topic q) rest) ≡ was.shown.items ++ map Fed (filter (is_in topic q) all)
+  pub fed : now.fed.items ++ filter (is_in topic q) rest ≡ was.fed.items ++ filter (is_in topic q) all
+  pub said : now.said ≡ was.said
   pub waiting : now.waiting ≡ was.waiting
   pub room : HasShownRoom (count_in topic q rest) now
 

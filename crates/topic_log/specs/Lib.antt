@@ -1,4 +1,5 @@
 pub mod Commits
+pub mod Entries
 pub mod Feeding
 pub mod Opening
 pub mod Order

@@ -8,7 +8,8 @@ use Rattle.topic_log.specs.declared.shelves.TopicShelf.{TopicShelf}
 
 -- nothing waits in a partition of what so many tasks may send
 pub record IsEmptyPart (tasks : ℕ) (p : PartShelf) : Type 0 where
-  pub shown : p.shown.items ≡ []
+  pub fed : p.fed.items ≡ []
+  pub said : p.said.items ≡ []
   pub writers : length p.waiting.items ≡ tasks
   pub waiting : All (λ w. w.items ≡ []) p.waiting.items
 

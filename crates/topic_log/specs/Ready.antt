@@ -23,7 +23,7 @@ waiting_len p = sum (map (λ w. length w.items) p.waiting.items)
 
 -- a partition has room for what waits there and for so many changes of a task
 pub record HasRoom (writer more : ℕ) (p : PartShelf) : Type 0 where
-  pub shown : length p.shown.items + waiting_len p + more ≤ vec_capacity p.shown
+  pub shown : length p.said.items + waiting_len p + more ≤ vec_capacity p.said
   pub waiting : IfSome (slice_get p.waiting.items writer) (λ w. (w.items ≡ []) ⊎ (length w.items + more ≤ deque_capacity w))
 
 -- what was prepared is this proposal, its outputs by their partitions, and the broker has room for it

@@ -13,6 +13,7 @@ use Rattle.topic_log.specs.declared.shelves.PartShelf.{PartShelf}
 use Rattle.topic_log.specs.declared.shelves.Shelves.{Shelves}
 use Rattle.topic_log.specs.declared.shelves.TaskShelf.{TaskShelf}
 use Rattle.topic_log.specs.declared.shelves.TopicShelf.{TopicShelf}
+use Rattle.topic_log.specs.Entries.{shown_in}
 use Rattle.topic_log.specs.Order.{IsInPlaceOrder, feed_in}
 
 -- ---- reading
@@ -40,7 +41,7 @@ waiting_in writer p = unwrap_or (option_map (λ w. w.items) (slice_get p.waiting
 abbrev pub shelf_of : Shelves → Shelf
 shelf_of s = record {
   fed = s.fed;
-  shown = λ topic q. unwrap_or (option_map (λ p. p.shown.items) (part_at s topic q)) [];
+  shown = λ topic q. unwrap_or (option_map shown_in (part_at s topic q)) [];
   waiting = λ t q. unwrap_or (option_map (waiting_in t.part) (part_at s ((routes_in s).output t) q)) [];
   done = λ t. unwrap_or (option_map (λ k. k.done) (task_at s t)) 0;
   newest = λ t. unwrap_or (option_map (λ k. k.newest) (task_at s t)) 0;
@@ -70,10 +71,11 @@ pub record AreTopics (topics : List TopicSpec) : Type 0 where
 abbrev pub Waits : ℕ → ℕ → List Change → Type 0
 Waits closed done xs = Rises change_cmp xs × All (λ x. (closed < feed_of x) × (feed_of x ≤ done)) xs
 
--- a partition of a topic that is closed up to a feed, and whose writers are done up to these
+-- a partition of a topic that is closed up to a feed, and whose writers are done up to these; without writers no change is there
 pub record IsPartShelf (closed : ℕ) (dones : List ℕ) (p : PartShelf) : Type 0 where
-  pub in_order : IsInPlaceOrder p.shown.items
-  pub is_closed : All (λ x. feed_in x ≤ closed) p.shown.items
+  pub in_order : IsInPlaceOrder (shown_in p)
+  pub is_closed : All (λ x. feed_in x ≤ closed) (shown_in p)
+  pub unwritten : dones ≡ [] → p.said.items ≡ []
   pub waits : AllZip (λ done w. Waits closed done w.items) dones p.waiting.items
 
 abbrev pub dones_of : TopicShelf → List ℕ

@@ -3,15 +3,16 @@ use Rattle.std.specs.Prelude.{ℕ, ◌<◌, List, length, map, slice_index_or}
 use Rattle.ksql_types.specs.declared.relation.StoreEntry.{StoreEntry}
 use Rattle.ksql_types.specs.declared.topic.TopicSpec.{TopicSpec}
 use Rattle.ksql_place.specs.declared.change.Change.{Change}
-use Rattle.core_state.specs.declared.log.LogEntry.{LogEntry}
+use Rattle.ksql_place.specs.declared.change.SourceRecord.{SourceRecord}
 use Rattle.topic_log.specs.declared.shelves.PartShelf.{PartShelf}
 use Rattle.topic_log.specs.declared.shelves.Shelves.{Shelves}
 use Rattle.topic_log.specs.declared.shelves.TaskShelf.{TaskShelf}
 use Rattle.topic_log.specs.declared.shelves.TopicShelf.{TopicShelf}
 
--- a partition: what it shows, and what waits, by the partition of the task that sent it
+-- a partition: what was fed to it, what it shows of what tasks sent, and what waits, by the partition of the task
 pub record PartView : Type 0 where
-  pub shown : List LogEntry
+  pub fed : List SourceRecord
+  pub said : List Change
   pub waiting : List (List Change)
 
 -- what is kept of a task
@@ -27,7 +28,7 @@ pub record TopicView : Type 0 where
   pub tasks : List TaskView
 
 abbrev pub part_view : PartShelf → PartView
-part_view p = record { shown = p.shown.items; waiting = map (λ w. w.items) p.waiting.items }
+part_view p = record { fed = p.fed.items; said = p.said.items; waiting = map (λ w. w.items) p.waiting.items }
 
 abbrev pub task_view : TaskShelf → TaskView
 task_view k = record { done = k.done; newest = k.newest; logs = k.logs.items }

@@ -10,14 +10,15 @@ ghost use Rattle.topic_log.specs.declared.prepared.Prepared.{Prepared as OnePrep
 ghost use Rattle.topic_log.specs.Feeding.{RiseApart};
 ghost use Rattle.topic_log.specs.Order.{IsInPlaceOrder};
 ghost use Rattle.topic_log.specs.Ready.{IsProposal, IsReady};
+ghost use Rattle.topic_log.specs.Entries.{entries_in};
 ghost use Rattle.topic_log.specs.Shelves.{AreTopics, IsSourcePart, part_at, routes_in, shelf_of, task_at, topics_of};
 
 use crate::commits::commit;
 use crate::feeds::feed;
 use crate::opening::{fresh_topics, written_topics};
 use crate::prepared::{Prepared, prepare};
-use crate::shelves::{Shelves, TaskShelf, closed_of};
-use core_state::{LogEntry, Proposal};
+use crate::shelves::{Entries, Shelves, TaskShelf, closed_of};
+use core_state::Proposal;
 use ksql_place::SourceRecord;
 use ksql_types::{StoreEntry, TaskName, TopicSpec};
 use std::alloc::{AllocError, Global};
@@ -108,14 +109,16 @@ impl Broker {
 
     /// The entries of a partition up to its topic's closed feed, in the order of their places. The topic is one of the
     /// broker's, and the partition one of its partitions.
-    pub fn visible(&self, topic: u32, part: u32) -> &[LogEntry]
+    pub fn visible(&self, topic: u32, part: u32) -> Entries<'_>
         requires { IsSome (part_at self.now topic part) }
-        ensures value { result.now ≡ (shelf_of self.now).shown topic part }
-        ensures in_order { IsInPlaceOrder result.now }
+        ensures value { entries_in result ≡ (shelf_of self.now).shown topic part }
+        ensures in_order { IsInPlaceOrder (entries_in result) }
     {
-        self.inner.topics[topic as usize].parts[part as usize]
-            .shown
-            .as_slice()
+        let shelf = &self.inner.topics[topic as usize].parts[part as usize];
+        Entries {
+            fed: shelf.fed.as_slice(),
+            said: shelf.said.as_slice(),
+        }
     }
 
     /// The last feed that a task committed.

@@ -1,22 +1,21 @@
 //! Commits to a topic: what a task sent is put to what waits, and what is due is shown in the order of places.
-ghost use Rattle.std.specs.Prelude.{◌≡◌, ◌∷◌, ◌+◌, ◌<◌, ◌≤◌, ◌++◌, ◌⊎◌, [], All, length, map, option_map, vec_capacity};
+ghost use Rattle.std.specs.Prelude.{◌≡◌, ◌∷◌, ◌+◌, ◌<◌, ◌≤◌, ◌++◌, ◌⊎◌, [], All, IfSome, IsTrue, length, map, option_map, slice_set, vec_capacity};
 ghost use Rattle.std.specs.VecDeque.{deque_capacity};
 ghost use Rattle.ksql_place.specs.Ascending.{Rises};
 ghost use Rattle.ksql_place.specs.Routing.{change_cmp};
 ghost use Rattle.core_state.specs.Routes.{merged};
-ghost use Rattle.core_state.specs.State.{after, upto};
-ghost use Rattle.core_state.specs.declared.log.LogEntry.TheVariants.{Said};
-ghost use Rattle.topic_log.specs.Commits.{EachCommits, EachFits, IsNext, PartCommits, PartFits, TopicCommits, TopicFits, dues, first_if, goes_before, is_due, waiting_lists};
+ghost use Rattle.core_state.specs.State.{after, feed_of, upto};
+ghost use Rattle.topic_log.specs.Commits.{EachCommits, EachFits, IsAlone, IsNext, IsWholeDue, PartCommits, PartFits, TopicCommits, TopicFits, dues, first_if, goes_before, is_due, waiting_lists};
 ghost use Rattle.topic_log.specs.Ready.{waiting_len};
-ghost use Rattle.topic_log.specs.Shelves.{IsTopicShelf};
+ghost use Rattle.topic_log.specs.Shelves.{IsTopicShelf, waiting_in};
 
 use crate::prepared::Prepared;
 use crate::shelves::{PartShelf, TaskShelf, TopicShelf, closed_of};
-use core_state::LogEntry;
 use ksql_place::{Change, cmp_place};
 use ksql_types::StoreEntry;
 use std::cmp::Ordering;
 use std::collections::VecDeque;
+use std::mem;
 
 /// Commits what was prepared to the topic that its task writes.
 pub(crate) fn commit(topic: &mut TopicShelf, fed: u64, prepared: Prepared)
@@ -130,12 +129,78 @@ fn take_first(waiting: &mut VecDeque<Change>) -> Change
 /// Shows what waits up to a closed feed, in the order of places. The partition has room for it.
 fn show_due(part: &mut PartShelf, closed: u64)
     requires ascends { All (λ w. Rises change_cmp w.items) part.old.waiting.items }
-    requires room { length part.old.shown.items + waiting_len part.old ≤ vec_capacity part.old.shown }
-    ensures shown { part.new.shown.items ≡ part.old.shown.items ++ map Said (merged (map (upto closed) (waiting_lists part.old))) }
+    requires room { length part.old.said.items + waiting_len part.old ≤ vec_capacity part.old.said }
+    ensures fed { part.new.fed ≡ part.old.fed }
+    ensures said { part.new.said.items ≡ part.old.said.items ++ merged (map (upto closed) (waiting_lists part.old)) }
+    ensures waiting { waiting_lists part.new ≡ map (after closed) (waiting_lists part.old) }
+{
+    match whole_due(part, closed) {
+        Some(writer) => show_whole(part, writer),
+        None => show_each(part, closed),
+    }
+}
+
+/// Shows change after change what waits up to a closed feed, in the order of places. The partition has room for it.
+fn show_each(part: &mut PartShelf, closed: u64)
+    requires ascends { All (λ w. Rises change_cmp w.items) part.old.waiting.items }
+    requires room { length part.old.said.items + waiting_len part.old ≤ vec_capacity part.old.said }
+    ensures fed { part.new.fed ≡ part.old.fed }
+    ensures said { part.new.said.items ≡ part.old.said.items ++ merged (map (upto closed) (waiting_lists part.old)) }
     ensures waiting { waiting_lists part.new ≡ map (after closed) (waiting_lists part.old) }
 {
     while let Some(writer) = next_writer(part.waiting.as_slice(), closed) {
         let change = take_first(&mut part.waiting[writer]);
-        part.shown.push_reserved(LogEntry::Said(change));
+        part.said.push_reserved(change);
+    }
+}
+
+/// Shows all that waits of a writer, in a partition that shows no change yet.
+fn show_whole(part: &mut PartShelf, writer: usize)
+    requires writer { writer < length part.old.waiting.items }
+    ensures fed { part.new.fed ≡ part.old.fed }
+    ensures said { part.new.said.items ≡ waiting_in writer part.old }
+    ensures waiting { waiting_lists part.new ≡ slice_set (waiting_lists part.old) writer [] }
+{
+    let none = VecDeque::new(*part.said.allocator());
+    part.said = mem::replace(&mut part.waiting[writer], none).into_vec();
+}
+
+/// The only writer of whom anything waits, where all of that is of feeds up to the closed one and the partition shows no
+/// change yet.
+fn whole_due(part: &PartShelf, closed: u64) -> Option<usize>
+    requires { All (λ w. Rises change_cmp w.items) part.now.waiting.items }
+    ensures { IfSome result (IsWholeDue closed part.now) }
+{
+    if !part.said.is_empty() {
+        return None;
+    }
+    let writer = next_writer(part.waiting.as_slice(), closed)?;
+    if is_alone(part.waiting.as_slice(), writer) && is_all_due(&part.waiting[writer], closed) {
+        Some(writer)
+    } else {
+        None
+    }
+}
+
+/// Whether nothing waits but of this writer.
+fn is_alone(waiting: &[VecDeque<Change>], writer: usize) -> bool
+    ensures { IsTrue result → IsAlone (map (λ w. w.items) waiting.now) writer }
+{
+    for (number, changes) in waiting.iter().enumerate() {
+        if number != writer && !changes.is_empty() {
+            return false;
+        }
+    }
+    true
+}
+
+/// Whether changes that ascend are all of feeds up to the closed one.
+fn is_all_due(changes: &VecDeque<Change>, closed: u64) -> bool
+    requires { Rises change_cmp changes.now.items }
+    ensures { IsTrue result → All (λ x. feed_of x ≤ closed) changes.now.items }
+{
+    match changes.back() {
+        Some(last) => last.place.stamp.feed <= closed,
+        None => true,
     }
 }

@@ -8,7 +8,6 @@ ghost use Rattle.topic_log.specs.Shelves.{AreShelves, IsSourcePart, routes_in, s
 ghost use Rattle.topic_log.specs.Views.{part_view, topic_view, EachAt};
 
 use crate::shelves::{PartShelf, Shelves, TopicShelf};
-use core_state::LogEntry;
 use ksql_place::SourceRecord;
 use std::alloc::{AllocError, Global};
 
@@ -94,7 +93,7 @@ fn reserve_parts(parts: &mut Vec<PartShelf>, counts: &[usize]) -> Result<(), All
 {
     for index in 0..counts.len() {
         let part = &mut parts[index];
-        part.shown.reserve(counts[index])?;
+        part.fed.reserve(counts[index])?;
     }
     Ok(())
 }
@@ -110,6 +109,6 @@ fn show_all(topics: &mut Vec<TopicShelf>, records: Vec<SourceRecord>)
         let number = record.stamp.part as usize;
         let topic = &mut topics[record.stamp.topic as usize];
         let part = &mut topic.parts[number];
-        part.shown.push_reserved(LogEntry::Fed(record));
+        part.fed.push_reserved(record);
     }
 }

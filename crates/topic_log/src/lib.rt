@@ -9,5 +9,6 @@ mod prepared;
 mod shelves;
 
 pub use broker::Broker;
-pub use core_state::{Journal, JournalEntry, LogEntry, Proposal};
+pub use core_state::{Journal, JournalEntry, Proposal};
 pub use prepared::Prepared;
+pub use shelves::Entries;

@@ -57,7 +57,8 @@ fn empty_parts(alloc: Global, count: u32, writers: u32) -> Result<Vec<PartShelf>
     let mut parts = Vec::new(alloc);
     for _ in 0..count {
         parts.push(PartShelf {
-            shown: Vec::new(alloc),
+            fed: Vec::new(alloc),
+            said: Vec::new(alloc),
             waiting: empty_waiting(alloc, writers)?,
         })?;
     }

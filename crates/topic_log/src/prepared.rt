@@ -158,7 +158,7 @@ fn reserve_part(part: &mut PartShelf, writer: usize, more: usize) -> Result<(), 
 {
     reserve_waiting(&mut part.waiting, writer, more)?;
     let coming = room_for(part.waiting.as_slice(), more)?;
-    part.shown.reserve(coming)
+    part.said.reserve(coming)
 }
 
 /// Makes room for so many changes of a task beside those of it that wait, where any do.

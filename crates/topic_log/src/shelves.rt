@@ -1,15 +1,23 @@
 ghost use Rattle.std.specs.Prelude.{◌≡◌};
 ghost use Rattle.core_state.specs.State.{lowest};
 
-use core_state::LogEntry;
-use ksql_place::Change;
+use ksql_place::{Change, SourceRecord};
 use ksql_types::{StoreEntry, TopicSpec};
 use std::collections::VecDeque;
 
-/// A partition of a topic: what it shows, and what waits, by the partition of the task that sent it.
+/// What a partition shows, lent: the records that were fed to it, or the changes that tasks sent.
+#[derive(Clone, Copy, Drop)]
+pub struct Entries<'a> {
+    pub fed: &'a [SourceRecord],
+    pub said: &'a [Change],
+}
+
+/// A partition of a topic: the records that were fed to it, or the changes that it shows of what tasks sent, and those that
+/// wait, by the partition of the task.
 #[derive(Drop)]
 pub struct PartShelf {
-    pub shown: Vec<LogEntry>,
+    pub fed: Vec<SourceRecord>,
+    pub said: Vec<Change>,
     pub waiting: Vec<VecDeque<Change>>,
 }
 

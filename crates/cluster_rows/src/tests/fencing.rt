@@ -87,7 +87,7 @@ fn a_proposal_of_an_older_generation_is_fenced(rt: HostRuntime) -> Result<(), Fa
     assert_eq!(rt; broker.done(TASK), 0);
     assert!(rt; broker.logs(TASK).is_empty());
     for part in 0..broker.partitions(0) {
-        assert!(rt; broker.visible(0, part).is_empty());
+        assert!(rt; broker.visible(0, part).said.is_empty());
     }
     Ok(())
 }

@@ -4,8 +4,8 @@ ghost use Rattle.core_state.specs.Routes.{IsWriter};
 ghost use Rattle.topic_log.specs.Ready.{IsProposal};
 ghost use Rattle.topic_log.specs.Shelves.{routes_in, shelf_of, topics_of};
 
-use super::two_topics;
-use core_state::{LogEntry, Proposal};
+use super::{is_empty, two_topics};
+use core_state::Proposal;
 use ksql_place::{Body, Change, Path, Place, Stamp};
 use ksql_types::{Items, Key, TaskName};
 use std::alloc::{AllocError, Global};
@@ -85,14 +85,6 @@ fn commit(
     }
 }
 
-/// The offset of an entry.
-fn offset_of(entry: &LogEntry) -> u64 {
-    match entry {
-        LogEntry::Fed(record) => record.stamp.offset,
-        LogEntry::Said(change) => change.place.stamp.offset,
-    }
-}
-
 #[test]
 fn changes_wait_and_stand_in_place_order(rt: HostRuntime) -> Result<(), Fail> {
     let alloc = rt.alloc();
@@ -100,13 +92,13 @@ fn changes_wait_and_stand_in_place_order(rt: HostRuntime) -> Result<(), Fail> {
     let mut broker = Broker::new(alloc, topics.as_slice())?;
     commit(alloc, &mut broker, TaskName { sub: 0, part: 0 }, 2, 5)?;
     for part in 0..broker.partitions(1) {
-        assert!(rt; broker.visible(1, part).is_empty());
+        assert!(rt; is_empty(broker.visible(1, part)));
     }
     commit(alloc, &mut broker, TaskName { sub: 0, part: 1 }, 3, 4)?;
     let mut offsets = Vec::new(alloc);
     for part in 0..broker.partitions(1) {
-        for entry in broker.visible(1, part) {
-            offsets.push(offset_of(entry))?;
+        for change in broker.visible(1, part).said {
+            offsets.push(change.place.stamp.offset)?;
         }
     }
     // Those of partition 0, and then those of partition 1.

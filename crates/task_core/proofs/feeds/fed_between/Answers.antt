@@ -1,31 +1,15 @@
-use Rattle.std.proofs.Common.{rules}
-use Rattle.core_state.specs.Wired.{log_feed}
-use Rattle.task_core.proofs.Cuts.{between-range, cut-order, searched}
+use Rattle.std.proofs.Common.{◌∙◌, ap₂}
+use Rattle.topic_log.specs.Entries.{entries_of}
+use Rattle.task_core.proofs.Lists.{IsNonDecreasing-changes, IsNonDecreasing-records, between-both}
 use Rattle.task_core.proofs.feeds.fed_between.Goals as goal
 
-pub slice_bounds-result-count : goal.slice_bounds-result-count
-slice_bounds-result-count c =
-    let xs = c.args.entries.now in
-    let first = c.partition_point-first in
-    let end = c.partition_point-end in
-    cut-order log_feed c.args.from c.args.to xs first.result end.result c.requires.forward
-    (searched c.args.from xs first.result c.requires.order first.ensures.bound first.ensures.partitioned (λ a r f k. search rules))
-    (searched c.args.to xs end.result c.requires.order end.ensures.bound end.ensures.partitioned (λ a r f k. search rules))
+pub records_between-requires-clause-order : goal.records_between-requires-clause-order
+records_between-requires-clause-order c = IsNonDecreasing-records c.args.entries.fed.now c.args.entries.said.now c.requires.order
 
-pub slice_bounds-result-start : goal.slice_bounds-result-start
-slice_bounds-result-start c =
-    let xs = c.args.entries.now in
-    let first = c.partition_point-first in
-    let end = c.partition_point-end in
-    cut-order log_feed c.args.from c.args.to xs first.result end.result c.requires.forward
-    (searched c.args.from xs first.result c.requires.order first.ensures.bound first.ensures.partitioned (λ a r f k. search rules))
-    (searched c.args.to xs end.result c.requires.order end.ensures.bound end.ensures.partitioned (λ a r f k. search rules))
+pub changes_between-requires-clause-order : goal.changes_between-requires-clause-order
+changes_between-requires-clause-order c = IsNonDecreasing-changes c.args.entries.fed.now c.args.entries.said.now c.requires.order
 
 pub returns : goal.returns
 returns c =
-    let xs = c.args.entries.now in
-    let first = c.partition_point-first in
-    let end = c.partition_point-end in
-    between-range log_feed c.args.from c.args.to xs first.result end.result c.requires.forward
-    (searched c.args.from xs first.result c.requires.order first.ensures.bound first.ensures.partitioned (λ a r f k. search rules))
-    (searched c.args.to xs end.result c.requires.order end.ensures.bound end.ensures.partitioned (λ a r f k. search rules))
+    ap₂ entries_of c.records_between.ensures c.changes_between.ensures
+    ∙ between-both c.args.from c.args.to c.args.entries.fed.now c.args.entries.said.now

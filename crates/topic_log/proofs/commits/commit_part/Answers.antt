@@ -2,7 +2,6 @@ use Rattle.std.proofs.Common.{◌∙◌, ap, arith, List, map, ◌++◌}
 use Rattle.ksql_place.specs.declared.change.Change.{Change}
 use Rattle.core_state.specs.Routes.{merged}
 use Rattle.core_state.specs.State.{after, upto}
-use Rattle.core_state.specs.declared.log.LogEntry.TheVariants.{Said}
 use Rattle.topic_log.proofs.Gathering.{ascends-gathered, length-gathered, waiting-gathered}
 use Rattle.topic_log.proofs.commits.commit_part.Goals as goal
 
@@ -19,6 +18,7 @@ pub returns : goal.returns
 returns c =
     let lists = waiting-gathered c.args.part.now c.args.writer c.index_mut.result.now c.gather.new.waiting c.args.sent.items c.requires.writer_in c.index_mut.ensures.value c.gather.ensures in
     record {
-      shown = c.show_due.ensures.shown ∙ ap (λ (ls : List (List Change)). c.args.part.now.shown.items ++ map Said (merged (map (upto c.args.closed) ls))) lists;
+      fed = c.show_due.ensures.fed;
+      said = c.show_due.ensures.said ∙ ap (λ (ls : List (List Change)). c.args.part.now.said.items ++ merged (map (upto c.args.closed) ls)) lists;
       waiting = c.show_due.ensures.waiting ∙ ap (map (after c.args.closed)) lists;
     }

@@ -1,60 +1,38 @@
-use Rattle.std.proofs.Common.{◌≡◌, ◌∙◌, ◌+◌, ◌<◌, arith, Some, None, get_or, [], ◌∷◌}
-use Rattle.std.specs.Vec.{with_item}
-use Rattle.std.proofs.lemmas.List.{map-set}
+use Rattle.std.proofs.Common.{Global, ◌∙◌, ap, sym, subst, List, [], ◌++◌, map, Option}
+use Rattle.std.specs.Prelude.{option_map, unwrap_or}
+use Rattle.std.specs.declared.collections.VecDeque.{VecDeque}
+use Rattle.ksql_place.specs.Ascending.{Rises}
+use Rattle.ksql_place.specs.Routing.{change_cmp}
+use Rattle.ksql_place.specs.declared.change.Change.{Change}
+use Rattle.core_state.specs.Routes.{merged}
+use Rattle.core_state.specs.State.{upto}
 use Rattle.topic_log.specs.Commits.{waiting_lists}
-use Rattle.topic_log.specs.Ready.{waiting_len}
-use Rattle.topic_log.specs.declared.shelves.PartShelf.{PartShelf}
-use Rattle.topic_log.proofs.Showing.{IsShowing, next_at, next_has, next_waits, show_all, show_more, show_none}
+use Rattle.topic_log.specs.Shelves.{waiting_in}
+use Rattle.topic_log.proofs.Applying.{waiting_in-lists}
+use Rattle.topic_log.proofs.OneTopic.{All-slice_get, slice_get-some}
+use Rattle.topic_log.proofs.Whole.{whole-left, whole-shown}
 use Rattle.topic_log.proofs.commits.show_due.Goals as goal
 
-pub loop-writer-init : goal.loop-writer-init
-loop-writer-init c = show_none c.args.closed c.args.part.now c.requires.ascends c.requires.room
+rises : (c : goal.After-show_whole) → Rises change_cmp (waiting_in c.in-Some.writer c.args.part.now)
+rises c =
+    let ws = c.args.part.now.waiting.items in
+    let some = slice_get-some ws c.in-Some.writer c.in-Some.ensures.within in
+    subst (Rises change_cmp) (sym (ap (λ (o : Option (VecDeque Change Global)). unwrap_or (option_map (λ w. w.items) o) []) some.1))
+    (All-slice_get (λ w. Rises change_cmp w.items) ws c.in-Some.writer some.0 c.requires.ascends some.1)
 
-pub take_first-change-requires : goal.take_first-change-requires
-take_first-change-requires c =
-    let part = c.loop-writer.part in
+pub returns-in-Some-clause-said : goal.returns-in-Some-clause-said
+returns-in-Some-clause-said c =
+    let part = c.args.part.now in
     let writer = c.in-Some.writer in
-    let next = next_at c.args.closed part c.as_slice.result.now (Some writer) c.as_slice.ensures.value c.in-Some.ensures in
-    (next_has c.args.closed part writer c.index_mut.result.now next c.index_mut.ensures.value).1
+    let is = c.in-Some.ensures in
+    c.show_whole.ensures.said
+    ∙ sym (whole-shown c.args.closed (waiting_lists part) writer (waiting_in writer part) (waiting_in-lists writer part) is.alone is.due (rises c))
+    ∙ ap (λ (xs : List Change). xs ++ merged (map (upto c.args.closed) (waiting_lists part))) (sym is.none)
 
-pub push_reserved-requires : goal.push_reserved-requires
-push_reserved-requires c =
-    let part = c.loop-writer.part in
+pub returns-in-Some-clause-waiting : goal.returns-in-Some-clause-waiting
+returns-in-Some-clause-waiting c =
+    let part = c.args.part.now in
     let writer = c.in-Some.writer in
-    let next = next_at c.args.closed part c.as_slice.result.now (Some writer) c.as_slice.ensures.value c.in-Some.ensures in
-    let has = next_has c.args.closed part writer c.index_mut.result.now next c.index_mut.ensures.value in
-    let rest = c.take_first-change.new.waiting.items in
-    let at : get_or (waiting_lists part) writer [] ≡ c.take_first-change.result ∷ rest = has.0 ∙ c.take_first-change.ensures in
-    let some : 0 < waiting_len part = next_waits c.args.closed part writer c.take_first-change.result rest next at in
-    omega (arith, some, c.loop-writer.invariant.room, part.shown.ok.0)
-
--- the partition after a step
-abbrev moved : goal.After-push_reserved → PartShelf
-moved c = record { shown = c.push_reserved.new.self; waiting = with_item c.loop-writer.part.waiting c.in-Some.writer c.take_first-change.new.waiting }
-
-moves : (c : goal.After-push_reserved) → IsShowing c.args.closed c.args.part.now (moved c) × (waiting_len (moved c) + 1 ≡ waiting_len c.loop-writer.part)
-moves c =
-    let part = c.loop-writer.part in
-    let writer = c.in-Some.writer in
-    let next = next_at c.args.closed part c.as_slice.result.now (Some writer) c.as_slice.ensures.value c.in-Some.ensures in
-    let has = next_has c.args.closed part writer c.index_mut.result.now next c.index_mut.ensures.value in
-    let rest = c.take_first-change.new.waiting.items in
-    let at : get_or (waiting_lists part) writer [] ≡ c.take_first-change.result ∷ rest = has.0 ∙ c.take_first-change.ensures in
-    show_more c.args.closed c.args.part.now part (moved c) writer c.take_first-change.result rest c.loop-writer.invariant next at
-    (map-set (λ w. w.items) part.waiting.items writer c.take_first-change.new.waiting) c.push_reserved.ensures.items c.push_reserved.ensures.capacity
-
-pub loop-writer-smaller : goal.loop-writer-smaller
-loop-writer-smaller c = let fewer = (moves c).1 in omega (arith, fewer)
-
-pub loop-writer-preserved : goal.loop-writer-preserved
-loop-writer-preserved c = (moves c).0
-
-pub returns-clause-shown : goal.returns-clause-shown
-returns-clause-shown c =
-    (show_all c.args.closed c.args.part.now c.loop-writer.part c.loop-writer.invariant
-    (next_at c.args.closed c.loop-writer.part c.as_slice.result.now None c.as_slice.ensures.value c.in_default.ensures)).0
-
-pub returns-clause-waiting : goal.returns-clause-waiting
-returns-clause-waiting c =
-    (show_all c.args.closed c.args.part.now c.loop-writer.part c.loop-writer.invariant
-    (next_at c.args.closed c.loop-writer.part c.as_slice.result.now None c.as_slice.ensures.value c.in_default.ensures)).1
+    let is = c.in-Some.ensures in
+    c.show_whole.ensures.waiting
+    ∙ sym (whole-left c.args.closed (waiting_lists part) writer (waiting_in writer part) (waiting_in-lists writer part) is.alone is.due (rises c))

@@ -93,4 +93,4 @@ returns-clause-feeds c =
     feeds-ordered (routes_in s) records (shelf_of s) (shelf_of next) c.requires.rises_apart
     (feeds-after (routes_in s) records (shelf_of s) (shelf_of reserved) (shelf_of next) (stays s reserved c.reserve_topics.ensures.views refl)
     (subst (λ (topics : List TopicSpec). ShelfFeeds (routes_of topics) records (shelf_of reserved) (shelf_of next)) (topics-same s reserved c.reserve_topics.ensures.views)
-    (feeds-next reserved next records c.show_all.ensures refl (sources-same s reserved records c.reserve_topics.ensures.views c.requires.sources))))
+    (feeds-next reserved next records c.show_all.ensures (AreShelves-same s reserved c.reserve_topics.ensures.views refl c.requires.shelves) refl (sources-same s reserved records c.reserve_topics.ensures.views c.requires.sources))))

@@ -37,7 +37,7 @@ push_reserved-requires c =
     let here = there was r (All-head (IsThere was) r rest left) in
     let part = c.index_mut-part.result.now in
     let room = part-room all (r ∷ rest) was now r.stamp.topic r.stamp.part here shows c.index_mut-topic.result.now c.index_mut-topic.ensures.value part c.index_mut-part.ensures.value in
-    omega (arith, room, count-first r rest, part.shown.ok.0)
+    omega (arith, room, count-first r rest, part.fed.ok.0)
 
 pub loop-record-preserved : goal.loop-record-preserved
 loop-record-preserved c =
@@ -51,11 +51,11 @@ loop-record-preserved c =
     let here = there was r (All-head (IsThere was) r rest left) in
     let t = c.index_mut-topic.result.now in
     let part = c.index_mut-part.result.now in
-    let put : PartShelf = record { shown = c.push_reserved.new.self; waiting = part.waiting } in
+    let put : PartShelf = record { fed = c.push_reserved.new.self; said = part.said; waiting = part.waiting } in
     let next : TopicShelf = record { spec = t.spec; parts = with_item t.parts r.stamp.part put; tasks = t.tasks } in
     record {
       there = All-tail (IsThere was) r rest left;
       shows = show-next all r rest was now t next part put (topic-inside all (r ∷ rest) was now r.stamp.topic r.stamp.part here shows) c.index_mut-topic.ensures.value
           (part-inside all (r ∷ rest) was now r.stamp.topic r.stamp.part here shows t c.index_mut-topic.ensures.value) c.index_mut-part.ensures.value
-          c.push_reserved.ensures.items c.push_reserved.ensures.capacity refl refl refl refl shows;
+          c.push_reserved.ensures.items c.push_reserved.ensures.capacity refl refl refl refl refl shows;
     }
