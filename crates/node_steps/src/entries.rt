@@ -63,6 +63,16 @@ pub fn row_in(body: &Body) -> Option<&Row>
     }
 }
 
+/// The row that a change brings, as `row_in` lends it, taken out of what the change says.
+pub fn into_row(body: Body) -> Option<Row>
+    ensures { result ≡ row_in body }
+{
+    match body {
+        Body::Said(row) => Some(row),
+        Body::Turned { new, .. } => new,
+    }
+}
+
 /// The row that a change of a table takes away.
 pub fn row_out(body: &Body) -> Option<&Row>
     ensures { option_map (λ row. row.now) result ≡ row_out body.now }

@@ -2,6 +2,7 @@
 #![tactic(auto)]
 
 mod aggregates;
+mod columns;
 mod entries;
 mod group_changes;
 mod groups;
@@ -10,7 +11,7 @@ mod rows;
 mod steps;
 
 pub use aggregates::{aggregate, greater, lesser};
-pub use entries::{EntryRef, latest_time, row_in, row_out};
+pub use entries::{EntryRef, into_row, latest_time, row_in, row_out};
 pub use group_changes::{argument, type_of_agg};
 pub use groups::{push_grouped, rekeyed};
 pub use keys::{is_same_key, key_of};

@@ -2,9 +2,11 @@
 ghost use Rattle.std.specs.Prelude.{◌≡◌, ◌∷◌, ◌++◌, [], if◌then◌else◌, None, Some, IfOk, OnErr, OnOk, map, replicate, option_and_then, option_map};
 ghost use Rattle.std.specs.Option.{option_to_list};
 ghost use Rattle.ksql_types.specs.declared.value.Value.TheVariants as value;
+ghost use Rattle.ksql_place.specs.declared.change.Change.{Change as OneChange};
 ghost use Rattle.ksql_expr.specs.Value.{cell, is_true_value, value_of};
 ghost use Rattle.ksql_nodes.specs.Rows.{by_rows, filtered, key_of, passing, selected, selected_key, turned, values, with_body};
 
+use crate::columns::{are_rising_columns, taken_cells};
 use crate::keys::{key_of, one_key};
 use ksql_eval::{RowView, eval, holds};
 use ksql_expr::{Typed, TypedNode};
@@ -28,17 +30,28 @@ pub fn selected(
     alloc: Global,
     keys: &[Typed],
     items: &[Typed],
-    mut change: Change,
+    change: Change,
 ) -> Result<Option<Change>, AllocError>
     ensures { IfOk result (λ made. option_to_list made ≡ selected keys.now items.now change) }
 {
-    let key = selected_key(alloc, keys, &change)?;
-    let Some(body) = selected_body(alloc, items, &change)? else {
+    let Change {
+        place,
+        time,
+        key,
+        span,
+        body,
+    } = change;
+    let key = selected_key(alloc, keys, time, key, &body)?;
+    let Some(body) = selected_body(alloc, items, time, body)? else {
         return Ok(None);
     };
-    change.key = key;
-    change.body = body;
-    Ok(Some(change))
+    Ok(Some(Change {
+        place,
+        time,
+        key,
+        span,
+        body,
+    }))
 }
 
 /// A change from one row of a table to another; from absent to absent there is none.
@@ -204,48 +217,65 @@ fn passes(alloc: Global, on: &Typed, time: u64, row: &Row) -> Result<bool, Alloc
     holds(alloc, on, &view)
 }
 
-/// The key that a select list gives: that of a stream comes from its row, and a table keeps its own.
-fn selected_key(alloc: Global, keys: &[Typed], change: &Change) -> Result<Key, AllocError>
-    ensures { IfOk result (λ key. key ≡ selected_key keys.now change.now) }
+/// The key that a select list gives to a change with this key: that of a stream comes from its row, and a table keeps
+/// its own.
+fn selected_key(
+    alloc: Global,
+    keys: &[Typed],
+    time: u64,
+    key: Key,
+    body: &Body,
+) -> Result<Key, AllocError>
+    ensures { (c : OneChange) → c.time ≡ time → c.key ≡ key → c.body ≡ body.now → IfOk result (λ made. made ≡ selected_key keys.now c) }
 {
-    match &change.body {
-        Body::Said(row) => key_from(alloc, keys, change.time, row),
-        Body::Turned { .. } => change.key.copy(alloc),
+    match body {
+        Body::Said(row) => key_from(alloc, keys, time, row),
+        Body::Turned { .. } => Ok(key),
     }
 }
 
-/// What the value items of a select list make of a change.
+/// What the value items of a select list make of what a change at a time says.
 fn selected_body(
     alloc: Global,
     items: &[Typed],
-    change: &Change,
+    time: u64,
+    body: Body,
 ) -> Result<Option<Body>, AllocError>
-    ensures { IfOk result (λ body. body ≡ by_rows (λ row. Some (values items.now change.now.time row)) change.now.body) }
+    ensures { IfOk result (λ made. made ≡ by_rows (λ row. Some (values items.now time row)) body) }
 {
-    match &change.body {
-        Body::Said(row) => {
-            let row = selected_row(alloc, items, change.time, Some(row))?;
-            Ok(row.map(Body::Said))
-        }
+    match body {
+        Body::Said(row) => Ok(Some(Body::Said(selected_row(alloc, items, time, row)?))),
         Body::Turned { old, new } => {
-            let old = selected_row(alloc, items, change.time, old.as_ref())?;
-            let new = selected_row(alloc, items, change.time, new.as_ref())?;
+            let old = perhaps_selected(alloc, items, time, old)?;
+            let new = perhaps_selected(alloc, items, time, new)?;
             Ok(turned(old, new))
         }
     }
 }
 
 /// The row of the values of a select list, where there is a row that they are of.
-fn selected_row(
+fn perhaps_selected(
     alloc: Global,
     items: &[Typed],
     time: u64,
-    row: Option<&Row>,
+    row: Option<Row>,
 ) -> Result<Option<Row>, AllocError>
-    ensures { IfOk result (λ made. made ≡ option_and_then (λ r. Some (values items.now time r)) (option_map (λ r. r.now) row.entry)) }
+    ensures { IfOk result (λ made. made ≡ option_and_then (λ r. Some (values items.now time r)) row) }
 {
     match row {
-        Some(row) => Ok(Some(Items::of(values_of(alloc, items, time, row)?))),
+        Some(row) => Ok(Some(selected_row(alloc, items, time, row)?)),
         None => Ok(None),
     }
+}
+
+/// The row of the values of a select list. Columns in the row's order are taken out of it.
+fn selected_row(alloc: Global, items: &[Typed], time: u64, row: Row) -> Result<Row, AllocError>
+    ensures { IfOk result (λ made. made ≡ values items.now time row) }
+{
+    let cells = if are_rising_columns(items) {
+        taken_cells(alloc, items, row)?
+    } else {
+        values_of(alloc, items, time, &row)?
+    };
+    Ok(Items::of(cells))
 }

@@ -17,7 +17,6 @@ use Rattle.run_text.specs.KeyOrder.{keys_total}
 use Rattle.run_text.specs.Lines.{shown_of}
 use Rattle.run_text.specs.Printed.{Shown}
 use Rattle.run_text.specs.Report.{cell_cmp, is_same_row, is_same_window, row_cmp, span_cmp}
-use Rattle.run_text.specs.declared.line.Line.{Line}
 
 -- values that tie are the same
 cell-ties : (a b : Value) → is_same_value a b ≡ eq_by_cmp cell_cmp a b

@@ -70,7 +70,9 @@ pub fn cmp_row(a: &Line, b: &Line) -> Ordering
     ensures { result ≡ row_cmp (shown_of a.now) (shown_of b.now) }
 {
     let (a, b) = (a.told, b.told);
-    cmp_cells(a.key(), b.key()).then(cmp_window(a.span(), b.span()))
+    let first = a.span();
+    let second = b.span();
+    cmp_cells(a.key(), b.key()).then_with(|| cmp_window(first, second))
 }
 
 /// How two keys compare: the first values that differ decide, and else the shorter one comes first.
