@@ -40,6 +40,16 @@ impl Reader<'_> {
         self.left.is_done() && self.right.is_done()
     }
 
+    /// How many entries are left; out of memory where they are more than a list can have.
+    pub fn len(&self) -> Result<usize, AllocError>
+        ensures { IfOk result (λ count. count ≡ left_len self.now) }
+    {
+        self.left
+            .len()
+            .checked_add(self.right.len())
+            .ok_or(AllocError)
+    }
+
     /// Takes the next entries of those that are left, some of them at once.
     pub fn next(&mut self, alloc: Global) -> Result<Vec<Entry>, AllocError>
         requires order { IsOrdered self.old }
@@ -93,6 +103,13 @@ impl Rest<'_> {
         ensures { result ≡ (length (entries_in self.now.entries) == 0) }
     {
         self.entries.fed.is_empty() && self.entries.said.is_empty()
+    }
+
+    /// How many entries are left.
+    fn len(&self) -> usize
+        ensures { result ≡ length (entries_in self.now.entries) }
+    {
+        self.entries.fed.len() + self.entries.said.len()
     }
 
     /// The place of the first entry that is left, where there is one: a record has the empty path.

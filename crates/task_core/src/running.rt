@@ -27,7 +27,7 @@ pub fn made_of(chain: &mut Chain, alloc: Global, reader: Reader) -> Result<Made,
     ensures rest { OnOk result (chain.new ≡ at_rest chain.old.nodes (maps_in chain.new)) }
     ensures runs { IfOk result (λ made. Runs chain.old.nodes (maps_in chain.old) (pending reader.entry) made.outputs.items made.entries.items (maps_in chain.new)) }
 {
-    let mut outputs = Vec::new(alloc);
+    let mut outputs = Vec::with_capacity(alloc, reader.len()?)?;
     run_all(chain, alloc, reader, &mut outputs)?;
     let entries = chain.changes(alloc)?;
     Ok(Made { outputs, entries })

@@ -21,7 +21,7 @@ returns-clause-runs c =
     let entries = c.in_ok-entries.entries.items in
     let rest = after-changes old mid c.changes.new.self c.requires.rest nodes c.in_ok-run_all.ensures.sound c.in_ok-entries.ensures.rest in
     step-runs old.nodes (maps_in old) (maps_in mid) (maps_in c.changes.new.self) (pending c.args.reader) c.run_all.new.out.items entries
-    (subst (λ (before : List Change). Goes old.nodes (maps_in old) (maps_in mid) before c.run_all.new.out.items (pending c.args.reader)) c.new-outputs.ensures.items c.in_ok-run_all.ensures.next)
+    (subst (λ (before : List Change). Goes old.nodes (maps_in old) (maps_in mid) before c.run_all.new.out.items (pending c.args.reader)) c.in_ok-outputs.ensures.items c.in_ok-run_all.ensures.next)
     (subst (λ (ns : List Node). replayed_along ns (maps_in old) entries ≡ maps_in mid) nodes
     (c.in_ok-entries.ensures.replayed (maps_in old) (c.run_all.ensures.bases (maps_in old) (bases-at_rest old c.requires.rest))))
     (subst (λ (ns : List Node). All (MayLoad ns) entries) nodes c.in_ok-entries.ensures.loadable)

@@ -1,4 +1,4 @@
-use Rattle.std.proofs.Common.{◌∙◌, ap, subst, sym, List}
+use Rattle.std.proofs.Common.{◌∙◌, ap, sym, List}
 use Rattle.ksql_nodes.specs.declared.node.Node.{Node}
 use Rattle.op_chain.specs.Chain.{ChainView, maps_after, maps_in}
 use Rattle.task_core.specs.Reading.{kind_read}
