@@ -1,7 +1,6 @@
 //! The operators of joins: of a stream with a table, and of two tables.
 #![tactic(auto)]
 
-mod rows;
 mod stream_table_op;
 mod table_table_op;
 mod tables;

@@ -11,14 +11,13 @@ ghost use Rattle.operator.specs.Storable.{HasShortRow};
 ghost use Rattle.row_ops.specs.InputTable.{HoldsRows};
 ghost use Rattle.join_ops.specs.Kinds.{is_stream_join};
 
-use crate::rows::row_of;
 use ksql_expr::Typed;
 use ksql_nodes::Node;
 use ksql_place::Change;
 use ksql_types::{Changelog, CopyOf, StoreEntry};
 use node_steps::{push_given, rekeyed};
 use operator::{Operator, StoredOperator, with_number};
-use row_ops::{standing, turn};
+use row_ops::{row_of, standing, turn};
 use state_store::Store;
 use std::alloc::{AllocError, Global};
 use table_steps::{Join, stream_joined};
@@ -170,6 +169,6 @@ fn beside_row(
     ensures { IfOk result (λ made. (es : List Entry) → HoldsRows rows.now.map (of_side 1 es) →
         option_to_list made ≡ join_row join.now.kind join.now.left join.now.right es change) }
 {
-    let latest = standing(rows, alloc, &change.key)?;
-    stream_joined(alloc, join, change, row_of(&latest))
+    let found = standing(rows, alloc, &change.key)?;
+    stream_joined(alloc, join, change, row_of(found))
 }

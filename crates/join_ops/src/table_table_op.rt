@@ -10,13 +10,13 @@ ghost use Rattle.operator.specs.Storable.{HasShortRow};
 ghost use Rattle.join_ops.specs.Kinds.{is_table_join};
 ghost use Rattle.join_ops.specs.Tables.{HoldTables};
 
-use crate::rows::{row_of, time_of};
 use crate::tables::Tables;
 use ksql_nodes::Node;
 use ksql_place::Change;
 use ksql_types::{Changelog, StoreEntry};
 use node_steps::push_given;
 use operator::{Operator, StoredOperator};
+use row_ops::{row_of, time_of};
 use std::alloc::{AllocError, Global};
 use table_steps::{Join, Standing, tables_joined};
 
@@ -106,10 +106,10 @@ fn give(
 {
     let latest = tables.turn(alloc, side, &change)?;
     let standing = Standing {
-        own: row_of(&latest.own),
-        other: row_of(&latest.other),
         time: time_of(&latest.other),
+        own: row_of(latest.own),
+        other: row_of(latest.other),
     };
-    let given = tables_joined(alloc, join, side, change, &standing)?;
+    let given = tables_joined(alloc, join, side, change, standing)?;
     push_given(out, given)
 }

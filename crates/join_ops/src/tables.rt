@@ -6,13 +6,12 @@ ghost use Rattle.ksql_nodes.specs.Joins.{other_side};
 ghost use Rattle.state_store.specs.Store.{Values, IsBase, changes_of, numbered, replay};
 ghost use Rattle.record_codec.specs.Spelling.{IsShort};
 ghost use Rattle.operator.specs.Holding.{in_store, unwritten};
-ghost use Rattle.operator.specs.Kept.{kept_after};
 ghost use Rattle.operator.specs.Storable.{HasShortRow};
-ghost use Rattle.row_ops.specs.InputTable.{HoldsRows};
+ghost use Rattle.row_ops.specs.InputTable.{HoldsRows, latest_row};
 ghost use Rattle.join_ops.specs.Tables.{HoldTables};
 
 use ksql_place::Change;
-use ksql_types::{Changelog, StoreEntry};
+use ksql_types::{Changelog, Row, StoreEntry};
 use operator::with_number;
 use row_ops::{standing, turn};
 use state_store::Store;
@@ -25,11 +24,11 @@ pub(crate) struct Tables {
     pub(crate) right: Store,
 }
 
-/// The changes that set the rows of a key: in the table of a change, and in the other one.
+/// The rows of a key, each after the time of its change: in the table of a change, and in the other one.
 #[derive(Drop)]
 pub(crate) struct Latest {
-    pub(crate) own: Option<Change>,
-    pub(crate) other: Option<Change>,
+    pub(crate) own: Option<(u64, Row)>,
+    pub(crate) other: Option<(u64, Row)>,
 }
 
 impl Tables {
@@ -44,7 +43,7 @@ impl Tables {
         }
     }
 
-    /// Puts a change into the table of its side, and answers the changes that had set the rows of its key. Side 0 is the
+    /// Puts a change into the table of its side, and answers the rows that its key had. Side 0 is the
     /// left one and 1 the right one.
     pub(crate) fn turn(
         &mut self,
@@ -57,8 +56,8 @@ impl Tables {
         requires row { HasShortRow change.now }
         ensures next { IfOk result (λ latest. (es : List Entry) → HoldTables self.old.left.map self.old.right.map es →
             let c = change.now in
-            (latest.own ≡ kept_after (of_side side (of_key c.key es)))
-            × (latest.other ≡ kept_after (of_side (other_side side) (of_key c.key es)))
+            (latest.own ≡ latest_row (of_side side (of_key c.key es)))
+            × (latest.other ≡ latest_row (of_side (other_side side) (of_key c.key es)))
             × HoldTables self.new.left.map self.new.right.map (es ++ record { side = side; change = c } ∷ [])) }
         ensures left_base { (base : Values) → IsBase base self.old.left → IsBase base self.new.left }
         ensures right_base { (base : Values) → IsBase base self.old.right → IsBase base self.new.right }
@@ -104,8 +103,7 @@ impl Tables {
     }
 }
 
-/// Puts a change into its own table, and answers the changes that had set the rows of its key there and in the other
-/// table.
+/// Puts a change into its own table, and answers the rows that its key had there and in the other table.
 fn turned(
     own: &mut Store,
     other: &Store,
@@ -115,8 +113,8 @@ fn turned(
     requires key { All IsShort change.now.key }
     requires row { HasShortRow change.now }
     ensures next { IfOk result (λ latest. (side : ℕ) (mine others : List Entry) → HoldsRows own.old.map mine → HoldsRows other.now.map others →
-        (latest.own ≡ kept_after (of_key change.now.key mine))
-        × (latest.other ≡ kept_after (of_key change.now.key others))
+        (latest.own ≡ latest_row (of_key change.now.key mine))
+        × (latest.other ≡ latest_row (of_key change.now.key others))
         × HoldsRows own.new.map (mine ++ record { side = side; change = change.now } ∷ [])) }
     ensures base { (base : Values) → IsBase base own.old → IsBase base own.new }
 {

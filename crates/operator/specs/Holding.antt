@@ -1,5 +1,5 @@
 -- What an operator holds, and how changelogs change it.
-use Rattle.std.specs.Prelude.{◌≡◌, ℕ, ◌≤◌, ◌==◌, ◌^◌, nat_lt, Bool, false, not, IsTrue, List, [], ◌∷◌, ◌++◌, filter, length, All, Option, Some, None, unwrap_or, option_map, ◌⊎◌}
+use Rattle.std.specs.Prelude.{◌≡◌, ℕ, ◌≤◌, ◌==◌, ◌^◌, nat_lt, Bool, false, not, IsTrue, List, [], ◌∷◌, ◌++◌, filter, length, All, Some, None, unwrap_or, option_map, ◌⊎◌}
 use Rattle.std.specs.FinMap as finite
 use Rattle.std.specs.Int.{w64, from_be_bytes}
 use Rattle.ksql_types.specs.declared.relation.StoreEntry.{StoreEntry}

@@ -1,6 +1,6 @@
 -- What is kept of the entries of a key, and under which bytes. A key is spelled with the types of its values, so keys of different
 -- types have different bytes.
-use Rattle.std.specs.Prelude.{ℕ, ◌+◌, Bool, ◌&&◌, nat_lt, List, [], ◌∷◌, ◌++◌, map, filter, flat_map, bytes_eq, Option, Some, None, option_map, option_and_then, pos}
+use Rattle.std.specs.Prelude.{ℕ, ◌+◌, Bool, ◌&&◌, nat_lt, List, ◌∷◌, ◌++◌, map, filter, flat_map, bytes_eq, Option, Some, None, option_map, option_and_then, pos}
 use Rattle.std.specs.List.{last_or}
 use Rattle.ksql_types.specs.declared.relation.Kind.{Kind}
 use Rattle.ksql_types.specs.declared.relation.Span.{Span}

@@ -6,7 +6,6 @@ use Rattle.ksql_nodes.specs.declared.node.Node.{Node}
 use Rattle.ksql_nodes.specs.declared.node.Node.TheVariants.{Table, JoinStreamTable, JoinTables, Aggregate}
 use Rattle.ksql_nodes.specs.Entries.{Entry, of_side, latest_time}
 use Rattle.record_codec.specs.Spelling.{IsSpellable, IsSpellableRow, AreSpellable}
-use Rattle.state_store.specs.Store.{Values}
 use Rattle.operator.specs.Kept.{at_bytes, kept, rows_at, totals, groups_at, added_at, windows_at}
 use Rattle.operator.specs.Holding.{Maps, Held, maps_of}
 

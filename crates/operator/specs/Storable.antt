@@ -1,6 +1,5 @@
 -- The changes that an operator can take: what it keeps of them has a spelling.
 use Rattle.std.specs.Prelude.{◌≡◌, ℕ, suc, ◌<◌, ◌≤◌, ◌^◌, List, length, All, IfSome}
-use Rattle.ksql_types.specs.declared.value.Value.{Value}
 use Rattle.ksql_place.specs.Said.{row_in}
 use Rattle.ksql_place.specs.declared.change.Change.{Change}
 use Rattle.ksql_program.specs.declared.query.Agg.{Agg}

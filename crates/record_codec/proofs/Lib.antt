@@ -1,3 +1,4 @@
+pub mod Passing
 pub mod Readers
 pub mod Parts
 pub mod Loop

@@ -155,7 +155,7 @@ both-true : (b c : Bool) → (b && c) ≡ true → b ≡ true
 both-true true c e = refl
 both-true false c e = absurd cc
 
-few : (key : List Value) → IsKey key → length key ≤ 8
+pub few : (key : List Value) → IsKey key → length key ≤ 8
 few key h = leb-true _ _ (both-true (leb (length key) 8) (list_all (λ v. not (is_null v)) key) h)
 
 reads-key : Reads values IsKeyed key_at

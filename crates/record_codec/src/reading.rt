@@ -13,7 +13,7 @@ use std::alloc::{AllocError, Global};
 use std::str;
 
 #[tactic(auto, unfolding(crate::specs::Reading::four_at))]
-fn four(bytes: &[u8]) -> Result<(u32, &[u8]), ReadError>
+pub(crate) fn four(bytes: &[u8]) -> Result<(u32, &[u8]), ReadError>
     ensures { Gives with_rest result (read.four_at bytes.now) }
 {
     if bytes.len() < 4 {
@@ -25,7 +25,7 @@ fn four(bytes: &[u8]) -> Result<(u32, &[u8]), ReadError>
 }
 
 #[tactic(auto, unfolding(crate::specs::Reading::eight_at))]
-fn eight(bytes: &[u8]) -> Result<(u64, &[u8]), ReadError>
+pub(crate) fn eight(bytes: &[u8]) -> Result<(u64, &[u8]), ReadError>
     ensures { Gives with_rest result (read.eight_at bytes.now) }
 {
     if bytes.len() < 8 {
@@ -146,7 +146,7 @@ fn values_of(
 }
 
 #[tactic(auto, unfolding(crate::specs::Reading::row_at))]
-fn row(alloc: Global, bytes: &[u8]) -> Result<(Row, &[u8]), ReadError>
+pub(crate) fn row(alloc: Global, bytes: &[u8]) -> Result<(Row, &[u8]), ReadError>
     ensures { Gives with_rest result (read.row_at bytes.now) }
 {
     let (values, rest) = values_of(alloc, 64, 0, bytes)?;

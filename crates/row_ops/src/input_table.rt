@@ -1,28 +1,31 @@
 //! The table at an input: for each key the change that set its row, under the bytes of the key.
-ghost use Rattle.std.specs.Prelude.{◌≡◌, ℕ, List, [], ◌∷◌, ◌++◌, Option, All, IfOk, IfSome, OnOk, option_copied, option_map};
-ghost use Rattle.ksql_place.specs.declared.change.Change.{Change as OneChange};
+ghost use Rattle.std.specs.Prelude.{◌≡◌, ℕ, List, [], ◌∷◌, ◌++◌, All, IfOk, IfSome, OnOk, option_copied, option_map, unwrap_or};
 ghost use Rattle.ksql_nodes.specs.Entries.{Entry, of_key};
 ghost use Rattle.state_store.specs.Store.{Values, IsBase};
 ghost use Rattle.record_codec.specs.Spelling.{spelling, IsShort, IsSpellable};
 ghost use Rattle.operator.specs.Kept.{kept, kept_after};
 ghost use Rattle.operator.specs.Storable.{HasShortRow};
-ghost use Rattle.row_ops.specs.InputTable.{HoldsRows};
+ghost use Rattle.row_ops.specs.InputTable.{HoldsRows, latest_row};
 
 use ksql_place::Change;
-use ksql_types::{Bytes, Key};
+use ksql_types::{Bytes, Key, Row};
 use node_steps::row_in;
 use operator::{is_short, spelled_key};
-use record_codec::{decode, encode_new};
+use record_codec::{decode_new, encode_new};
 use state_store::Store;
 use std::alloc::{AllocError, Global};
 
-/// Puts what a change says of its key into the table, and answers the change that had set the key's row, with the row
-/// before that left out; None where the key had no row.
-pub fn turn(store: &mut Store, alloc: Global, change: &Change) -> Result<Option<Change>, AllocError>
+/// Puts what a change says of its key into the table, and answers the row that the key had, after the time of the change
+/// that had set it; None where it had none.
+pub fn turn(
+    store: &mut Store,
+    alloc: Global,
+    change: &Change,
+) -> Result<Option<(u64, Row)>, AllocError>
     requires key { All IsShort change.now.key }
     requires row { HasShortRow change.now }
     ensures next { IfOk result (λ before. (side : ℕ) (es : List Entry) → HoldsRows store.old.map es →
-        (before ≡ kept_after (of_key change.now.key es)) × HoldsRows store.new.map (es ++ record { side = side; change = change.now } ∷ [])) }
+        (before ≡ latest_row (of_key change.now.key es)) × HoldsRows store.new.map (es ++ record { side = side; change = change.now } ∷ [])) }
     ensures base { (base : Values) → IsBase base store.old → IsBase base store.new }
 {
     let key = spelled_key(alloc, &change.key)?;
@@ -34,9 +37,9 @@ pub fn turn(store: &mut Store, alloc: Global, change: &Change) -> Result<Option<
     Ok(before)
 }
 
-/// The change that set a key's row, as `turn` answers it; the table stays as it is. Every key may be asked for.
-pub fn standing(store: &Store, alloc: Global, key: &Key) -> Result<Option<Change>, AllocError>
-    ensures { IfOk result (λ found. (es : List Entry) → HoldsRows store.now.map es → found ≡ kept_after (of_key key.now es)) }
+/// The row that a key has, as `turn` answers it; the table stays as it is. Every key may be asked for.
+pub fn standing(store: &Store, alloc: Global, key: &Key) -> Result<Option<(u64, Row)>, AllocError>
+    ensures { IfOk result (λ found. (es : List Entry) → HoldsRows store.now.map es → found ≡ latest_row (of_key key.now es)) }
 {
     // No row has a key with a long value.
     if !is_short(key) {
@@ -46,13 +49,30 @@ pub fn standing(store: &Store, alloc: Global, key: &Key) -> Result<Option<Change
     kept_in(alloc, store.get(key.items()))
 }
 
-/// The change that is kept in some bytes; None where there are none, and also where they spell no change.
-fn kept_in(alloc: Global, bytes: Option<&[u8]>) -> Result<Option<Change>, AllocError>
-    ensures { (change : Option OneChange) → IfSome change IsSpellable → option_copied bytes.entry ≡ option_map spelling change →
-        IfOk result (λ found. found ≡ change) }
+/// The row that was found, without its time.
+pub fn row_of(found: Option<(u64, Row)>) -> Option<Row>
+    ensures { result ≡ option_map (λ timed. timed.1) found }
+{
+    found.map(|(_, row)| row)
+}
+
+/// The time of the row that was found; 0 where there is none.
+pub fn time_of(found: &Option<(u64, Row)>) -> u64
+    ensures { result ≡ unwrap_or (option_map (λ timed. timed.0) found.now) 0 }
+{
+    match found {
+        Some((time, _)) => *time,
+        None => 0,
+    }
+}
+
+/// The row that is kept in some bytes, after the time of its change; None where there are none.
+fn kept_in(alloc: Global, bytes: Option<&[u8]>) -> Result<Option<(u64, Row)>, AllocError>
+    ensures { (es : List Entry) → IfSome (kept_after es) IsSpellable → option_copied bytes.entry ≡ option_map spelling (kept_after es) →
+        IfOk result (λ found. found ≡ latest_row es) }
 {
     match bytes {
-        Some(bytes) => decode(alloc, bytes),
+        Some(bytes) => decode_new(alloc, bytes),
         None => Ok(None),
     }
 }

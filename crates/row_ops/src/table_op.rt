@@ -1,4 +1,4 @@
-ghost use Rattle.std.specs.Prelude.{◌≡◌, ℕ, false, List, [], ◌∷◌, ◌++◌, All, IfOk, OnOk, OnErr, IsTrue, option_and_then};
+ghost use Rattle.std.specs.Prelude.{◌≡◌, ℕ, false, List, [], ◌∷◌, ◌++◌, All, IfOk, OnOk, OnErr, IsTrue};
 ghost use Rattle.std.specs.Option.{option_to_list};
 ghost use Rattle.ksql_place.specs.Said.{row_in};
 ghost use Rattle.ksql_nodes.specs.declared.node.Node.TheVariants as nodes;
@@ -12,11 +12,11 @@ ghost use Rattle.operator.specs.Storable.{HasShortRow};
 ghost use Rattle.row_ops.specs.InputTable.{HoldsRows};
 ghost use Rattle.row_ops.specs.Kinds.{is_table};
 
-use crate::input_table::turn;
+use crate::input_table::{row_of, turn};
 use ksql_nodes::Node;
-use ksql_place::{Body, Change};
+use ksql_place::Change;
 use ksql_types::{Changelog, Row, StoreEntry};
-use node_steps::{push_given, turned};
+use node_steps::{into_row, push_given, turned};
 use operator::{Operator, StoredOperator};
 use state_store::Store;
 use std::alloc::{AllocError, Global};
@@ -96,13 +96,13 @@ fn give(
     ensures base { (base : Values) → IsBase base rows.old → IsBase base rows.new }
     ensures out { OnErr result (out.new.items ≡ out.old.items) }
 {
-    let before = turn(rows, alloc, &change)?;
-    push_given(out, changed(change, before))
+    let found = turn(rows, alloc, &change)?;
+    push_given(out, changed(change, row_of(found)))
 }
 
-/// The change from the row that another change brought, where that isn't from absent to absent.
-fn changed(change: Change, before: Option<Change>) -> Option<Change>
-    ensures { option_to_list result ≡ with_body change (turned (option_and_then (λ c. row_in c.body) before) (row_in change.body)) }
+/// The change from a row that stood before, where that isn't from absent to absent.
+fn changed(change: Change, before: Option<Row>) -> Option<Change>
+    ensures { option_to_list result ≡ with_body change (turned before (row_in change.body)) }
 {
     let Change {
         place,
@@ -111,7 +111,7 @@ fn changed(change: Change, before: Option<Change>) -> Option<Change>
         span,
         body,
     } = change;
-    let body = turned(row_of(before), brought(body))?;
+    let body = turned(before, into_row(body))?;
     Some(Change {
         place,
         time,
@@ -119,24 +119,4 @@ fn changed(change: Change, before: Option<Change>) -> Option<Change>
         span,
         body,
     })
-}
-
-/// The row that a change brings, where there is a change.
-fn row_of(change: Option<Change>) -> Option<Row>
-    ensures { result ≡ option_and_then (λ c. row_in c.body) change }
-{
-    match change {
-        Some(change) => brought(change.body),
-        None => None,
-    }
-}
-
-/// The row that a change brings.
-fn brought(body: Body) -> Option<Row>
-    ensures { result ≡ row_in body }
-{
-    match body {
-        Body::Said(row) => Some(row),
-        Body::Turned { new, .. } => new,
-    }
 }

@@ -3,7 +3,7 @@ ghost use Rattle.record_codec.specs.Spelling.{IsWithinLimits};
 
 use ksql_place::{Body, Change, Path, Place, Stamp};
 use ksql_types::{Chars, Items, Key, Value};
-use record_codec::{decode, decode_row, encode, encode_row};
+use record_codec::{decode, decode_new, decode_row, encode, encode_row};
 use std::alloc::Global;
 use std::test::Fail;
 
@@ -115,6 +115,19 @@ fn a_tables_change(rt: HostRuntime) -> Result<(), Fail> {
         _ => return Err(Fail::from("a table's change with both rows")),
     }
     assert_eq!(rt; encode(alloc, &change)?.items(), TURN.as_slice());
+    Ok(())
+}
+
+// The same change without its old row.
+#[test]
+fn the_row_of_a_tables_change(rt: HostRuntime) -> Result<(), Fail> {
+    let alloc = rt.alloc();
+    let mut bytes = Vec::from_slice(alloc, &TURN[..84])?;
+    bytes.push(0)?;
+    bytes.extend_from_slice(&TURN[91..])?;
+    let (time, row) = decode_new(alloc, &bytes)?.ok_or("the bytes spell a change to a row")?;
+    assert_eq!(rt; time, 8);
+    assert!(rt; matches!(row.items(), [Value::Null, Value::Bool(false)]));
     Ok(())
 }
 

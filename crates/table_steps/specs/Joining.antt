@@ -2,6 +2,7 @@
 use Rattle.std.specs.Prelude.{ℕ, max, Bool, true, false, List, [], ◌∷◌, Option, option_map, option_and_then}
 use Rattle.ksql_types.specs.declared.value.Value.{Value}
 use Rattle.ksql_place.specs.Said.{row_in, row_out}
+use Rattle.ksql_place.specs.declared.change.Body.{Body}
 use Rattle.ksql_place.specs.declared.change.Body.TheVariants.{Said}
 use Rattle.ksql_place.specs.declared.change.Change.{Change}
 use Rattle.ksql_nodes.specs.declared.node.Node.{Node}
@@ -21,25 +22,20 @@ is_join node = false
 abbrev pub beside : Join → Change → Option Row → List Change
 beside j c row = with_body c (option_map (λ r. Said r) (joined j.kind j.left j.right [] (row_in c.body) row))
 
--- the rows that stand for a key: the own table's, and the other one's with its time
-pub record Rows : Type 0 where
-  pub own : Option Row
-  pub other : Option Row
-  pub time : ℕ
-
--- such rows that are lent
-abbrev pub standing_of : Standing → Rows
-standing_of s = record { own = option_map (λ r. r.now) s.own; other = option_map (λ r. r.now) s.other; time = s.time }
-
 -- the rows that stand for a key after some entries of two tables
-abbrev pub standing_before : ℕ → List Value → List Entry → Rows
+abbrev pub standing_before : ℕ → List Value → List Entry → Standing
 standing_before side key es =
     let others = of_side (other_side side) (of_key key es) in
     record { own = row_after (of_side side (of_key key es)); other = row_after others; time = time_after others }
 
+-- from the joined row of the row that stood for a key to that of another one
+abbrev pub body_beside : Join → ℕ → List Value → Standing → Option Row → Option Body
+body_beside j side key rows new =
+    let joined_with : Option Row → Option Row = λ own. joined_from side j.kind j.left j.right key own rows.other in
+    option_and_then (λ own. turned (joined_with (row_out own)) (joined_with (row_in own))) (turned rows.own new)
+
 -- a change of one of two tables: from the joined row before it to the one after it, and no earlier than the other table's row
-abbrev pub turned_beside : Join → ℕ → Change → Rows → List Change
+abbrev pub turned_beside : Join → ℕ → Change → Standing → List Change
 turned_beside j side c rows =
-    let joined_with : Option Row → Option Row = λ own. joined_from side j.kind j.left j.right c.key own rows.other in
     with_body (record (at_path (side_step side j.left j.right ∷ c.place.path) c) { time = max c.time rows.time })
-    (option_and_then (λ own. turned (joined_with (row_out own)) (joined_with (row_in own))) (turned rows.own (row_in c.body)))
+    (body_beside j side c.key rows (row_in c.body))

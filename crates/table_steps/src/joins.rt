@@ -7,14 +7,14 @@ ghost use Rattle.ksql_nodes.specs.Entries.{of_key, of_side, results};
 ghost use Rattle.ksql_nodes.specs.Joins.{join_row, join_stream, join_tables};
 ghost use Rattle.ksql_nodes.specs.Nodes.{gives};
 ghost use Rattle.node_steps.specs.Steps.{entry_of};
-ghost use Rattle.table_steps.specs.Joining.{is_join, standing_before, standing_of};
+ghost use Rattle.table_steps.specs.Joining.{is_join, standing_before};
 
 use crate::join::{Join, Standing, other_side, stream_joined, tables_joined};
 use ksql_expr::Typed;
 use ksql_nodes::Node;
 use ksql_place::Change;
 use ksql_types::{CopyOf, Key, Row};
-use node_steps::{EntryRef, is_same_key, one_or_none, rekeyed, row_in};
+use node_steps::{EntryRef, copied, is_same_key, one_or_none, rekeyed, row_in};
 use std::alloc::{AllocError, Global};
 
 /// What a join gives for the entries of its sides, each with all those before it. Takes of the order of n² steps for n
@@ -101,7 +101,7 @@ fn beside_row(
 ) -> Result<Option<Change>, AllocError>
     ensures { IfOk result (λ made. option_to_list made ≡ join_row join.now.kind join.now.left join.now.right (map entry_of before.now) change) }
 {
-    let row = row_of(latest_on(1, &change.key, before));
+    let row = copied(alloc, row_of(latest_on(1, &change.key, before)))?;
     stream_joined(alloc, join, change, row)
 }
 
@@ -114,24 +114,29 @@ fn table_changes(
 ) -> Result<Vec<Change>, AllocError>
     ensures { IfOk result (λ changes. changes.items ≡ join_tables join.now.kind join.now.left join.now.right (map entry_of before.now) (entry_of entry.now)) }
 {
-    let standing = standing(entry.side, &entry.change.key, before);
+    let standing = standing(alloc, entry.side, &entry.change.key, before)?;
     let change = entry.change.copy(alloc)?;
     one_or_none(
         alloc,
-        tables_joined(alloc, join, entry.side, change, &standing)?,
+        tables_joined(alloc, join, entry.side, change, standing)?,
     )
 }
 
 /// The rows that stand for a key before a change of one of two tables.
-fn standing<'a>(side: u32, key: &Key, before: &[EntryRef<'a>]) -> Standing<'a>
-    ensures { standing_of result ≡ standing_before side key.now (map entry_of before.now) }
+fn standing(
+    alloc: Global,
+    side: u32,
+    key: &Key,
+    before: &[EntryRef],
+) -> Result<Standing, AllocError>
+    ensures { IfOk result (λ rows. rows ≡ standing_before side key.now (map entry_of before.now)) }
 {
     let other = latest_on(other_side(side), key, before);
-    Standing {
-        own: row_of(latest_on(side, key, before)),
-        other: row_of(other),
+    Ok(Standing {
+        own: copied(alloc, row_of(latest_on(side, key, before)))?,
+        other: copied(alloc, row_of(other))?,
         time: time_of(other),
-    }
+    })
 }
 
 /// The latest entry of a side with a key.

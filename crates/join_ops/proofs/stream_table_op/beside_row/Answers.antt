@@ -1,11 +1,8 @@
-use Rattle.std.proofs.Common.{◌≡◌, ◌∙◌, ap}
+use Rattle.std.proofs.Common.{◌≡◌, ◌∙◌, ap, ℕ}
 use Rattle.std.proofs.lemmas.Result.{IfOk-weaker}
-use Rattle.std.specs.Prelude.{option_and_then, option_map}
-use denote.Ref.{Bor}
-use Rattle.ksql_place.specs.Said.{row_in}
-use Rattle.ksql_place.specs.declared.change.Change.{Change}
+use Rattle.std.specs.Prelude.{option_map}
 use Rattle.ksql_nodes.specs.Entries.{Row, of_key, of_side, row_after}
-use Rattle.operator.proofs.Rows.{row_after-kept}
+use Rattle.row_ops.proofs.InputTable.{row-latest}
 use Rattle.table_steps.specs.Joining.{beside}
 use Rattle.join_ops.proofs.Sides.{key-of_side}
 use Rattle.join_ops.proofs.stream_table_op.beside_row.Goals as goal
@@ -15,10 +12,10 @@ returns c =
     let change = c.args.change in
     IfOk-weaker c.stream_joined.result _ _
     (λ made given es h.
-    let row : option_map (λ (r : Bor Row). r.now) c.row_of.result ≡ row_after (of_side 1 (of_key change.key es)) =
+    let row : c.row_of.result ≡ row_after (of_side 1 (of_key change.key es)) =
     c.row_of.ensures
-    ∙ ap (option_and_then (λ (c : Change). row_in c.body)) (c.in_ok-latest.ensures (of_side 1 es) h)
-    ∙ row_after-kept (of_key change.key (of_side 1 es))
+    ∙ ap (option_map (λ (timed : ℕ × Row). timed.1)) (c.in_ok-found.ensures (of_side 1 es) h)
+    ∙ row-latest (of_key change.key (of_side 1 es))
     ∙ ap row_after (key-of_side change.key 1 es) in
     given ∙ ap (beside c.args.join.now change) row)
     c.stream_joined.ensures

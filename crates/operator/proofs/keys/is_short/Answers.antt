@@ -1,4 +1,4 @@
-use Rattle.std.proofs.Common.{◌∙◌, refl, subst, true, All, arith}
+use Rattle.std.proofs.Common.{◌∙◌, refl, subst, All, arith}
 use Rattle.std.proofs.lemmas.List.{take_all}
 use Rattle.std.proofs.lemmas.List.Elements.{All-more}
 use Rattle.record_codec.specs.Spelling.{IsShort}
