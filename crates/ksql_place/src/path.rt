@@ -1,16 +1,18 @@
-ghost use Rattle.std.specs.Prelude.{◌≡◌, ◌∷◌, ◌++◌, [], IfErr, IfOk};
+ghost use Rattle.std.specs.Prelude.{◌≡◌, ◌∷◌, ◌++◌, [], IfOk};
 ghost use Rattle.ksql_place.specs.Path.{numbers_in};
 
-use ksql_types::{CopyOf, Items};
+use ksql_types::{Boxed, CopyOf, Items};
 use std::alloc::{AllocError, Global};
-use std::array;
 use std::marker::Model;
 
-/// The numbers of a path: most paths have none or one, which takes no list.
+/// The numbers of a path. Up to three of them, as nearly all paths have, stand in the path itself.
 #[derive(Debug, Drop)]
 enum Numbers {
-    One(u32),
-    Several(Items<u32>),
+    Root,
+    One([u32; 1]),
+    Two([u32; 2]),
+    Three([u32; 3]),
+    Many(Boxed<Items<u32>>),
 }
 
 /// The numbers that tell apart the changes that one record causes.
@@ -32,22 +34,27 @@ impl Model for Path {
 }
 
 impl Path {
-    /// The path of these numbers. Takes no memory.
-    pub fn of(numbers: Vec<u32>) -> Path
-        ensures { result ≡ numbers.items }
+    /// The path of these numbers, copied. Up to three take no memory.
+    pub fn of(alloc: Global, numbers: &[u32]) -> Result<Path, AllocError>
+        ensures { IfOk result (λ made. made ≡ numbers.now) }
     {
-        let numbers = match numbers.as_slice() {
-            [number] => Numbers::One(*number),
-            _ => Numbers::Several(Items::of(numbers)),
+        let numbers = match numbers {
+            [] => Numbers::Root,
+            [a] => Numbers::One([*a]),
+            [a, b] => Numbers::Two([*a, *b]),
+            [a, b, c] => Numbers::Three([*a, *b, *c]),
+            _ => Numbers::Many(Boxed::of(alloc, Items::of(Vec::from_slice(alloc, numbers)?))?),
         };
-        Path { numbers }
+        Ok(Path { numbers })
     }
 
     /// The path without numbers. Takes no memory.
-    pub fn root(alloc: Global) -> Path
+    pub fn root() -> Path
         ensures { result ≡ [] }
     {
-        Path::of(Vec::new(alloc))
+        Path {
+            numbers: Numbers::Root,
+        }
     }
 
     /// The numbers, lent.
@@ -55,61 +62,51 @@ impl Path {
         ensures { result.now ≡ self.now }
     {
         match &self.numbers {
-            Numbers::One(number) => array::from_ref(number),
-            Numbers::Several(numbers) => numbers.items(),
+            Numbers::Root => &[],
+            Numbers::One(numbers) => numbers.as_slice(),
+            Numbers::Two(numbers) => numbers.as_slice(),
+            Numbers::Three(numbers) => numbers.as_slice(),
+            Numbers::Many(numbers) => numbers.get().items(),
         }
     }
 
-    /// This path with one more number after it.
+    /// This path with one more number after it. Up to three numbers take no memory.
     pub fn with_last(&self, alloc: Global, number: u32) -> Result<Path, AllocError>
         ensures { IfOk result (λ made. made ≡ self.now ++ number ∷ []) }
     {
-        let numbers = self.items();
-        if numbers.is_empty() {
-            return Ok(Path::one(number));
+        match self.items() {
+            [] => Path::of(alloc, &[number]),
+            [a] => Path::of(alloc, &[*a, number]),
+            [a, b] => Path::of(alloc, &[*a, *b, number]),
+            numbers => {
+                let mut longer = Vec::with_capacity(alloc, numbers.len() + 1)?;
+                longer.extend_from_slice(numbers)?;
+                longer.push(number)?;
+                Path::of(alloc, longer.as_slice())
+            }
         }
-        let mut longer = Vec::with_capacity(alloc, numbers.len() + 1)?;
-        longer.extend_from_slice(numbers)?;
-        longer.push(number)?;
-        Ok(Path::of(longer))
     }
 
-    /// This path with one more number before it.
+    /// This path with one more number before it. Up to three numbers take no memory.
     pub fn with_first(&self, alloc: Global, number: u32) -> Result<Path, AllocError>
         ensures { IfOk result (λ made. made ≡ number ∷ self.now) }
     {
-        let numbers = self.items();
-        if numbers.is_empty() {
-            return Ok(Path::one(number));
-        }
-        let mut longer = Vec::with_capacity(alloc, numbers.len() + 1)?;
-        longer.push(number)?;
-        longer.extend_from_slice(numbers)?;
-        Ok(Path::of(longer))
-    }
-
-    /// The path of one number. Takes no memory.
-    fn one(number: u32) -> Path
-        ensures { result ≡ number ∷ [] }
-    {
-        Path {
-            numbers: Numbers::One(number),
-        }
-    }
-}
-
-impl CopyOf for Numbers {
-    fn copy(&self, alloc: Global) -> Result<Numbers, AllocError> {
-        match self {
-            Numbers::One(number) => Ok(Numbers::One(*number)),
-            Numbers::Several(numbers) => Ok(Numbers::Several(numbers.copy(alloc)?)),
+        match self.items() {
+            [] => Path::of(alloc, &[number]),
+            [a] => Path::of(alloc, &[number, *a]),
+            [a, b] => Path::of(alloc, &[number, *a, *b]),
+            numbers => {
+                let mut longer = Vec::with_capacity(alloc, numbers.len() + 1)?;
+                longer.push(number)?;
+                longer.extend_from_slice(numbers)?;
+                Path::of(alloc, longer.as_slice())
+            }
         }
     }
 }
 
 impl CopyOf for Path {
     fn copy(&self, alloc: Global) -> Result<Path, AllocError> {
-        let numbers = self.numbers.copy(alloc)?;
-        Ok(Path { numbers })
+        Path::of(alloc, self.items())
     }
 }

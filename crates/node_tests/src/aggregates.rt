@@ -54,7 +54,7 @@ fn given(alloc: Global, op: &mut WindowAggOp, time: u64) -> Result<Vec<i64>, All
     let change = Change {
         place: Place {
             stamp,
-            path: Path::root(alloc),
+            path: Path::root(),
         },
         time,
         key: Key::of(Vec::new(alloc)),

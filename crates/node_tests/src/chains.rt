@@ -44,7 +44,7 @@ fn entry(alloc: Global, passes: bool) -> Result<Entry, AllocError>
     let change = Change {
         place: Place {
             stamp,
-            path: Path::root(alloc),
+            path: Path::root(),
         },
         time: 0,
         key: Key::of(Vec::new(alloc)),

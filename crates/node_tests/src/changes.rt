@@ -14,7 +14,7 @@ pub fn change(alloc: Global, time: u64, key: i32, body: Body) -> Result<Change, 
         part: 0,
         offset: 0,
     };
-    let path = Path::root(alloc);
+    let path = Path::root();
     let key = Key::of(vec![in alloc; Value::Int(key)]?);
     Ok(Change {
         place: Place { stamp, path },

@@ -31,7 +31,7 @@ pub fn entry(alloc: Global, number: u32, of_table: bool) -> Result<Change, Alloc
     Ok(Change {
         place: Place {
             stamp,
-            path: Path::root(alloc),
+            path: Path::root(),
         },
         time: u64::from(number),
         key: Key::of(vec![in alloc; Value::Big(key)]?),

@@ -119,7 +119,7 @@ fn push_record(
     let Some(Some(row)) = said_by(Kind::Stream, &fed.key, &fed.value) else {
         return Ok(());
     };
-    let path = Path::root(alloc);
+    let path = Path::root();
     let at = At {
         stamp: fed.stamp,
         path: &path,

@@ -1,6 +1,6 @@
 //! The steps of queries and of declared tables, over all changes one after another.
 
-ghost use Rattle.std.specs.Prelude.{◌≡◌, ◌∷◌, ◌++◌, [], IfOk, IsTrue, List, None, OnOk, map, option_map, replicate};
+ghost use Rattle.std.specs.Prelude.{◌≡◌, ◌∷◌, ◌++◌, [], IfOk, IsTrue, None, OnOk, map, option_map, replicate};
 ghost use Rattle.std.specs.List.{AllByRecursion};
 ghost use Rattle.ksql_types.specs.declared.relation.Kind.TheVariants as kind;
 ghost use Rattle.ksql_types.specs.declared.value.Value.TheVariants.{Null};
@@ -70,7 +70,7 @@ fn push_said(
     changes.push(Change {
         place: Place {
             stamp: fed.stamp,
-            path: Path::root(alloc),
+            path: Path::root(),
         },
         time: fed.time,
         key: fed.key.copy(alloc)?,

@@ -186,7 +186,7 @@ fn path(alloc: Global, bytes: &[u8]) -> Result<(Path, &[u8]), ReadError>
         return Err(ReadError::Unspelled);
     }
     let (numbers, rest) = many_numbers(alloc, count, rest)?;
-    Ok((Path::of(numbers), rest))
+    Ok((Path::of(alloc, numbers.as_slice())?, rest))
 }
 
 #[tactic(auto, unfolding(crate::specs::Reading::stamp_at))]

@@ -142,7 +142,7 @@ fn proposal(alloc: Global, span: Option<Span>, body: Body) -> Result<Proposal, A
     let change = Change {
         place: Place {
             stamp: stamp(),
-            path: Path::root(alloc),
+            path: Path::root(),
         },
         time: 5,
         key: Key::of(Vec::new(alloc)),

@@ -86,7 +86,7 @@ fn change(alloc: Global, time: u64, key: Key, span: Option<Span>, body: Body) ->
     Change {
         place: Place {
             stamp: stamp(0, time),
-            path: Path::root(alloc),
+            path: Path::root(),
         },
         time,
         key,

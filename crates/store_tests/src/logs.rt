@@ -209,7 +209,7 @@ fn change(alloc: Global, stamp: Stamp) -> Change
     Change {
         place: Place {
             stamp,
-            path: Path::root(alloc),
+            path: Path::root(),
         },
         time: 9,
         key: Key::of(Vec::new(alloc)),

@@ -46,7 +46,7 @@ fn click(alloc: Global) -> Result<Change, Fail>
     };
     let place = Place {
         stamp,
-        path: Path::root(alloc),
+        path: Path::root(),
     };
     let text = chars(alloc, "a")?;
     let key = Key::of(vec![in alloc; Value::Txt(text)]?);

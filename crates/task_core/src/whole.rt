@@ -1,6 +1,5 @@
 //! Entries as a task reads them: with the cells of their keys in front of their rows.
-ghost use Rattle.std.specs.Prelude.{◌≡◌, ◌++◌, ◌∷◌, [], IfOk, List, OnOk, map, option_map, replicate};
-ghost use Rattle.ksql_types.specs.declared.value.Value.TheVariants.{Null};
+ghost use Rattle.std.specs.Prelude.{◌≡◌, ◌++◌, ◌∷◌, [], IfOk, OnOk, map, option_map};
 ghost use Rattle.ksql_place.specs.Said.{saying};
 ghost use Rattle.ksql_nodes.specs.Entries.{from_side};
 ghost use Rattle.query_meaning.specs.Plain.{raw_body};
@@ -38,7 +37,7 @@ pub fn push_said(
         change: Change {
             place: Place {
                 stamp: fed.stamp,
-                path: Path::root(alloc),
+                path: Path::root(),
             },
             time: fed.time,
             key: fed.key.copy(alloc)?,

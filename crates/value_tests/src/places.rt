@@ -22,7 +22,7 @@ fn stamp(high: u64, part: u32, offset: u64) -> Stamp {
 fn place(alloc: Global, offset: u64, path: &[u32]) -> Result<Place, Fail> {
     Ok(Place {
         stamp: stamp(9, 1, offset),
-        path: Path::of(Vec::from_slice(alloc, path)?),
+        path: Path::of(alloc, path)?,
     })
 }
 
@@ -189,7 +189,7 @@ fn copies_are_equal(rt: HostRuntime) -> Result<(), Fail> {
 #[test]
 fn paths_grow_at_both_ends(rt: HostRuntime) -> Result<(), Fail> {
     let alloc = rt.alloc();
-    let one = Path::root(alloc).with_last(alloc, 2)?;
+    let one = Path::root().with_last(alloc, 2)?;
     let longer = one.with_first(alloc, 1)?.with_last(alloc, 3)?;
     assert!(rt; one.items() == [2].as_slice());
     assert!(rt; longer.items() == [1, 2, 3].as_slice());

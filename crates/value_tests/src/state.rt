@@ -21,7 +21,7 @@ fn change(alloc: Global) -> Result<Change, AllocError> {
     Ok(Change {
         place: Place {
             stamp: STAMP,
-            path: Path::of(vec![in alloc; 3]?),
+            path: Path::of(alloc, &[3])?,
         },
         time: 9,
         key: key(alloc)?,

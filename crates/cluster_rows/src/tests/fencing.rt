@@ -43,7 +43,7 @@ fn change(alloc: Global) -> Change
                 part: 0,
                 offset: 0,
             },
-            path: Path::root(alloc),
+            path: Path::root(),
         },
         time: 0,
         key: Key::of(Vec::new(alloc)),

@@ -29,7 +29,7 @@ fn change(alloc: Global, part: u32, offset: u64) -> Result<Change, AllocError>
     Ok(Change {
         place: Place {
             stamp,
-            path: Path::root(alloc),
+            path: Path::root(),
         },
         time: 0,
         key: Key::of(Vec::new(alloc)),
