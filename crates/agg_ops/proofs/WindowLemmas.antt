@@ -22,7 +22,7 @@ use Rattle.ksql_nodes.proofs.Lists.{All-append}
 use Rattle.record_codec.specs.Spelling.{AreSpellable, values}
 use Rattle.state_store.specs.Store.{Values, with_value}
 use Rattle.state_store.proofs.ReplayLemmas.{get-with_value}
-use Rattle.operator.specs.Kept.{totals, windows_at}
+use Rattle.operator.specs.Kept.{totals}
 use Rattle.operator.specs.StandsFor.{HasSpelledKey}
 use Rattle.agg_ops.specs.Totals.{is_sound_window}
 use Rattle.window_store.specs.Windows.{under, has_ended}
@@ -30,10 +30,6 @@ use Rattle.agg_ops.specs.WindowGroups.{HoldsPartly, HoldsWindows, added_partly, 
 use Rattle.agg_ops.proofs.WindowStarts.{Rise, StandsAt, bytes-start, rise-at, span-among, sound-parts, windows-rise}
 use Rattle.agg_ops.proofs.WindowTimes.{time-at}
 use Rattle.agg_ops.proofs.WindowAdded.{added-later, added-more, added-under, is_open_at, open-bytes}
-
--- what is kept under some bytes is that of the windows that are open
-pub windows-exact : (aggs : List Agg) (w : Window) (es : List Entry) (b : List ℕ) → windows_at Stream aggs w es b ≡ option_map values (totals Stream aggs (added_upto (latest_time es) w es b))
-windows-exact aggs w es b = refl
 
 -- ---- a later stream time
 

@@ -1,5 +1,5 @@
 -- Which worker owns which task, and which tasks stay at their owners as the owners change.
-use Rattle.std.proofs.Common.{◌≡◌, ◌∙◌, ap, ap₂, refl, sym, subst, ℕ, inl, inr, List, [], ◌∷◌, ◌++◌, length, map, Bool, true, false, true≢false, arith}
+use Rattle.std.proofs.Common.{◌≡◌, ◌∙◌, ap, ap₂, refl, sym, subst, ℕ, inl, inr, List, [], ◌∷◌, length, map, Bool, true, false, true≢false, arith}
 use Rattle.std.proofs.Math.Bool.{not-not}
 use Rattle.std.proofs.lemmas.Simd.{map-map}
 use Rattle.std.specs.Prelude.{◌&&◌, ◌==◌, not, if◌then◌else◌, IsTrue, Option, Some, None}
@@ -20,7 +20,7 @@ use Rattle.cluster_core.specs.Cluster.{IsIdleAt, IsOwned, KeepPlaces, idle}
 use Rattle.cluster_core.specs.Moves.{are_at, kept_of, owned_of}
 use Rattle.cluster_core.specs.Progress.{has_left, is_task}
 use Rattle.cluster_core.specs.declared.seats.Seat.{Seat}
-use Rattle.cluster_core.proofs.Lists.{all-mapped, all-middle}
+use Rattle.cluster_core.proofs.Lists.{all-mapped}
 use Rattle.cluster_core.proofs.Names.{AreApart, tasks-apart}
 
 -- ---- whether two names are of one task
@@ -61,9 +61,6 @@ each-owned (o ∷ os) pairs =
           (λ x is. ap (λ (rest : Option ℕ). option_or rest (if is_task o.task x.task then Some o.worker else None)) is) os (each-owned os pairs.1),
     )
 
-pub owned-here : (front : List Owned) (o : Owned) (back : List Owned) → Pairwise AreApart (map (λ (x : Owned). x.task) (front ++ o ∷ back)) → owner_of (front ++ o ∷ back) o.task ≡ Some o.worker
-owned-here front o back pairs = all-middle (λ (x : Owned). owner_of (front ++ o ∷ back) x.task ≡ Some x.worker) front o back (each-owned (front ++ o ∷ back) pairs)
-
 -- ---- the same of tasks at their owners
 
 pub owner-none : (seats : List Seat) (u : TaskName) → AllByRecursion (λ (x : Seat). AreApart x.task.name u) seats → owner_of (map owned_of seats) u ≡ None
@@ -75,11 +72,6 @@ each-owner seats pairs =
     let names : map (λ (o : Owned). o.task) (map owned_of seats) ≡ map (λ (x : Seat). x.task.name) seats = map-map (λ (o : Owned). o.task) owned_of seats in
     all-mapped (λ (o : Owned). owner_of (map owned_of seats) o.task ≡ Some o.worker) owned_of seats
     (each-owned (map owned_of seats) (subst (Pairwise AreApart) (sym names) pairs))
-
-pub owner-here : (front : List Seat) (s : Seat) (back : List Seat) → Pairwise AreApart (map (λ (x : Seat). x.task.name) (front ++ s ∷ back)) →
-    owner_of (map owned_of (front ++ s ∷ back)) s.task.name ≡ Some s.worker
-owner-here front s back pairs =
-    all-middle (λ (x : Seat). owner_of (map owned_of (front ++ s ∷ back)) x.task.name ≡ Some x.worker) front s back (each-owner (front ++ s ∷ back) pairs)
 
 -- where all owners are live, so is that of a task
 live-owner : (live : List ℕ) (owners : List Owned) (u : TaskName) (w : ℕ) → AllByRecursion (λ (o : Owned). IsTrue (is_live live o.worker)) owners → owner_of owners u ≡ Some w →

@@ -1,23 +1,15 @@
 -- Tasks at their owners, one after another.
-use Rattle.std.proofs.Common.{◌≡◌, ◌∙◌, ap, refl, sym, subst, ℕ, ◌+◌, Bool, false, List, [], ◌∷◌, ◌++◌, length, Bor}
+use Rattle.std.proofs.Common.{◌≡◌, ◌∙◌, ap, refl, sym, subst, ℕ, ◌+◌, Bool, List, [], ◌∷◌, ◌++◌, length}
 use Rattle.std.proofs.lemmas.List.{nil_from_length}
-use Rattle.std.specs.Option.{MatchOption, option_flatten, option_map}
+use Rattle.std.specs.Option.{MatchOption, option_flatten}
 use Rattle.std.specs.Prelude.{if◌then◌else◌, Option, Some, None, is_some, unwrap_or}
 use Rattle.core_state.specs.Routes.{Routes}
 use Rattle.core_state.specs.Shelf.{Shelf}
 use Rattle.core_state.specs.declared.journal.JournalEntry.{JournalEntry}
 use Rattle.topology.specs.declared.topology.Topology.{Topology}
 use Rattle.assignor.specs.declared.assignment.Owned.{Owned}
-use Rattle.cluster_core.specs.Moves.{AllLeave, LeavesOrStays, are_at, is_owner, kept_of, note_anew, seat_anew, seat_notes, seated}
+use Rattle.cluster_core.specs.Moves.{AllLeave, LeavesOrStays, kept_of, note_anew, seat_anew, seat_notes, seated}
 use Rattle.cluster_core.specs.declared.seats.Seat.{Seat}
-
--- whether the next task stays: where the next owner, or none, is its owner
-pub next-stays : (owners left : List Owned) (r : Option (Bor Owned)) (s : Seat) (ss : List Seat) → MatchOption r ((length owners ≡ 0) × (left ≡ owners)) (λ o. owners ≡ o.now ∷ left) →
-    are_at owners (s ∷ ss) ≡ is_owner (option_map (λ (o : Bor Owned). o.now) r) s.worker ∷ are_at left ss
-next-stays owners left None s ss h =
-    let none : owners ≡ [] = nil_from_length owners h.0 in
-    ap (λ (os : List Owned). are_at os (s ∷ ss)) none ∙ ap (λ (os : List Owned). false ∷ are_at os ss) (sym (h.1 ∙ none))
-next-stays owners left (Some o) s ss h = ap (λ (os : List Owned). are_at os (s ∷ ss)) h
 
 -- where as many are to stay or leave as there are tasks, and no task is left, nothing is left
 pub none-kept : (stays : List Bool) (seats : List Seat) → length seats ≡ 0 → length stays ≡ length seats → kept_of stays seats ≡ []

@@ -7,13 +7,11 @@ use Rattle.std.proofs.lemmas.List.Elements.{recursion_from_All}
 use Rattle.ksql_types.specs.declared.relation.Relation.{Relation}
 use Rattle.ksql_place.specs.declared.change.SourceRecord.{SourceRecord}
 use Rattle.ksql_program.specs.declared.program.Item.{Item}
-use Rattle.ksql_program.specs.declared.program.Item.TheVariants.{Declared, Started}
-use Rattle.ksql_program.specs.declared.query.Query.{Query}
+use Rattle.ksql_program.specs.declared.program.Item.TheVariants.{Declared}
 use Rattle.topic_files.specs.declared.topic.TopicLines.{TopicLines}
 use Rattle.topic_feeds.specs.Reaching.{Reaches}
 use Rattle.topic_feeds.proofs.Feeds.{fed-length}
 use Rattle.feed_laws.specs.Feeds.{Source, after_feed, fed_of, sources_of}
-use Rattle.feed_laws.specs.Fitting.{AreFilesOf}
 use Rattle.cluster_core.specs.Cluster.{IsKept}
 use Rattle.cluster_core.specs.Sourcing.{AreBuilt, CanFeed}
 use Rattle.cluster_core.specs.declared.sources.Source.{Source as Kept}
@@ -28,13 +26,6 @@ zip-append R (x ∷ xs) us (y ∷ ys) vs first second = (first.0, zip-append R x
 
 -- ---- the sources of a program
 
-pub built-none : (items : List Item) (files : List TopicLines) → AreFilesOf items files → AreBuilt items files [] items files
-built-none items files fits = record { before = []; each = tt; whole = refl; fits = fits }
-
-pub built-started : (items : List Item) (files : List TopicLines) (kept : List Kept) (q : Query) (rest : List Item) (left : List TopicLines) →
-    AreBuilt items files kept (Started q ∷ rest) left → AreBuilt items files kept rest left
-built-started items files kept q rest left built = record { before = built.before; each = built.each; whole = built.whole; fits = built.fits }
-
 pub built-declared : (items : List Item) (files : List TopicLines) (kept : List Kept) (r : Relation) (rest : List Item) (file : TopicLines) (left : List TopicLines) (k : Kept) →
     IsKept k (record { relation = r; before = []; left = file.feds }) → AreBuilt items files kept (Declared r ∷ rest) (file ∷ left) → AreBuilt items files (kept ++ k ∷ []) rest left
 built-declared items files kept r rest file left k is built =
@@ -45,9 +36,6 @@ built-declared items files kept r rest file left k is built =
       whole = append_assoc built.before (s ∷ []) (sources_of rest left) ∙ built.whole;
       fits = built.fits.1;
     }
-
-pub built-absurd : (items : List Item) (files : List TopicLines) (kept : List Kept) (r : Relation) (rest : List Item) → AreBuilt items files kept (Declared r ∷ rest) [] → ⊥
-built-absurd items files kept r rest built = built.fits
 
 pub built-all : (items : List Item) (files : List TopicLines) (kept : List Kept) (left : List TopicLines) → AreBuilt items files kept [] left → AllZip IsKept kept (sources_of items files)
 built-all items files kept left built = subst (AllZip IsKept kept) (sym (append-nil built.before) ∙ built.whole) built.each

@@ -1,34 +1,15 @@
 -- A proposal that is applied after a time in which nothing changed.
-use Rattle.std.proofs.Common.{◌≡◌, ◌∙◌, ap, sym, subst, List, [], ◌∷◌, ◌++◌}
-use Rattle.std.specs.Prelude.{IfSome, Option, Some, None, map}
+use Rattle.std.proofs.Common.{◌≡◌, ◌∙◌, ap, sym, subst, List, [], ◌∷◌}
+use Rattle.std.specs.Prelude.{IfSome, Option, Some, None}
 use Rattle.std.specs.List.{AllByRecursion}
-use Rattle.core_state.specs.Routes.{IsWriter, Routes, merged, sent_to}
-use Rattle.core_state.specs.Shelf.{Shelf, ShelfApplies, ShelfStays, shelf_closed}
-use Rattle.core_state.specs.State.{upto}
-use Rattle.core_state.specs.declared.log.LogEntry.TheVariants.{Said}
+use Rattle.core_state.specs.Routes.{Routes}
+use Rattle.core_state.specs.Shelf.{Shelf, ShelfStays}
 use Rattle.core_state.specs.declared.log.Proposal.{Proposal}
 use Rattle.topic_log.specs.Ready.{IsReady}
 use Rattle.topic_log.specs.Shelves.{shelf_of}
 use Rattle.topic_log.specs.declared.prepared.Prepared.{Prepared}
 use Rattle.topic_log.specs.declared.shelves.Shelves.{Shelves}
 use Rattle.cluster_core.specs.Rounds.{CanCommit, ProposeApart, Settles}
-
-pub applies-after : (r : Routes) (p : Proposal) (b mid next : Shelf) → IsWriter r p.task → ShelfStays r b mid → ShelfApplies r p.task p mid next → ShelfApplies r p.task p b next
-applies-after r p b mid next writer stays does = record {
-  fed = does.fed ∙ stays.fed;
-  done = does.done;
-  done_else = λ u of n. does.done_else u of n ∙ stays.done u of;
-  newest = λ u of. does.newest u of ∙ stays.newest u of;
-  logs = does.logs ∙ ap (λ es. es ++ p.entries) (stays.logs p.task writer);
-  logs_else = λ u of n. does.logs_else u of n ∙ stays.logs u of;
-  gathered = does.gathered;
-  own = λ q. does.own q ∙ ap (λ xs. xs ++ sent_to r p.task q p.outputs) (stays.waiting p.task writer q);
-  of_others = λ u of n q. does.of_others u of n q ∙ stays.waiting u of q;
-  waiting = does.waiting;
-  waiting_else = λ u of n q. does.waiting_else u of n q ∙ stays.waiting u of q;
-  shown = λ q. does.shown q ∙ ap (λ xs. xs ++ map Said (merged (map (λ u. upto (shelf_closed r next (r.output p.task)) (does.gathered u q)) (r.writers (r.output p.task))))) (stays.shown (r.output p.task) q);
-  shown_else = λ topic n q. does.shown_else topic n q ∙ stays.shown topic q;
-}
 
 -- what another task proposes can be committed as before
 still-one : (r : Routes) (b next : Shelf) (o q : Option Proposal) → Settles r o b next → IfSome o (λ p. IfSome q (λ p'. p.task ≡ p'.task → ⊥)) → IfSome q (CanCommit r b) → IfSome q (CanCommit r next)

@@ -19,7 +19,7 @@ use Rattle.core_state.specs.Meaning.{Meaning, Means}
 use Rattle.core_state.specs.Routes.{IsWriter}
 use Rattle.core_state.specs.Shelf.{SameElse, Shelf}
 use Rattle.core_state.specs.State as core
-use Rattle.core_state.specs.State.{Instance, IsTask, State, TaskState, bound, closed, feed_of, lowest}
+use Rattle.core_state.specs.State.{IsTask, State, bound, feed_of}
 use Rattle.core_state.specs.declared.log.Proposal.{Proposal}
 use Rattle.storing_laws.specs.Stored.{ResultsRise}
 use Rattle.task_core.specs.Core.{core_of}

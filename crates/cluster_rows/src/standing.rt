@@ -2,8 +2,7 @@
 ghost use Rattle.std.specs.Prelude.{◌≡◌, All, IfOk, map};
 ghost use Rattle.ksql_program.specs.Program.{relation_of, relations};
 ghost use Rattle.core_state.specs.Routes.{IsWriter};
-ghost use Rattle.core_state.specs.Shelf.{shelf_closed};
-ghost use Rattle.topic_log.specs.Shelves.{routes_in, shelf_of};
+ghost use Rattle.topic_log.specs.Shelves.{routes_in};
 ghost use Rattle.run_text.specs.Shown.{HasTopicOf};
 ghost use Rattle.cluster_rows.specs.Runs.{closed_at, standing_at};
 

@@ -3,7 +3,7 @@ use Rattle.std.proofs.Common.{◌≡◌, ◌∙◌, refl, sym, subst, ℕ, ◌<�
 use Rattle.std.proofs.lemmas.Bool.{eqb-true, lt-ltb, ltb-true}
 use Rattle.std.proofs.lemmas.Bool.Decides.{nat_tests}
 use Rattle.std.proofs.lemmas.List.Elements.{All-from_recursion, All-nil}
-use Rattle.std.specs.Prelude.{◌⊎◌, ◌==◌, ◌^◌, ◌&&◌, ◌||◌, not, All, IsTrue, Option, Some, None, is_none, nat_lt, option_map, slice_get, take, unwrap_or}
+use Rattle.std.specs.Prelude.{◌⊎◌, ◌==◌, ◌^◌, ◌&&◌, ◌||◌, not, All, IsTrue, Option, Some, None, nat_lt, option_map, slice_get, take, unwrap_or}
 use Rattle.std.specs.List.{AllByRecursion}
 use Rattle.ksql_types.specs.declared.relation.Kind.{Kind}
 use Rattle.ksql_types.specs.declared.relation.Kind.TheVariants as kind

@@ -1,14 +1,9 @@
 -- A stream's change and its join key.
-use Rattle.std.proofs.Common.{◌≡◌, refl, List, [], ◌∷◌}
-use Rattle.std.specs.Prelude.{None, Some, slice_get}
+use Rattle.std.proofs.Common.{◌≡◌, List, [], ◌∷◌}
+use Rattle.std.specs.Prelude.{Some, slice_get}
 use Rattle.ksql_types.specs.declared.value.Value.{Value}
 use Rattle.ksql_place.specs.declared.change.Change.{Change}
 use Rattle.ksql_nodes.specs.Joins.{rekeyed}
-
--- a change has at most one join key
-pub keyed-none : (key : List Value) (c : Change) → slice_get (rekeyed key c) 0 ≡ None → rekeyed key c ≡ []
-keyed-none [] c first = refl
-keyed-none (k ∷ ks) c first = cc
 
 pub keyed-one : (key : List Value) (c keyed : Change) → slice_get (rekeyed key c) 0 ≡ Some keyed → rekeyed key c ≡ keyed ∷ []
 keyed-one [] c keyed first = cc

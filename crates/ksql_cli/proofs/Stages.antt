@@ -12,7 +12,7 @@ use Rattle.ksql_cli.specs.declared.status.Status.{Status}
 use Rattle.ksql_cli.specs.declared.status.Status.TheVariants as ended
 use Rattle.ksql_cli.specs.Command.{AreRead, Files, IsProgramRead, IsTopicDue, RunCause, whole_room}
 use Rattle.ksql_cli.specs.Run.{declared_of}
-use Rattle.ksql_cli.specs.Stages.{AreDueIn, IsExpected, IsRunDue, IsScheduleFailure, IsScriptFailure}
+use Rattle.ksql_cli.specs.Stages.{AreDueIn, IsExpected, IsRunDue, IsScheduleFailure}
 use Rattle.ksql_cli.specs.Steps.{AreTopicsDue, HasGrown, IsJoined, IsTopicFailure}
 
 -- ---- what is known of the files
@@ -36,10 +36,6 @@ as-they-were P known later same p = subst (λ (o : Option Files). IfSome o P) sa
 pub may-grow : (old new : List (List ℕ)) (name : List ℕ) → MayJoin old new name → HasGrown old new
 may-grow old new name (inl same) = ([], same ∙ sym (append-nil old))
 may-grow old new name (inr joined) = (name ∷ [], joined)
-
-pub expected-grow : (o : Option (List ℕ)) (old new : List (List ℕ)) → IsExpected o old new → HasGrown old new
-expected-grow None old new same = ([], same ∙ sym (append-nil old))
-expected-grow (Some name) old new joined = may-grow old new name joined
 
 pub grown-both : (old mid new : List (List ℕ)) → HasGrown old mid → HasGrown mid new → HasGrown old new
 grown-both old mid new first then = (first.0 ++ then.0, then.1 ∙ ap (λ (names : List (List ℕ)). names ++ then.0) first.1 ∙ append_assoc old first.0 then.0)
@@ -71,9 +67,6 @@ due-both a all old mid new first then = (
   All-append (IsRunDue a all) first.0 then.0 first.2 then.2,
 )
 
-pub due-none : (a : Asked) (all : Files) (old : List (List ℕ)) → AreDueIn a all old old
-due-none a all old = ([], sym (append-nil old), tt)
-
 pub due-script : (a : Asked) (all : Files) (old new : List (List ℕ)) → MayJoin old new a.script → AreDueIn a all old new
 due-script a all old new (inl same) = ([], same ∙ sym (append-nil old), tt)
 due-script a all old new (inr joined) = (a.script ∷ [], joined, (inl refl, tt))
@@ -97,16 +90,6 @@ due-schedule a all program files old new read expected = by a.schedule refl expe
     by (Some name) is (inr joined) = (name ∷ [], joined, (inr (inr (program, files, read, is)), tt))
 
 -- ---- the causes
-
-pub cause-script : (a : Asked) (all : Files) (old new : List (List ℕ)) (status : Status) → IsScriptFailure a.script all old new status → RunCause a all old new status
-cause-script a all old new (ended.Script statement code) refused = refused
-cause-script a all old new (ended.ReadFault name) failed = inl failed
-cause-script a all old new ended.OutOfMemory failed = tt
-cause-script a all old new ended.Done failed = absurd failed
-cause-script a all old new ended.Usage failed = absurd failed
-cause-script a all old new (ended.TopicFile topic line why) failed = absurd failed
-cause-script a all old new (ended.Schedule line why) failed = absurd failed
-cause-script a all old new ended.WriteFault failed = absurd failed
 
 pub cause-topics : (a : Asked) (all : Files) (program : Program) (old mid new : List (List ℕ)) (status : Status) → HasGrown old mid → IsProgramRead a.script all program →
     IsTopicFailure a.topics all whole_room (declared_of program.items) mid new status → RunCause a all old new status

@@ -2,14 +2,13 @@
 use Rattle.std.proofs.Common.{◌≡◌, ◌∙◌, ap, sym, refl, subst, ℕ, ◌-◌, List, [], ◌∷◌, ◌++◌, append_assoc, inl, inr, length, take, drop, arith}
 use Rattle.std.specs.Prelude.{◌≤◌, All, Option, None, Some, IfSome, Result, Ok, Err, IfOk, IfErr, slice_index_or}
 use Rattle.std.specs.List.{AllByRecursion}
-use Rattle.std.proofs.lemmas.List.{append-nil, take_all}
+use Rattle.std.proofs.lemmas.List.{take_all}
 use Rattle.std.proofs.lemmas.List.Elements.{All-rest}
 use Rattle.ksql_types.specs.declared.relation.Relation.{Relation}
 use Rattle.ksql_outside.specs.Outside.{JoinedLast, MayJoin}
 use Rattle.ksql_program.specs.declared.program.Item.{Item}
 use Rattle.ksql_program.specs.declared.program.Item.TheVariants.{Declared, Started}
 use Rattle.ksql_program.specs.declared.query.Query.{Query}
-use Rattle.feed_laws.specs.Fitting.{AreFilesOf, IsFedOf}
 use Rattle.topic_files.specs.declared.topic.Room.{Room}
 use Rattle.topic_files.specs.declared.topic.TopicLines.{TopicLines}
 use Rattle.topic_files.specs.File.{topic_lines}
@@ -65,14 +64,6 @@ all_found dir (Ok a) items (Some all) later room left relation rest relations be
 
 -- ---- the records fit
 
--- files that fit some items, after others
-abbrev FitAfter : List Item → List TopicLines → List TopicLines → Type 0
-FitAfter items before after = (files : List TopicLines) × AreFilesOf items files × (after ≡ before ++ files)
-
--- a file that fits a relation, after others
-abbrev OneFits : Relation → List TopicLines → List TopicLines → Type 0
-OneFits relation before middle = (file : TopicLines) × All (IsFedOf relation) file.feds × (middle ≡ before ++ file ∷ [])
-
 -- the first of some items, and those after it
 pub items_first : (items : List Item) (item : Item) → 1 ≤ length items → item ≡ slice_index_or items 0 item → items ≡ item ∷ rest_of items
 items_first [] item some first = absurd (omega (arith, some))
@@ -84,31 +75,6 @@ pub declared_later : (items : List Item) (item : Item) (query : Query) → 1 ≤
     → declared_of items ≡ declared_of (rest_of items)
 declared_later items item query some first is =
     ap declared_of (items_first items item some first ∙ ap (λ (x : Item). x ∷ rest_of items) is)
-
-pub none_fit : (items : List Item) (before : List TopicLines) → length items ≡ 0 → FitAfter items before before
-none_fit [] before none = ([], tt, sym (append-nil before))
-none_fit (i ∷ items) before none = absurd (omega (arith, none))
-
-pub started_fit : {A : Type 0} (result : Result A Status) (files : A → List TopicLines) (items rest : List Item) (query : Query) (before : List TopicLines) →
-    items ≡ Started query ∷ rest → IfOk result (λ a. FitAfter rest before (files a)) → IfOk result (λ a. FitAfter items before (files a))
-started_fit (Err e) files items rest query before first fit = tt
-started_fit (Ok a) files items rest query before first fit = subst (λ (is : List Item). FitAfter is before (files a)) (sym first) fit
-
-pub declared_fit : {A : Type 0} (result : Result A Status) (files : A → List TopicLines) (items rest : List Item) (relation : Relation) (before middle : List TopicLines) →
-    items ≡ Declared relation ∷ rest → OneFits relation before middle → IfOk result (λ a. FitAfter rest middle (files a)) → IfOk result (λ a. FitAfter items before (files a))
-declared_fit (Err e) files items rest relation before middle first one fit = tt
-declared_fit (Ok a) files items rest relation before middle first one fit =
-    subst (λ (is : List Item). FitAfter is before (files a)) (sym first) (
-      one.0 ∷ fit.0,
-      (one.1, fit.1),
-      fit.2 ∙ ap (λ (fs : List TopicLines). fs ++ fit.0) one.2 ∙ append_assoc before (one.0 ∷ []) fit.0,
-    )
-
--- where there were none before, these are the files of the items
-pub fit_whole : (items all : List Item) (before read : List TopicLines) → items ≡ all → before ≡ [] → FitAfter items before read → AreFilesOf all read
-fit_whole items all before read same none fit =
-    subst (λ (is : List Item). AreFilesOf is read) same
-    (subst (AreFilesOf items) (sym (fit.2 ∙ ap (λ (fs : List TopicLines). fs ++ fit.0) none)) fit.1)
 
 -- ---- the names that joined
 

@@ -1,4 +1,4 @@
-ghost use Rattle.std.specs.Prelude.{◌≡◌, IfOk, List, ℕ};
+ghost use Rattle.std.specs.Prelude.{◌≡◌, IfOk, ℕ};
 ghost use Rattle.std.specs.declared.result.Result.TheVariants.{Err};
 ghost use Rattle.ksql_types.specs.declared.code.Code.{Code as OneCode};
 ghost use Rattle.ksql_program.specs.declared.program.Program.{Program as OneProgram};

@@ -116,21 +116,8 @@ laned-stream-join n kind on l r es keyed =
 
 -- ---- keys
 
-pub filter-keyed : (n : ℕ) (on : Typed) (es : List Entry) → AllByRecursion HasKey es → AllByRecursion HasKey (from_side 0 (results (gives n (Filter on)) [] es))
-filter-keyed n on = kept-keyed n (Filter on) tt
-
-pub having-keyed : (n : ℕ) (on : Typed) (es : List Entry) → AllByRecursion HasKey es → AllByRecursion HasKey (from_side 0 (results (gives n (Having on)) [] es))
-having-keyed n on = kept-keyed n (Having on) tt
-
 pub table-keyed : (n number : ℕ) (es : List Entry) → AllByRecursion HasKey es → AllByRecursion HasKey (from_side 0 (results (gives n (Table number)) [] es))
 table-keyed n number = kept-keyed n (Table number) tt
-
-pub aggregate-keyed : (n : ℕ) (over : Kind) (aggs : List Agg) (w : Option Window) (es : List Entry) → AllByRecursion HasKey es →
-    AllByRecursion HasKey (from_side 0 (results (gives n (Aggregate over aggs w)) [] es))
-aggregate-keyed n over aggs w = kept-keyed n (Aggregate over aggs w) tt
-
-pub table-join-keyed : (n : ℕ) (kind : JoinKind) (l r : Side) (es : List Entry) → AllByRecursion HasKey es → AllByRecursion HasKey (from_side 0 (results (gives n (JoinTables kind l r)) [] es))
-table-join-keyed n kind l r = kept-keyed n (JoinTables kind l r) tt
 
 -- a grouping by at least one expression gives keys
 some-groups : (key : Typed) (keys : List Typed) (c : Change) → HasGroups IsKeyed (key ∷ keys) c

@@ -1,5 +1,5 @@
 //! Steps that look at each row by itself.
-ghost use Rattle.std.specs.Prelude.{◌≡◌, ◌∷◌, ◌++◌, [], if◌then◌else◌, None, Some, IfOk, OnErr, OnOk, map, replicate, option_and_then, option_map};
+ghost use Rattle.std.specs.Prelude.{◌≡◌, ◌++◌, [], if◌then◌else◌, None, Some, IfOk, OnErr, OnOk, map, replicate, option_and_then, option_map};
 ghost use Rattle.std.specs.Option.{option_to_list};
 ghost use Rattle.ksql_types.specs.declared.value.Value.TheVariants as value;
 ghost use Rattle.ksql_place.specs.declared.change.Change.{Change as OneChange};

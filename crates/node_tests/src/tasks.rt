@@ -1,4 +1,4 @@
-ghost use Rattle.std.specs.Prelude.{◌≡◌, ℕ, ◌<◌, ◌≤◌, ◌^◌, [], ◌∷◌, List, All, IfOk, IsSome, OnOk, length, map};
+ghost use Rattle.std.specs.Prelude.{◌≡◌, ◌<◌, ◌≤◌, ◌^◌, [], ◌∷◌, List, All, IfOk, IsSome, OnOk, length, map};
 ghost use Rattle.ksql_place.specs.Ascending.{Rises};
 ghost use Rattle.ksql_place.specs.Order.{record_cmp};
 ghost use Rattle.ksql_place.specs.declared.change.SourceRecord.{SourceRecord as OneRecord};

@@ -98,36 +98,12 @@ pub replayed-after : (nodes : List Node) (us vs : List StoreEntry) → replayed_
 replayed-after [] us vs = refl
 replayed-after (n ∷ ns) us vs = ap₂ (λ (m : Maps) (ms : List Maps). m ∷ ms) (sym (replayed-append n no_maps us vs)) (replayed-after ns us vs)
 
--- logs that make the same of the stores do so with more after them
-pub replayed-on : (nodes : List Node) (us vs more : List StoreEntry) → maps_after nodes us ≡ maps_after nodes vs → maps_after nodes (us ++ more) ≡ maps_after nodes (vs ++ more)
-replayed-on nodes us vs more same =
-    sym (replayed-after nodes us more) ∙ ap (λ (ms : List Maps). replayed_along nodes ms more) same ∙ replayed-after nodes vs more
-
--- a log that brings a replay from the old stores to the new ones does so after every log that made the old ones
-pub replays-after : (nodes : List Node) (old new : List Maps) (entries : List StoreEntry) → replayed_along nodes old entries ≡ new →
-    (logs : List StoreEntry) → maps_after nodes logs ≡ old → maps_after nodes (logs ++ entries) ≡ new
-replays-after nodes old new entries replays logs are =
-    sym (replayed-after nodes logs entries) ∙ ap (λ (ms : List Maps). replayed_along nodes ms entries) are ∙ replays
-
 -- the maps at the last commit are those of which nothing was written since
 pub bases-committed : (maps : List Maps) → AllZip IsBaseOf maps (map committed maps)
 bases-committed [] = tt
 bases-committed (m ∷ maps) = (record { left = refl; right = refl; aggregate = refl; windows = refl; time = omega arith }, bases-committed maps)
 
 -- ---- before any entry
-
--- an empty log leaves the stores empty
-pub replayed-none : (node : Node) → replayed node no_maps [] ≡ no_maps
-replayed-none (Rekey key) = refl
-replayed-none (Table relation) = refl
-replayed-none (JoinStreamTable kind on left right) = refl
-replayed-none (JoinTables kind left right) = refl
-replayed-none (Filter on) = refl
-replayed-none (Group keys) = refl
-replayed-none (Aggregate over aggs None) = refl
-replayed-none (Aggregate over aggs (Some w)) = refl
-replayed-none (Having on) = refl
-replayed-none (Select keys values) = refl
 
 pub stands-none : (node : Node) → StandsFor node (committed (replayed node no_maps [])) []
 stands-none (Rekey key) = record { spelled = tt; exact = holds-none }

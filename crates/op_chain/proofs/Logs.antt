@@ -216,10 +216,6 @@ recursion-append : {X : Type 0} (P : X → Type 0) (xs ys : List X) → AllByRec
 recursion-append P [] ys hx hy = hy
 recursion-append P (x ∷ xs) ys hx hy = (hx.0, recursion-append P xs ys hx.1 hy)
 
--- the log of no nodes
-pub log-none : IsLogOf [] [] []
-log-none = record { replays = λ bases h. refl; loads = All-nil (MayLoad []); own = All-nil _ }
-
 -- the log of a node, and then that of the later ones, is the log of all
 pub log-more : (n : Node) (ns : List Node) (h : Held) (hs : List Held) (first later : List StoreEntry) → HaveOwnStores (n ∷ ns) →
     ((base : Maps) → IsBaseOf base h → replayed n base first ≡ maps_of h) → IsLoadable n first → IsOwnLog n first → IsLogOf ns hs later → IsLogOf (n ∷ ns) (h ∷ hs) (first ++ later)

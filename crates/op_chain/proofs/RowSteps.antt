@@ -9,8 +9,8 @@ use Rattle.ksql_nodes.proofs.Results.{results-more}
 use Rattle.std.specs.List.{AllZip}
 use Rattle.operator.specs.Holding.{Held, IsBaseOf, Maps, committed, maps_of}
 use Rattle.operator.specs.StandsFor.{StandsFor}
-use Rattle.op_chain.specs.Along.{CanStore, CanTake, StepAlong, Steps}
-use Rattle.op_chain.specs.Chain.{AreStorable, StandAlong, given, passed}
+use Rattle.op_chain.specs.Along.{StepAlong, Steps}
+use Rattle.op_chain.specs.Chain.{StandAlong, given, passed}
 use Rattle.op_chain.proofs.Laws.{passed-append}
 
 -- an operator stands for entries by its maps alone
@@ -38,17 +38,6 @@ steps-more n first held next es e old changes more steps step = λ earlier s.
     )
 
 -- ---- operators in a row
-
-pub can_store-first : (n : Node) (ns : List Node) (h : Held) (hs : List Held) (entries : List Entry) → CanTake (n ∷ ns) (h ∷ hs) entries → CanStore n entries
-can_store-first n ns h hs entries can = can.2.0
-
--- what comes to the later operators can be taken there
-pub can_take-later : (n : Node) (ns : List Node) (h next : Held) (hs : List Held) (entries : List Entry) (changes : List Change) → CanTake (n ∷ ns) (h ∷ hs) entries →
-    Steps n h next entries [] changes → CanTake ns hs (from_side 0 changes)
-can_take-later n ns h next hs entries changes can steps =
-    let earlier : List Entry = can.0 in
-    let came : from_side 0 changes ≡ passed n earlier entries = ap (from_side 0) (steps earlier (stands-held n h earlier can.1.0)).0 in
-    (passed n [] earlier, can.1.1, subst (AreStorable ns (passed n [] earlier)) (sym came) can.2.1)
 
 pub along-none : (entries : List Entry) (old new : List Change) → new ≡ old ++ map (λ e. e.change) entries → StepAlong [] [] [] entries old new
 unfolding given

@@ -1,5 +1,4 @@
 ghost use Rattle.std.specs.Prelude.{◌≡◌, Bool, true, List, [], ◌∷◌, ◌++◌, IfOk, OnOk, OnErr, IsErr};
-ghost use Rattle.ksql_types.specs.declared.relation.StoreEntry.{StoreEntry as OneStoreEntry};
 ghost use Rattle.ksql_place.specs.declared.change.Change.{Change as OneChange};
 ghost use Rattle.ksql_nodes.specs.declared.node.Node.{Node};
 ghost use Rattle.ksql_nodes.specs.Entries.{Entry};

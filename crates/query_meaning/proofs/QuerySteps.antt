@@ -1,7 +1,7 @@
 -- The changes of a query, one step after another.
 use Rattle.std.proofs.Common.{◌≡◌, ◌∙◌, ap, ap₂, sym, refl, subst, ℕ, List, [], ◌∷◌, ◌++◌, map, append_assoc, ◌⊎◌, inl, inr, Result, Ok, Err, ◌<◌, length, get_or, arith}
 use Rattle.std.specs.Prelude.{Option, Some, None, ◌==◌, if◌then◌else◌, IfOk, IsTrue, is_none, option_map, slice_get, unwrap_or}
-use Rattle.std.specs.List.{AllByRecursion, flat_map}
+use Rattle.std.specs.List.{flat_map}
 use Rattle.std.specs.Cmp.{IsTotalOrder}
 use Rattle.std.proofs.lemmas.Cmp.{on_total}
 use Rattle.std.proofs.lemmas.List.{map-append}
@@ -25,7 +25,6 @@ use Rattle.ksql_nodes.specs.declared.node.Node.TheVariants as node
 use Rattle.ksql_nodes.specs.Entries.{Entry, Step, from_side, results, through}
 use Rattle.ksql_nodes.specs.Nodes.{gives}
 use Rattle.ksql_nodes.specs.TableAggregates.{aggregate_of_table}
-use Rattle.node_steps.specs.Steps.{is_run}
 use Rattle.query_meaning.specs.Windowless.{is_windowless_shape}
 use Rattle.query_meaning.specs.Plain.{changes_of, grouping_steps, joined_changes, plain_gives}
 use Rattle.query_meaning.specs.Queries.{after_aggregate, changes_at, entry_cmp, filter_of, join_of, join_over, key_columns, kind_at, leftmost, partitions_at, query_changes, read_entries, shape_steps, side_at, steps_of, whole_changes}
@@ -170,14 +169,6 @@ joined-entries (Ok x) list items lists f k left right on nodes node es is made a
 joined-entries (Err e) list items lists f k left right on nodes node es is made at read h = tt
 
 -- ---- each of these nodes is run
-
-pub filter-run : (on : Option Typed) → AllByRecursion (λ n. IsTrue (is_run n)) (filter_of on)
-filter-run None = tt
-filter-run (Some on) = (refl, tt)
-
-pub after-run : (having : Option Typed) (values : List Typed) → AllByRecursion (λ n. IsTrue (is_run n)) (after_aggregate having values)
-after-run None values = (refl, tt)
-after-run (Some on) values = (refl, (refl, tt))
 
 -- ---- the order of the entries of a join
 

@@ -1,5 +1,5 @@
 //! The changes of queries, from those of the relations that they read.
-ghost use Rattle.std.specs.Prelude.{◌≡◌, ◌∷◌, ◌++◌, [], IfOk, IsTrue, OnOk, length, map};
+ghost use Rattle.std.specs.Prelude.{◌≡◌, ◌++◌, [], IfOk, IsTrue, OnOk, length, map};
 ghost use Rattle.std.specs.List.{flat_map};
 ghost use Rattle.ksql_types.specs.Columns.{columns};
 ghost use Rattle.ksql_place.specs.Ascending.{ascending};

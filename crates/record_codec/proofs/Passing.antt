@@ -13,8 +13,8 @@ use Rattle.ksql_place.specs.declared.change.Body.TheVariants.{Turned}
 use Rattle.ksql_place.specs.declared.change.Change.{Change}
 use Rattle.record_codec.specs.Spelling.{four, eight, text, truth, value, values, optional, stamp, path, span, head, spelling, IsShort, IsSpellable}
 use Rattle.record_codec.specs.Reading.{◌>>=◌, row_at}
-use Rattle.record_codec.specs.Skipping.{past, past_path, past_window, past_text, past_value, past_values, past_key, past_place, past_names, time_at, new_row_at, timed_row}
-use Rattle.record_codec.proofs.Readers.{reads-four, reads-eight}
+use Rattle.record_codec.specs.Skipping.{past, past_path, past_window, past_text, past_value, past_values, past_key, past_place, past_window_and_key, time_at, new_row_at, timed_row}
+use Rattle.record_codec.proofs.Readers.{length-four, length-eight, reads-four, reads-eight}
 use Rattle.record_codec.proofs.Parts.{few, reads-row}
 
 pub no_more : (bytes : List ℕ) → past_values 0 bytes ≡ Some bytes
@@ -29,14 +29,6 @@ one_more (suc n) bytes h =
     rw before refl
 
 -- ---- the lengths of what has one
-
-length-four : (n : ℕ) → length (four n) ≡ 4
-unfolding four
-length-four n = refl
-
-length-eight : (n : ℕ) → length (eight n) ≡ 8
-unfolding eight
-length-eight n = refl
 
 length-stamp : (s : Stamp) → length (stamp s) ≡ 32
 length-stamp s =
@@ -103,8 +95,8 @@ past-place s numbers rest few =
     past-front 34 (head true ++ stamp s) (path numbers ++ rest) (omega (arith, length-append (head true) (stamp s), length-stamp s)) in
     rw front (past-path numbers rest few)
 
-past-names : (o : Option Span) (key : List Value) (rest : List ℕ) → length key < 2 ^ 32 → All IsShort key → past_names (optional span o ++ (values key ++ rest)) ≡ Some rest
-unfolding past_names
+past-names : (o : Option Span) (key : List Value) (rest : List ℕ) → length key < 2 ^ 32 → All IsShort key → past_window_and_key (optional span o ++ (values key ++ rest)) ≡ Some rest
+unfolding past_window_and_key
 past-names o key rest few h = rw (past-window o (values key ++ rest)) (past-key key rest few h)
 
 -- ---- the whole

@@ -163,11 +163,11 @@ reads-taken n = record {
       rw (long, take_at a rest n h.0, drop_at a rest n h.0) refl;
 }
 
-length-four : (n : ℕ) → length (four n) ≡ 4
+pub length-four : (n : ℕ) → length (four n) ≡ 4
 unfolding four
 length-four n = refl
 
-length-eight : (n : ℕ) → length (eight n) ≡ 8
+pub length-eight : (n : ℕ) → length (eight n) ≡ 8
 unfolding eight
 length-eight n = refl
 

@@ -46,12 +46,12 @@ unfoldable pub past_place : List ℕ → Option (List ℕ)
 past_place bytes = past 34 bytes >>= past_path
 
 -- the bytes after a window and a key
-unfoldable pub past_names : List ℕ → Option (List ℕ)
-past_names bytes = past_window bytes >>= past_key
+unfoldable pub past_window_and_key : List ℕ → Option (List ℕ)
+past_window_and_key bytes = past_window bytes >>= past_key
 
 -- the time of a change, and the bytes of its rows
 unfoldable pub time_at : Reader ℕ
-time_at bytes = past_place bytes >>= λ rest. eight_at rest >>= λ time. past_names time.1 >>= λ rows. Some (time.0, rows)
+time_at bytes = past_place bytes >>= λ rest. eight_at rest >>= λ time. past_window_and_key time.1 >>= λ rows. Some (time.0, rows)
 
 -- a row after none
 unfoldable pub new_row_at : Reader (List Value)

@@ -94,9 +94,9 @@ fn past_place(bytes: &[u8]) -> Result<&[u8], ReadError>
     past_path(rest)
 }
 
-#[tactic(auto, unfolding(crate::specs::Skipping::past_names))]
-fn past_names(bytes: &[u8]) -> Result<&[u8], ReadError>
-    ensures { Gives (λ rest. rest.now) result (skip.past_names bytes.now) }
+#[tactic(auto, unfolding(crate::specs::Skipping::past_window_and_key))]
+fn past_window_and_key(bytes: &[u8]) -> Result<&[u8], ReadError>
+    ensures { Gives (λ rest. rest.now) result (skip.past_window_and_key bytes.now) }
 {
     let rest = past_window(bytes)?;
     past_key(rest)
@@ -108,7 +108,7 @@ fn time(bytes: &[u8]) -> Result<(u64, &[u8]), ReadError>
 {
     let rest = past_place(bytes)?;
     let (time, rest) = eight(rest)?;
-    let rows = past_names(rest)?;
+    let rows = past_window_and_key(rest)?;
     Ok((time, rows))
 }
 

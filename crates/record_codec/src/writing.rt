@@ -1,5 +1,5 @@
-ghost use Rattle.std.specs.Prelude.{◌≡◌, ◌<◌, ◌≤◌, ◌^◌, ◌++◌, None, length, OnOk, IfOk, IfSome};
-ghost use Rattle.std.specs.List.{All, flat_map};
+ghost use Rattle.std.specs.Prelude.{◌≡◌, ◌<◌, ◌^◌, ◌++◌, None, length, OnOk, IfOk, IfSome};
+ghost use Rattle.std.specs.List.{All};
 ghost use Rattle.ksql_types.specs.Key.{IsKey};
 ghost use Rattle.ksql_place.specs.declared.change.Body.TheVariants.{Turned};
 ghost use Rattle.record_codec.specs.Spelling as spelled;

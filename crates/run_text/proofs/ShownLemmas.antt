@@ -10,7 +10,6 @@ use Rattle.std.proofs.lemmas.List.Folds.{flat_map-map}
 use Rattle.std.specs.Cmp.{IsTotalOrder, nat_cmp_total, on_total, then_total}
 use Rattle.ksql_types.specs.declared.relation.Relation.{Relation}
 use Rattle.ksql_types.specs.declared.topic.TopicSpec.{TopicSpec}
-use Rattle.ksql_place.specs.Routing.{partitions_of}
 use Rattle.ksql_place.specs.declared.change.Change.{Change}
 use Rattle.ksql_place.specs.declared.change.SourceRecord.{SourceRecord}
 use Rattle.ksql_place.proofs.Orders.{place_total}
@@ -55,9 +54,6 @@ parts-more {A} f n =
 spec-at : (o : Option TopicSpec) (n : ℕ) → IsSomeAnd o (λ t. t.partitions ≡ n) → unwrap_or (option_map (λ (t : TopicSpec). t.partitions) o) 1 ≡ n
 spec-at None n has = absurd has
 spec-at (Some t) n has = has
-
-pub topic-partitions : (s : Shelves) (r : Relation) → HasTopicOf s r → partitions_of (topics_of s) r.number ≡ r.partitions
-topic-partitions s r has = spec-at (slice_get (topics_of s) r.number) r.partitions has
 
 -- a relation's topic is one of the broker's, with as many partitions
 pub topic-inside : (s : Shelves) (r : Relation) → HasTopicOf s r → r.number < length (topics_of s)

@@ -51,10 +51,6 @@ said_to-more kind number (y ∷ ys) x = by (y.stamp.topic == number) (said_to-mo
         ∙ sym (append_assoc (saying kind y) (said_to kind number ys) (said_to kind number (x ∷ [])))
     by false rest = rest
 
--- a record of another topic says nothing
-pub said_to-elsewhere : (kind : Kind) (number : ℕ) (x : SourceRecord) → (x.stamp.topic == number) ≡ false → said_to kind number (x ∷ []) ≡ []
-said_to-elsewhere kind number x other = ap (λ (b : Bool). flat_map (saying kind) (cond b (x ∷ []) [])) other
-
 -- a change that a record makes, with this body
 abbrev pub change_by : SourceRecord → Body → Change
 change_by x body = record { place = record { stamp = x.stamp; path = [] }; time = x.time; key = x.key; span = None; body = body }
@@ -79,13 +75,6 @@ saying-table stamp time (k ∷ ks) (Good row) = refl
 saying-table stamp time (k ∷ ks) Tombstone = refl
 saying-table stamp time (k ∷ ks) Skipped = refl
 
-saying-stream : (stamp : Stamp) (time : ℕ) (key : List Value) (value : Decoded) →
-    let x : SourceRecord = record { stamp = stamp; time = time; key = key; value = value } in
-    saying Stream x ≡ plain x (option_map row_in (said_by Stream key value))
-saying-stream stamp time key (Good row) = refl
-saying-stream stamp time key Tombstone = refl
-saying-stream stamp time key Skipped = refl
-
 -- a record that says a row, or that there is none, brings it
 pub row_brought-said : (kind : Kind) (key : List Value) (value : Decoded) (row : Option Row) →
     Some row ≡ option_map row_in (said_by kind key value) → row_brought value ≡ row
@@ -107,12 +96,6 @@ said_to-table number x said here is =
     ap (λ (b : Bool). flat_map (saying Table) (cond b (x ∷ []) [])) here ∙ append-nil (saying Table x)
     ∙ saying-table x.stamp x.time x.key x.value ∙ ap (raw x) (sym is)
 
-pub said_to-stream : (number : ℕ) (x : SourceRecord) (said : Option (Option Row)) → (x.stamp.topic == number) ≡ true →
-    said ≡ option_map row_in (said_by Stream x.key x.value) → said_to Stream number (x ∷ []) ≡ plain x said
-said_to-stream number x said here is =
-    ap (λ (b : Bool). flat_map (saying Stream) (cond b (x ∷ []) [])) here ∙ append-nil (saying Stream x)
-    ∙ saying-stream x.stamp x.time x.key x.value ∙ ap (plain x) (sym is)
-
 -- no record says anything to a windowed table
 silent : (xs : List SourceRecord) → flat_map (saying Windowed) xs ≡ []
 silent [] = refl
@@ -126,12 +109,6 @@ said_to-windowed number order = silent (filter (λ r. r.stamp.topic == number) o
 changes_by-results : (number : ℕ) (order : List SourceRecord) →
     changes_by Table number order ≡ results (gives 1 (node.Table number)) [] (from_side 0 (said_to Table number order))
 changes_by-results number order = changed-from-side (results (gives 1 (node.Table number)) [] (from_side 0 (said_to Table number order)))
-
--- a record that says nothing
-pub table-same : (number : ℕ) (before : List SourceRecord) (x : SourceRecord) → said_to Table number (x ∷ []) ≡ [] →
-    said_to Table number (before ++ x ∷ []) ≡ said_to Table number before
-table-same number before x none =
-    said_to-more Table number before x ∙ ap (λ (cs : List Change). said_to Table number before ++ cs) none ∙ append-nil (said_to Table number before)
 
 -- the entries of what is said, where a record says one thing more
 pub entries-more : (number : ℕ) (before : List SourceRecord) (x : SourceRecord) (c : Change) → said_to Table number (x ∷ []) ≡ c ∷ [] →

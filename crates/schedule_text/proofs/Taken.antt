@@ -1,5 +1,5 @@
 -- A schedule that is read has no step in which a worker stalls or wakes.
-use Rattle.std.proofs.Common.{◌≡◌, ap, refl, subst, ℕ, Bool, true, false, cond, List, [], ◌∷◌, ◌++◌, ◌+◌, length}
+use Rattle.std.proofs.Common.{◌≡◌, subst, ℕ, Bool, true, false, cond, List, [], ◌∷◌, ◌++◌, ◌+◌, length}
 use Rattle.std.specs.Prelude.{All, IfOk, IfSome, Option, None, Some, Result, Ok, Err, ◌==◌, nat_le, nat_lt, min}
 use Rattle.std.specs.List.{AllByRecursion}
 use Rattle.std.proofs.lemmas.List.Elements.{All-from_recursion}
@@ -15,7 +15,7 @@ use Rattle.schedule_text.specs.Forms as form
 use Rattle.schedule_text.specs.Lines.{is_skipped}
 use Rattle.topic_files.specs.Lines.{lines_of}
 use Rattle.schedule_text.specs.Schedules.{IsSteady, after_line, then_read, lined, lines_from, schedule_of, setting_of}
-use Rattle.schedule_text.specs.Standing.{Setting, counts_of, feed_of, first, is_live, is_task, most_bytes, most_rounds, most_steps, most_workers, passed, read_form, read_line, read_short, rounds_of, step_of, take_step}
+use Rattle.schedule_text.specs.Standing.{Setting, counts_of, feed_of, first, is_live, is_task, most_bytes, most_rounds, most_steps, most_workers, passed, read_form, read_line, rounds_of, step_of, take_step}
 
 -- each answer but a refusal is such a step, also where a test decides
 either : {A B : Type 0} (P : A → Type 0) (b : Bool) (x y : Result A B) → IfOk x P → IfOk y P → IfOk (cond b x y) P

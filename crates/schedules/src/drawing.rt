@@ -1,5 +1,5 @@
 //! Schedules drawn at random.
-ghost use Rattle.std.specs.Prelude.{All, IfOk, ◌<◌, ◌≤◌};
+ghost use Rattle.std.specs.Prelude.{All, IfOk, ◌<◌};
 ghost use Rattle.cluster_core.specs.Cluster.{IsBuilt};
 
 use crate::random::Random;

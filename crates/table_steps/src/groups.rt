@@ -1,6 +1,6 @@
 //! What aggregates of tables give for the entries of a table.
 ghost use Rattle.std.specs.Prelude.{◌≡◌, ◌∷◌, ◌++◌, [], IfOk, OnOk, filter, map, not, option_map};
-ghost use Rattle.ksql_nodes.specs.Aggregates.{arguments, dated, entered};
+ghost use Rattle.ksql_nodes.specs.Aggregates.{arguments, dated};
 ghost use Rattle.ksql_nodes.specs.Entries.{is_same_key, results};
 ghost use Rattle.ksql_nodes.specs.Groups.{grouped};
 ghost use Rattle.ksql_nodes.specs.TableAggregates.{aggregate_of_table};

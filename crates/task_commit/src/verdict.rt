@@ -1,4 +1,4 @@
-ghost use Rattle.std.specs.Prelude.{◌≡◌, ◌↔◌, ◌+◌, ◌<◌, ◌≤◌, ◌^◌};
+ghost use Rattle.std.specs.Prelude.{◌≡◌, ◌+◌, ◌<◌, ◌≤◌, ◌^◌};
 ghost use Rattle.core_state.specs.declared.log.Proposal.{Proposal as OneProposal};
 ghost use Rattle.core_state.specs.Routes.{IsWriter};
 ghost use Rattle.core_state.specs.Shelf.{ShelfApplies, ShelfRaises};

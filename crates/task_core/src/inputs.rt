@@ -1,5 +1,5 @@
 //! The inputs of a task: up to which feed they are closed, and what they show in some feeds.
-ghost use Rattle.std.specs.Prelude.{◌≡◌, ◌<◌, ◌≤◌, [], ℕ, List, All, IsSome, length, map};
+ghost use Rattle.std.specs.Prelude.{◌≡◌, ◌<◌, ◌≤◌, [], List, All, IsSome, length, map};
 ghost use Rattle.ksql_nodes.specs.declared.node.Node.{Node as OneNode};
 ghost use Rattle.core_state.specs.Shelf.{shelf_closed};
 ghost use Rattle.core_state.specs.State.{lowest};

@@ -1,12 +1,12 @@
 -- Lemmas on the fields of a row: as values of columns, as whole numbers and as truth values.
-use Rattle.std.proofs.Common.{◌≡◌, ◌≢◌, ℕ, ◌+◌, ◌^◌, ◌<◌, ◌≤◌, zero, suc, List, [], ◌∷◌, ◌++◌, length, map, get_or, drop, Bool, true, false, cond, ◌==◌, ◌&&◌, ◌↔◌, IsTrue, nat_lt, nat_le, Result, Ok, Err, Option, Some, None, option_map, option_and_then, refl, sym, ap, ap₂, ◌∙◌, inl, inr, arith, add-one, append_assoc, append-nil, lt-ltb, ltb-true, le-ltb, le-leb, leb-true}
+use Rattle.std.proofs.Common.{◌≡◌, ◌≢◌, ℕ, ◌+◌, ◌^◌, ◌<◌, ◌≤◌, zero, suc, List, [], ◌∷◌, ◌++◌, length, map, get_or, drop, Bool, true, false, cond, ◌==◌, ◌&&◌, ◌↔◌, IsTrue, nat_lt, nat_le, Result, Ok, Err, Option, Some, None, option_map, option_and_then, refl, sym, ap, ap₂, ◌∙◌, inl, inr, arith, add-one, append_assoc, append-nil, lt-ltb, ltb-true, le-leb, leb-true}
 use Rattle.std.specs.Prelude.{ℤ, pos, negsuc, FitsSigned, slice_index}
 use Rattle.std.specs.Int.{w64}
 use Rattle.std.specs.Char.{is_ascii_digit, to_ascii_lowercase}
 use Rattle.std.specs.List.{list_all}
 use Rattle.std.specs.Result.{result_ok}
 use Rattle.std.specs.Str.Parse.{AllDigits, IsNumeral, ParsesSigned, signed_digits_value, without_leading_sign}
-use Rattle.std.proofs.lemmas.Bool.{and_parts, and_from, cases_Bool, cases_lt, cond-true, cond-false, eqb-true, false_from_ne_true}
+use Rattle.std.proofs.lemmas.Bool.{and_parts, and_from, cases_Bool, cond-true, cond-false, eqb-true, false_from_ne_true}
 use Rattle.std.proofs.lemmas.List.{drop_all, drop_more}
 use Rattle.std.proofs.lemmas.Str.{digit_value_digit}
 use Rattle.std.proofs.lemmas.Str.Parse.{digit_from_value}
@@ -14,7 +14,7 @@ use Rattle.csv.specs.Records.{field_at}
 use Rattle.ksql_types.specs.declared.relation.Column.{Column}
 use Rattle.ksql_types.specs.declared.value.Value.{Value}
 use Rattle.ksql_expr.specs.Value.{are_digits}
-use Rattle.topic_files.specs.Cells.{as_int, is_like}
+use Rattle.topic_files.specs.Cells.{is_like}
 use Rattle.topic_files.specs.Delimited.{as_big, field_value, row_of, whole, without_minus}
 use Rattle.topic_files.proofs.Members.{is_like-is}
 
@@ -80,22 +80,6 @@ whole-parsed field (Err e) none parsed = elim (cases_Bool (are_digits (without_m
       let is = cond-true (are_digits (without_minus field)) (Some (signed_digits_value 10 field)) None digits in
       sym (ap (option_and_then as_big) is ∙ as_big-passes _ (λ fits. parsed (numeral, fits)))
   | inr others ↦ sym (ap (option_and_then as_big) (cond-false (are_digits (without_minus field)) (Some (signed_digits_value 10 field)) None others))
-]
-
--- a number of 32 bits is one of 64 bits
-pub as_int-as_big : (o : Option ℤ) → option_and_then as_int (option_and_then as_big o) ≡ option_and_then as_int o
-as_int-as_big None = refl
-as_int-as_big (Some (pos n)) = elim (cases_lt n (2 ^ 63)) [
-  | inl below ↦ ap (option_and_then as_int) (cond-true (nat_lt n (2 ^ 63)) (Some (pos n)) None (lt-ltb n (2 ^ 63) below))
-  | inr above ↦
-      ap (option_and_then as_int) (cond-false (nat_lt n (2 ^ 63)) (Some (pos n)) None (le-ltb n (2 ^ 63) above))
-      ∙ sym (cond-false (nat_lt n (2 ^ 31)) (Some (pos n)) None (le-ltb n (2 ^ 31) (omega arith)))
-]
-as_int-as_big (Some (negsuc n)) = elim (cases_lt n (2 ^ 63)) [
-  | inl below ↦ ap (option_and_then as_int) (cond-true (nat_lt n (2 ^ 63)) (Some (negsuc n)) None (lt-ltb n (2 ^ 63) below))
-  | inr above ↦
-      ap (option_and_then as_int) (cond-false (nat_lt n (2 ^ 63)) (Some (negsuc n)) None (le-ltb n (2 ^ 63) above))
-      ∙ sym (cond-false (nat_lt n (2 ^ 31)) (Some (negsuc n)) None (le-ltb n (2 ^ 31) (omega arith)))
 ]
 
 -- ---- truth values

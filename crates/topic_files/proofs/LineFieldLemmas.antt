@@ -8,7 +8,7 @@ use Rattle.json.specs.Reads.{token_of}
 use Rattle.json.specs.declared.token.Token.{Token as Read}
 use Rattle.json.specs.Json as json
 use Rattle.json.specs.Json.{Parse, if_last, items, members, parse_map, read_key, value}
-use Rattle.json.proofs.Grammar.{value-begin_array, value-begin_object, value_is}
+use Rattle.json.proofs.Grammar.{value_is}
 use Rattle.serde_json.specs.Data.{Data, Items, Members, Num, array, boolean, no_members, null, number, object, put, string}
 use Rattle.serde_json.specs.Find.{get_member}
 use Rattle.serde_json.specs.Read.{converted, number_of, of_items, of_json, of_members, read}
@@ -28,10 +28,6 @@ get_member-after name own d ms = by_test (bytes_eq name own) refl
     by_test : (b : Bool) → bytes_eq name own ≡ b → get_member own (put name d ms) ≡ cond b (Some d) (get_member own ms)
     by_test true e = let same : name ≡ own = (bytes_eq-Decides name own).0 e in ap (λ k. get_member own (put k d ms)) same ∙ get_member-put own d ms
     by_test false e = get_member-put_other own name d ms (λ same. true≢false (sym ((bytes_eq-Decides name own).1 (sym same)) ∙ e))
-
--- a name that is this one is no other
-pub is_no_other : (name one other : List ℕ) → bytes_eq one other ≡ false → bytes_eq name one ≡ true → bytes_eq name other ≡ false
-is_no_other name one other unlike same = ap (λ n. bytes_eq n other) ((bytes_eq-Decides name one).0 same) ∙ unlike
 
 -- of all tokens of an object's members some have been read, with these fields, and these tokens are left
 pub record FieldsRead (p : Parse json.Json) (all : List Token) (fields : Fields) (left : List Token) : Type 0 where

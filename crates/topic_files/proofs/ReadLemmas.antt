@@ -1,5 +1,5 @@
 -- The items of an array and the members of an object, read one after another.
-use Rattle.std.proofs.Common.{◌≡◌, ℕ, zero, suc, ◌-◌, ◌<◌, ◌≤◌, List, [], ◌∷◌, ◌++◌, length, Option, Some, None, option_map, refl, sym, ap, ◌∙◌, arith}
+use Rattle.std.proofs.Common.{◌≡◌, ℕ, zero, suc, ◌-◌, ◌<◌, ◌≤◌, List, [], ◌∷◌, ◌++◌, length, Option, Some, None, option_map, refl, ap, ◌∙◌, arith}
 use Rattle.json.specs.Token.{Token}
 use Rattle.json.specs.Json as json
 use Rattle.json.specs.Json.{Parse, after_end_array, items, members, parse_map, read_key}
@@ -57,19 +57,12 @@ one_more_item : (vs : List Json) (v : Json) (r : Option (Items × List Token)) �
 one_more_item vs v None = refl
 one_more_item vs v (Some p) = ap (λ ds. Some (ds, p.1)) (items_before-push vs v p.0)
 
-no_items_before : (r : Option (Items × List Token)) → r ≡ parse_map (items_before []) r
-no_items_before None = refl
-no_items_before (Some p) = refl
-
 -- of all tokens of an array these items have been read, and these tokens are left
 pub record ItemsRead (p : Parse json.Json) (all : List Token) (found : List Json) (left : List Token) : Type 0 where
   pub turns : ℕ
   pub enough : length left ≤ turns
   pub same : converted of_items (items p (length all) all) ≡ parse_map (items_before found) (converted of_items (items p turns left))
   pub shorter : length left ≤ length all
-
-pub no_items_read : (p : Parse json.Json) (all : List Token) → ItemsRead p all [] all
-no_items_read p all = record { turns = length all; enough = omega arith; same = no_items_before _; shorter = omega arith }
 
 module _ (p : Parse json.Json) (all : List Token) (found : List Json) (left : List Token) (so_far : ItemsRead p all found left) where
   pub one_item_read : (v : Json) (rest : List Token) → after_end_array left ≡ None → Some (view v, rest) ≡ converted of_json (p left) → length rest < length left

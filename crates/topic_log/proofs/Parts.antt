@@ -2,8 +2,8 @@
 use Rattle.std.proofs.Common.{◌≡◌, ◌∙◌, ap, sym, refl, subst, ℕ, List, [], ◌∷◌, ◌++◌, ◌+◌, ◌<◌, ◌≤◌, length, get_or, set, take, arith, Some, inl, inr, ◌⊎◌}
 use Rattle.std.specs.Prelude.{slice_get}
 use Rattle.std.specs.Global.{Vec}
-use Rattle.std.proofs.lemmas.List.{get_or-set_other, length-take-le, length-set, length_push, same_from_push, take_all, take_more}
-use Rattle.std.proofs.lemmas.Option.{get_or_from_slice_get, same_Some, slice_get_read, slice_get_within}
+use Rattle.std.proofs.lemmas.List.{get_or-set_other, length-take-le, length-set, length_push, same_from_push, take_more}
+use Rattle.std.proofs.lemmas.Option.{get_or_from_slice_get, same_Some, slice_get_read}
 use Rattle.ksql_place.specs.declared.change.Change.{Change}
 use Rattle.topic_log.proofs.OneTopic.{slice_get-set_else, slice_get-set_same}
 use Rattle.topic_log.specs.Commits.{EachCommits, PartCommits}
@@ -18,16 +18,6 @@ pub record IsCommitting (closed writer n : ℕ) (sent left : List (Vec Change)) 
   pub before : (q : ℕ) (d : PartShelf) → q < n → get_or now q d ≡ get_or old q d
   pub behind : (q : ℕ) (p : PartShelf) (xs : Vec Change) → n ≤ q → slice_get old q ≡ Some p → slice_get sent q ≡ Some xs →
       (next : PartShelf) × (slice_get now q ≡ Some next) × PartCommits closed writer xs.items p next
-
-pub committing_none : (closed writer n : ℕ) (sent : List (Vec Change)) (old : List PartShelf) → length sent ≡ length old → length sent ≡ n → IsCommitting closed writer n sent sent old old
-committing_none closed writer n sent old count all = record {
-  count = count;
-  same = refl;
-  upto = omega arith;
-  left_is = sym (take_all n sent (omega arith));
-  before = λ q d low. refl;
-  behind = λ q p xs low at there. let within = slice_get_within sent q xs there in absurd (omega (arith, within, low, all));
-}
 
 -- what is taken off the end is what was sent to the next partition
 pub taken_is : (closed writer n m : ℕ) (sent left rest : List (Vec Change)) (xs : Vec Change) (old now : List PartShelf) → IsCommitting closed writer n sent left old now →

@@ -1,9 +1,8 @@
 -- What a feed of records puts into partitions.
-use Rattle.std.specs.Prelude.{◌≡◌, ℕ, ◌+◌, ◌≤◌, List, ◌++◌, length, map, filter, IfSome, IsSome, option_and_then, slice_get, vec_capacity}
+use Rattle.std.specs.Prelude.{◌≡◌, ℕ, ◌+◌, ◌≤◌, List, ◌++◌, length, filter, IfSome, IsSome, option_and_then, slice_get, vec_capacity}
 use Rattle.ksql_place.specs.Ascending.{Rises}
 use Rattle.ksql_place.specs.Order.{record_cmp}
 use Rattle.ksql_place.specs.declared.change.SourceRecord.{SourceRecord}
-use Rattle.core_state.specs.declared.log.LogEntry.TheVariants.{Fed}
 use Rattle.core_state.specs.State.{is_in}
 use Rattle.topic_log.specs.declared.shelves.PartShelf.{PartShelf}
 use Rattle.topic_log.specs.declared.shelves.TopicShelf.{TopicShelf}

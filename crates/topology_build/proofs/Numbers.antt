@@ -4,26 +4,15 @@ use Rattle.std.proofs.lemmas.List.{append-nil, length-append}
 use Rattle.ksql_types.specs.declared.topic.TopicSpec.{TopicSpec}
 use Rattle.ksql_program.specs.Program.{relation_of}
 use Rattle.ksql_program.specs.declared.program.Item.{Item}
-use Rattle.topology.specs.declared.stage.CutName.{CutName}
 use Rattle.topology.specs.declared.stage.Link.{Link}
 use Rattle.topology.specs.declared.stage.Link.TheVariants.{Relation, Cut}
 use Rattle.topology.specs.declared.stage.Stage.{Stage}
 use Rattle.topology.specs.declared.topology.Sub.{Sub}
-use Rattle.topology.specs.Topologies.{cut_topics, cuts_of, stages_at, sub_of, subs_from, subs_of, topics_from}
+use Rattle.topology.specs.Topologies.{cut_topics, cuts_of, stages_at, subs_from, subs_of, topics_from}
 use Rattle.topology.proofs.Numbered.{length-subs_from}
 use Rattle.topology_build.proofs.Counts.{length-topics_from}
 
 -- ---- the stages of a query
-
--- one sub-topology after others, whose number is how many they are
-pub subs-next : (items : List Item) (query first : ℕ) (cuts : List CutName) (done more : List Sub) (s : Stage) (rest : List Stage) →
-    more ≡ done ++ sub_of items query first cuts (length done) s ∷ [] →
-    more ++ subs_from items query first cuts (length more) rest ≡ done ++ subs_from items query first cuts (length done) (s ∷ rest)
-subs-next items query first cuts done more s rest is =
-    let sub : Sub = sub_of items query first cuts (length done) s in
-    let number : length more ≡ length done + 1 = ap length is ∙ length-append done (sub ∷ []) in
-    ap₂ (λ (subs : List Sub) (n : ℕ). subs ++ subs_from items query first cuts n rest) is number
-    ∙ append_assoc done (sub ∷ []) (subs_from items query first cuts (length done + 1) rest)
 
 -- the repartition topic of one stage after others, whose number is how many topics they are
 pub topics-next : (relations number : ℕ) (name : List ℕ) (done more : List TopicSpec) (s : Stage) (rest : List Stage) →

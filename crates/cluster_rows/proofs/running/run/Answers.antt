@@ -1,4 +1,4 @@
-use Rattle.std.proofs.Common.{subst, sym, List}
+use Rattle.std.proofs.Common.{subst, sym}
 use Rattle.std.specs.Prelude.{All}
 use Rattle.topology.specs.declared.schedule.Lined.{Lined}
 use Rattle.cluster_core.specs.Cluster.{IsBuilt}

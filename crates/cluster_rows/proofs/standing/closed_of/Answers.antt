@@ -1,5 +1,4 @@
 use Rattle.std.proofs.Common.{sym, subst}
-use Rattle.ksql_types.specs.declared.relation.Relation.{Relation}
 use Rattle.run_text.specs.Shown.{HasTopicOf}
 use Rattle.run_text.proofs.ShownLemmas.{topic-at, topic-inside}
 use Rattle.cluster_rows.proofs.standing.closed_of.Goals as goal

@@ -5,7 +5,7 @@ use Rattle.json.specs.Token.{Token}
 use Rattle.json.specs.Json.{items, members, parse_map, read_key, value}
 use Rattle.json.specs.Reads.{token_of}
 use Rattle.json.proofs.Grammar.{value-begin_array, value-begin_object, value_is}
-use Rattle.serde_json.specs.Data.{array, boolean, null, number, object, put, string}
+use Rattle.serde_json.specs.Data.{array, boolean, null, number, object, string}
 use Rattle.serde_json.specs.Read.{converted, of_json}
 use Rattle.serde_json.specs.View.{number_view}
 use Rattle.topic_files.specs.Tree.{members_view, view}

@@ -1,5 +1,5 @@
 -- The record of a line is that of its fields.
-use Rattle.std.proofs.Common.{◌≡◌, None, option_and_then, sym, ap, ◌∙◌}
+use Rattle.std.proofs.Common.{◌≡◌, option_and_then, sym, ap, ◌∙◌}
 use Rattle.std.proofs.lemmas.Result.{IfOk-weaker}
 use Rattle.topic_files.specs.LineFields.{fed_in, if_read, seen}
 use Rattle.topic_files.specs.Record.{fed_of}
