@@ -7,6 +7,7 @@ pub mod EachPlace
 pub mod Fed
 pub mod Fresh
 pub mod Gathering
+pub mod Given
 pub mod InOrder
 pub mod Kept
 pub mod Least

@@ -1,6 +1,7 @@
 pub mod Commits
 pub mod Entries
 pub mod Feeding
+pub mod Giving
 pub mod Opening
 pub mod Order
 pub mod Ready

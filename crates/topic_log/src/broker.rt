@@ -1,13 +1,16 @@
 //! The broker and its calls.
-ghost use Rattle.std.specs.Prelude.{◌≡◌, ℕ, ◌+◌, ◌<◌, ◌^◌, All, IfErr, IfOk, IsSome, OnErr, OnOk, Some, length};
+ghost use Rattle.std.specs.Prelude.{◌≡◌, ℕ, ◌+◌, ◌<◌, ◌≤◌, ◌^◌, [], All, IfErr, IfNone, IfOk, IfSome, IsSome, OnErr, OnOk, Some, length, map};
 ghost use Rattle.ksql_place.specs.Ascending.{ascending};
 ghost use Rattle.ksql_place.specs.Order.{record_cmp};
 ghost use Rattle.ksql_place.specs.Routing.{partitions_of};
 ghost use Rattle.core_state.specs.declared.log.Proposal.{Proposal as OneProposal};
 ghost use Rattle.core_state.specs.Routes.{IsWriter};
+ghost use Rattle.core_state.specs.State.{feed_of};
+ghost use Rattle.core_state.specs.declared.log.LogEntry.TheVariants.{Said};
 ghost use Rattle.core_state.specs.Shelf.{ShelfApplies, ShelfFeeds, ShelfOpens, ShelfRaises, ShelfStays, shelf_closed};
 ghost use Rattle.topic_log.specs.declared.prepared.Prepared.{Prepared as OnePrepared};
 ghost use Rattle.topic_log.specs.Feeding.{RiseApart};
+ghost use Rattle.topic_log.specs.Giving.{only_at, with_gone};
 ghost use Rattle.topic_log.specs.Order.{IsInPlaceOrder};
 ghost use Rattle.topic_log.specs.Ready.{IsProposal, IsReady};
 ghost use Rattle.topic_log.specs.Entries.{entries_in};
@@ -19,11 +22,12 @@ use crate::opening::{fresh_topics, written_topics};
 use crate::prepared::{Prepared, prepare};
 use crate::shelves::{Entries, Shelves, TaskShelf, closed_of};
 use core_state::Proposal;
-use ksql_place::SourceRecord;
+use ksql_place::{Change, SourceRecord};
 use ksql_types::{StoreEntry, TaskName, TopicSpec};
 use std::alloc::{AllocError, Global};
 use std::collections::BTreeMap;
 use std::marker::Model;
+use std::mem;
 
 /// The topics of a topology, what was fed to them, and what the tasks committed.
 #[derive(Drop)]
@@ -119,6 +123,27 @@ impl Broker {
             fed: shelf.fed.as_slice(),
             said: shelf.said.as_slice(),
         }
+    }
+
+    /// Gives away the changes that a partition shows, which then shows none; None where records were fed to it, and nothing is
+    /// given away. The topic is one of the broker's, and the partition one of its partitions. Takes no memory.
+    pub fn take(&mut self, topic: u32, part: u32) -> Option<Vec<Change>>
+        requires { IsSome (part_at self.old topic part) }
+        ensures topics { topics_of self.new ≡ topics_of self.old }
+        ensures parts { (t q : ℕ) → IsSome (part_at self.old t q) → IsSome (part_at self.new t q) }
+        ensures given { IfSome result (λ changes. with_gone (only_at topic part (map Said changes.items)) (shelf_of self.new) ≡ shelf_of self.old) }
+        ensures none { IfSome result (λ _. (shelf_of self.new).shown topic part ≡ []) }
+        ensures in_order { IfSome result (λ changes. IsInPlaceOrder (map Said changes.items)) }
+        ensures closed { IfSome result (λ changes. All (λ x. feed_of x ≤ shelf_closed (routes_in self.old) (shelf_of self.old) topic) changes.items) }
+        ensures kept { IfNone result (self.new ≡ self.old) }
+    {
+        let shown = &self.inner.topics[topic as usize].parts[part as usize];
+        if !shown.fed.is_empty() {
+            return None;
+        }
+        let shelf = &mut self.inner.topics[topic as usize].parts[part as usize];
+        let none = Vec::new(*shelf.said.allocator());
+        Some(mem::replace(&mut shelf.said, none))
     }
 
     /// The last feed that a task committed.
