@@ -28,7 +28,7 @@ use Rattle.core_state.specs.declared.log.LogEntry.TheVariants.{Fed}
 use Rattle.op_chain.specs.Chain.{HaveOwnStores, StandAlong, has_operator}
 use Rattle.node_tests.specs.Plain.{AreFiltered, IsPlain}
 use Rattle.node_tests.proofs.Filtered.{storable-filtered}
-use Rattle.topic_log.specs.Shelves.{part_at, shelf_of}
+use Rattle.topic_log.specs.Shelves.{part_at, routes_in, shelf_of}
 use Rattle.topic_log.specs.declared.shelves.Shelves.{Shelves}
 use Rattle.task_core.specs.Reading.{kind_read, taken, takes}
 use Rattle.task_core.specs.Tasks.{CanRead, CanStore, TaskView, bound_of, next_entries, shown_to}
@@ -129,11 +129,11 @@ readable-one b t input is there =
     }
 
 pub storable-one : (b : Shelves) (t : TaskView) (input : SubInput) (rs : List SourceRecord) → t.inputs ≡ input ∷ [] → (shelf_of b).shown input.topic t.name.part ≡ map Fed rs →
-    All IsModestRecord rs → StandAlong t.nodes t.maps [] → AreFiltered t.nodes → CanStore b t
+    All IsModestRecord rs → StandAlong t.nodes t.maps [] → AreFiltered t.nodes → CanStore (routes_in b) (shelf_of b) t
 storable-one b t input rs is shown modest stand filtered = (
   [],
   stand,
-  storable-filtered t.nodes [] (next_entries b t) filtered
-      (one-input (λ inputs. AreModest (takes t.nodes inputs (shown_to b t) t.done (bound_of b t))) t.inputs input is
-      (takes-modest t.nodes input (shown_to b t) t.done (bound_of b t) rs shown modest)),
+  storable-filtered t.nodes [] (next_entries (routes_in b) (shelf_of b) t) filtered
+      (one-input (λ inputs. AreModest (takes t.nodes inputs (shown_to (shelf_of b) t) t.done (bound_of (routes_in b) (shelf_of b) t))) t.inputs input is
+      (takes-modest t.nodes input (shown_to (shelf_of b) t) t.done (bound_of (routes_in b) (shelf_of b) t) rs shown modest)),
 )

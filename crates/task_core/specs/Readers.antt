@@ -33,9 +33,13 @@ abbrev pub taken_as : Kind → ℕ → SubInput → LogEntry → List Entry
 taken_as kind side input (Fed r) = from_side side (map (with_cells input.keys) (saying kind r))
 taken_as kind side input (Said c) = from_side side (with_cells input.keys c ∷ [])
 
--- the same of what is left of an input
+-- what is left of an input: the entries that are lent, and then the changes that were given
+abbrev pub entries_left : Rest → List LogEntry
+entries_left r = entries_in r.entries ++ map Said r.given.items
+
+-- what a task takes of it
 abbrev pub rest_on : ℕ → Rest → List Entry
-rest_on side r = flat_map (taken_as r.kind side r.input) (entries_in r.entries)
+rest_on side r = flat_map (taken_as r.kind side r.input) (entries_left r)
 
 -- what is left of all that a reader gives
 abbrev pub pending : Reader → List Entry
@@ -43,12 +47,12 @@ pending r = ascending (entry_cmp r.left.input.relation r.right.input.relation) (
 
 -- how many entries are left
 abbrev pub left_len : Reader → ℕ
-left_len r = length (entries_in r.left.entries) + length (entries_in r.right.entries)
+left_len r = length (entries_left r.left) + length (entries_left r.right)
 
 -- what is left of both inputs stands in the order of places
 pub record IsOrdered (r : Reader) : Type 0 where
-  pub left : IsInPlaceOrder (entries_in r.left.entries)
-  pub right : IsInPlaceOrder (entries_in r.right.entries)
+  pub left : IsInPlaceOrder (entries_left r.left)
+  pub right : IsInPlaceOrder (entries_left r.right)
 
 -- whether the first of the left entries goes next: it isn't after the first of the right ones
 abbrev pub goes_left : ℕ → ℕ → List LogEntry → List LogEntry → Bool

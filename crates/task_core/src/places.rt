@@ -3,7 +3,7 @@ ghost use Rattle.std.specs.Prelude.{◌≡◌};
 ghost use Rattle.ksql_place.specs.Order.{between_cmp};
 ghost use Rattle.task_core.specs.Readers.{place_at};
 
-use ksql_place::Stamp;
+use ksql_place::{Change, Stamp};
 use std::cmp::Ordering;
 
 /// The place of an entry, lent: its stamp and its path.
@@ -11,6 +11,16 @@ use std::cmp::Ordering;
 pub struct Front<'a> {
     pub stamp: &'a Stamp,
     pub path: &'a [u32],
+}
+
+/// The place of a change.
+pub fn front_of(change: &Change) -> Front<'_>
+    ensures { place_at result ≡ change.now.place }
+{
+    Front {
+        stamp: &change.place.stamp,
+        path: change.place.path.items(),
+    }
 }
 
 /// The order of places of the relations numbered `ra` and `rb`: by stamp, then by relation, then by path.

@@ -1,28 +1,31 @@
 //! What a task takes of what its inputs show, in the order of the places.
 ghost use Rattle.std.specs.Prelude.{◌≡◌, ◌++◌, ◌+◌, ◌<◌, ◌==◌, IfOk, OnOk, drop, flat_map, length, option_map, slice_get, take};
 ghost use Rattle.op_chain.specs.Chain.{entries_of};
-ghost use Rattle.topic_log.specs.Entries.{entries_in};
 ghost use Rattle.topic_log.specs.Order.{place_of};
-ghost use Rattle.task_core.specs.Readers.{IsOrdered, goes_left, left_len, pending, place_at, taken_as};
+ghost use Rattle.task_core.specs.Readers.{IsOrdered, entries_left, goes_left, left_len, pending, place_at, taken_as};
 
-use crate::places::{Front, cmp_fronts};
-use crate::whole::{push_said, push_whole};
+use crate::places::{Front, cmp_fronts, front_of};
+use crate::whole::{push_given, push_said, push_whole};
+use ksql_place::Change;
 use ksql_types::Kind;
 use op_chain::Entry;
 use std::alloc::{AllocError, Global};
 use std::cmp::Ordering;
+use std::collections::VecDeque;
 use topic_log::Entries;
 use topology::SubInput;
 
 /// The most entries that a reader gives at once: few, so that they stay in the processor's cache while they go through the nodes.
 const MOST: usize = 32;
 
-/// What is left of what an input of a task shows, and the kind of relation to which its records speak.
+/// What is left of what an input of a task shows, and the kind of relation to which its records speak: entries that are
+/// lent, and after them changes that were given.
 #[derive(Drop)]
 pub struct Rest<'a> {
     pub kind: Kind,
     pub input: SubInput,
     pub entries: Entries<'a>,
+    pub given: VecDeque<Change>,
 }
 
 /// What is left of the inputs of a task. One that has no second input has nothing on the right.
@@ -44,10 +47,9 @@ impl Reader<'_> {
     pub fn len(&self) -> Result<usize, AllocError>
         ensures { IfOk result (λ count. count ≡ left_len self.now) }
     {
-        self.left
-            .len()
-            .checked_add(self.right.len())
-            .ok_or(AllocError)
+        let left = self.left.len()?;
+        let right = self.right.len()?;
+        left.checked_add(right).ok_or(AllocError)
     }
 
     /// Takes the next entries of those that are left, some of them at once.
@@ -83,7 +85,7 @@ impl Reader<'_> {
     /// Whether the first of the left entries goes next.
     fn is_left_next(&self) -> bool
         ensures { let r = self.now in
-            result ≡ goes_left r.left.input.relation r.right.input.relation (entries_in r.left.entries) (entries_in r.right.entries) }
+            result ≡ goes_left r.left.input.relation r.right.input.relation (entries_left r.left) (entries_left r.right) }
     {
         let Some(right) = self.right.front() else {
             return !self.left.is_done();
@@ -100,32 +102,30 @@ impl Reader<'_> {
 impl Rest<'_> {
     /// Whether nothing is left.
     fn is_done(&self) -> bool
-        ensures { result ≡ (length (entries_in self.now.entries) == 0) }
+        ensures { result ≡ (length (entries_left self.now) == 0) }
     {
-        self.entries.fed.is_empty() && self.entries.said.is_empty()
+        self.entries.fed.is_empty() && self.entries.said.is_empty() && self.given.is_empty()
     }
 
-    /// How many entries are left.
-    fn len(&self) -> usize
-        ensures { result ≡ length (entries_in self.now.entries) }
+    /// How many entries are left; out of memory where they are more than a list can have.
+    fn len(&self) -> Result<usize, AllocError>
+        ensures { IfOk result (λ count. count ≡ length (entries_left self.now)) }
     {
-        self.entries.fed.len() + self.entries.said.len()
+        let lent = self.entries.fed.len() + self.entries.said.len();
+        lent.checked_add(self.given.len()).ok_or(AllocError)
     }
 
     /// The place of the first entry that is left, where there is one: a record has the empty path.
     fn front(&self) -> Option<Front<'_>>
-        ensures { option_map place_at result ≡ option_map place_of (slice_get (entries_in self.now.entries) 0) }
+        ensures { option_map place_at result ≡ option_map place_of (slice_get (entries_left self.now) 0) }
     {
         match (self.entries.fed, self.entries.said) {
             ([record, ..], _) => Some(Front {
                 stamp: &record.stamp,
                 path: &[],
             }),
-            ([], [change, ..]) => Some(Front {
-                stamp: &change.place.stamp,
-                path: change.place.path.items(),
-            }),
-            ([], []) => None,
+            ([], [change, ..]) => Some(front_of(change)),
+            ([], []) => Some(front_of(self.given.front()?)),
         }
     }
 
@@ -138,9 +138,9 @@ impl Rest<'_> {
     ) -> Result<(), AllocError>
         ensures kind { self.new.kind ≡ self.old.kind }
         ensures input { self.new.input ≡ self.old.input }
-        ensures rest { entries_in self.new.entries ≡ drop 1 (entries_in self.old.entries) }
+        ensures rest { entries_left self.new ≡ drop 1 (entries_left self.old) }
         ensures taken { OnOk result (entries_of taken.new.items
-            ≡ entries_of taken.old.items ++ flat_map (taken_as self.old.kind side self.old.input) (take 1 (entries_in self.old.entries))) }
+            ≡ entries_of taken.old.items ++ flat_map (taken_as self.old.kind side self.old.input) (take 1 (entries_left self.old))) }
     {
         let columns = self.input.keys;
         match (self.entries.fed, self.entries.said) {
@@ -152,7 +152,10 @@ impl Rest<'_> {
                 self.entries.said = rest;
                 push_whole(alloc, taken, side, columns, change)
             }
-            ([], []) => Ok(()),
+            ([], []) => match self.given.pop_front() {
+                Some(change) => push_given(alloc, taken, side, columns, change),
+                None => Ok(()),
+            },
         }
     }
 }

@@ -1,17 +1,23 @@
 //! A task and its step.
-ghost use Rattle.std.specs.Prelude.{◌≡◌, [], ◌≤◌, ◌==◌, All, IfOk, IfNone, IfSome, IsSome, IsTrue, is_none};
+ghost use Rattle.std.specs.Prelude.{◌≡◌, [], ◌≤◌, ◌<◌, ◌==◌, All, IfOk, IfNone, IfSome, IsSome, IsTrue, None, is_none, length, map};
+ghost use Rattle.core_state.specs.declared.log.LogEntry.TheVariants.{Said};
+ghost use Rattle.topic_log.specs.Order.{IsInPlaceOrder};
+ghost use Rattle.topic_log.specs.Shelves.{routes_in, shelf_of, topics_of};
 ghost use Rattle.op_chain.specs.Chain.{HaveOwnStores, MayLoad, StandAlong, has_operator, maps_after};
-ghost use Rattle.task_core.specs.Tasks.{CanRead, CanStore, IsProposedBy, IsSameTask, bound_of};
+ghost use Rattle.task_core.specs.Readers.{IsOrdered, pending};
+ghost use Rattle.task_core.specs.Tasks.{CanRead, CanStore, CanTake, IsProposedBy, IsProposedOver, IsSameTask, bound_of, only, showing};
 
-use crate::inputs::{Feeds, Kinds, bound_of, kind_read, reader_of};
+use crate::inputs::{Feeds, Kinds, bound_of, kind_read, reader_of, reader_over};
+use crate::reader::Reader;
 use crate::running::made_of;
 use core_state::Proposal;
+use ksql_place::Change;
 use ksql_types::{CopyOf, Items, StoreEntry, TaskName};
 use op_chain::Chain;
 use std::alloc::{AllocError, Global};
 use std::marker::Model;
 use topic_log::Broker;
-use topology::{Sub, SubInputs};
+use topology::{Sub, SubInput, SubInputs};
 
 /// A task of a sub-topology: its generation, the last feed that it went over, and an operator for each of its nodes.
 #[derive(Drop)]
@@ -120,37 +126,84 @@ impl Task {
     /// commit: nothing where it is done with that feed. The task isn't done with a later one.
     pub fn advance(self, alloc: Global, broker: &Broker) -> Result<Moved, AllocError>
         requires readable { CanRead broker.now self }
-        requires within { self.done ≤ bound_of broker.now self }
+        requires within { self.done ≤ bound_of (routes_in broker.now) (shelf_of broker.now) self }
         requires stores { HaveOwnStores self.nodes }
-        requires storable { CanStore broker.now self }
+        requires storable { CanStore (routes_in broker.now) (shelf_of broker.now) self }
         ensures same { IfOk result (λ moved. IsSameTask self moved.task) }
-        ensures done { IfOk result (λ moved. moved.task.done ≡ bound_of broker.now self) }
-        ensures none { IfOk result (λ moved. is_none moved.proposal ≡ (bound_of broker.now self == self.done)) }
+        ensures done { IfOk result (λ moved. moved.task.done ≡ bound_of (routes_in broker.now) (shelf_of broker.now) self) }
+        ensures none { IfOk result (λ moved. is_none moved.proposal ≡ (bound_of (routes_in broker.now) (shelf_of broker.now) self == self.done)) }
         ensures still { IfOk result (λ moved. IfNone moved.proposal (moved.task ≡ self)) }
-        ensures proposal { IfOk result (λ moved. IfSome moved.proposal (IsProposedBy broker.now self moved.task)) }
+        ensures proposal { IfOk result (λ moved. IfSome moved.proposal (IsProposedBy (routes_in broker.now) (shelf_of broker.now) self moved.task)) }
     {
         let bound = bound_of(self.inputs.items(), broker);
         if bound == self.done {
-            return Ok(Moved {
-                task: self,
-                proposal: None,
-            });
+            return Ok(self.still());
         }
-        self.moved(alloc, broker, bound)
+        let feeds = self.feeds(bound);
+        let reader = reader_of(alloc, broker, feeds, self.kinds, self.inputs.items());
+        self.moved(alloc, reader, bound)
     }
 
-    /// The task after all entries of its inputs up to the feed up to which they are closed, and what it then proposes to
-    /// commit.
-    fn moved(self, alloc: Global, broker: &Broker, bound: u64) -> Result<Moved, AllocError>
-        requires readable { CanRead broker.now self }
-        requires within { self.done ≤ bound }
-        requires bound { bound ≡ bound_of broker.now self }
+    /// The same of a task with one input that is given all that this shows: changes in the order of their places.
+    pub fn advance_over(
+        self,
+        alloc: Global,
+        broker: &Broker,
+        changes: Vec<Change>,
+    ) -> Result<Moved, AllocError>
+        requires one { IsSome (only self.inputs) }
+        requires topics { All (λ i. i.topic < length (topics_of broker.now)) self.inputs }
+        requires within { self.done ≤ bound_of (routes_in broker.now) (shelf_of broker.now) self }
         requires stores { HaveOwnStores self.nodes }
-        requires storable { CanStore broker.now self }
+        requires order { IsInPlaceOrder (map Said changes.items) }
+        requires storable { CanStore (routes_in broker.now) (showing (map Said changes.items) (shelf_of broker.now)) self }
+        ensures same { IfOk result (λ moved. IsSameTask self moved.task) }
+        ensures done { IfOk result (λ moved. moved.task.done ≡ bound_of (routes_in broker.now) (shelf_of broker.now) self) }
+        ensures none { IfOk result (λ moved. is_none moved.proposal ≡ (bound_of (routes_in broker.now) (shelf_of broker.now) self == self.done)) }
+        ensures still { IfOk result (λ moved. IfNone moved.proposal (moved.task ≡ self)) }
+        ensures proposal { IfOk result (λ moved. IfSome moved.proposal (IsProposedBy (routes_in broker.now) (showing (map Said changes.items) (shelf_of broker.now)) self moved.task)) }
+    {
+        let bound = bound_of(self.inputs.items(), broker);
+        if bound == self.done {
+            return Ok(self.still());
+        }
+        let feeds = self.feeds(bound);
+        let input = self.only_input().unwrap();
+        let reader = reader_over(alloc, feeds, self.kinds, input, changes);
+        self.moved(alloc, reader, bound)
+    }
+
+    /// The task as it is, which proposes nothing.
+    fn still(self) -> Moved
+        ensures task { result.task ≡ self }
+        ensures proposal { result.proposal ≡ None }
+    {
+        Moved {
+            task: self,
+            proposal: None,
+        }
+    }
+
+    /// The feeds after those that the task went over, up to a feed.
+    fn feeds(&self, to: u64) -> Feeds
+        ensures { result ≡ record { part = self.now.name.part; from = self.now.done; to = to } }
+    {
+        Feeds {
+            part: self.name.part,
+            from: self.done,
+            to,
+        }
+    }
+
+    /// The task after all that a reader gives, up to a feed, and what it then proposes to commit.
+    fn moved(self, alloc: Global, reader: Reader, bound: u64) -> Result<Moved, AllocError>
+        requires order { IsOrdered reader }
+        requires stores { HaveOwnStores self.nodes }
+        requires storable { CanTake self (pending reader) }
         ensures same { IfOk result (λ moved. IsSameTask self moved.task) }
         ensures done { IfOk result (λ moved. moved.task.done ≡ bound) }
         ensures some { IfOk result (λ moved. IsSome moved.proposal) }
-        ensures proposal { IfOk result (λ moved. IfSome moved.proposal (IsProposedBy broker.now self moved.task)) }
+        ensures proposal { IfOk result (λ moved. IfSome moved.proposal (IsProposedOver bound (pending reader.entry) self moved.task)) }
     {
         let Task {
             name,
@@ -160,12 +213,6 @@ impl Task {
             kinds,
             mut chain,
         } = self;
-        let feeds = Feeds {
-            part: name.part,
-            from: done,
-            to: bound,
-        };
-        let reader = reader_of(broker, feeds, kinds, inputs.items());
         let made = made_of(&mut chain, alloc, reader)?;
         let proposal = Proposal {
             task: name,
@@ -194,6 +241,16 @@ impl Task {
         ensures { result ≡ self.now.name }
     {
         self.name
+    }
+
+    /// The task's input, where it has only one.
+    pub fn only_input(&self) -> Option<SubInput>
+        ensures { result ≡ only self.now.inputs }
+    {
+        match self.inputs.items() {
+            [one] => Some(*one),
+            _ => None,
+        }
     }
 
     /// The last feed that the task went over.

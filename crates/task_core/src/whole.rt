@@ -97,6 +97,25 @@ pub fn push_whole(
     Ok(())
 }
 
+/// Adds an entry of a side: a change that was given, with so many key columns in front of its rows. Copies nothing where that
+/// is none.
+pub fn push_given(
+    alloc: Global,
+    taken: &mut Vec<Entry>,
+    side: u32,
+    columns: u32,
+    change: Change,
+) -> Result<(), AllocError>
+    ensures { OnOk result (entries_of taken.new.items
+        ≡ entries_of taken.old.items ++ from_side side (with_cells columns change ∷ [])) }
+{
+    if columns > 0 {
+        return push_whole(alloc, taken, side, columns, &change);
+    }
+    taken.push(Entry { side, change })?;
+    Ok(())
+}
+
 /// What a change says, with so many key columns in front of its rows, or as it is where that is none.
 fn whole_body(alloc: Global, columns: u32, change: &Change) -> Result<Body, AllocError>
     ensures { IfOk result (λ made. made ≡ (with_cells columns change.now).body) }
