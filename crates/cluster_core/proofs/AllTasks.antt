@@ -11,9 +11,10 @@ use Rattle.core_state.specs.Routes.{Routes}
 use Rattle.core_state.specs.Shelf.{Shelf}
 use Rattle.core_state.specs.declared.log.Proposal.{Proposal}
 use Rattle.storing_laws.specs.Stored.{CanBeStored, ResultsRise}
-use Rattle.topic_log.specs.Shelves.{shelf_of, topics_of}
+use Rattle.topic_log.specs.Shelves.{topics_of}
 use Rattle.topic_log.specs.declared.shelves.Shelves.{Shelves}
 use Rattle.assignor.specs.Rule.{is_with}
+use Rattle.task_core.specs.Tasks.{CanRead}
 use Rattle.task_core.specs.declared.task.Moved.{Moved}
 use Rattle.feed_laws.specs.Fitting.{Fits}
 use Rattle.cluster_core.specs.Cluster.{idle}
@@ -21,7 +22,7 @@ use Rattle.cluster_core.specs.Rounds.{AllSettle, CanAdvance, CanCommit, HasParts
 use Rattle.cluster_core.specs.declared.rounds.Ran.{Ran}
 use Rattle.cluster_core.specs.declared.seats.Seat.{Seat}
 use Rattle.cluster_core.proofs.Advanced.{advanced-task}
-use Rattle.cluster_core.proofs.Advancing.{can-advance}
+use Rattle.cluster_core.proofs.Advancing.{can-advance, readable}
 use Rattle.cluster_core.proofs.Lists.{all-mapped}
 use Rattle.cluster_core.proofs.Names.{AreApart}
 use Rattle.cluster_core.proofs.Settling.{settled}
@@ -70,28 +71,40 @@ module _ (items : List Item) (order : List SourceRecord) (sound : IsSound items)
 
   -- ---- all go over what the broker has, but those of a worker that is lost
 
-  module _ (b : Shelves) (topics : topics_of b ≡ (topology_of items).topics) where
-    pub all-can-advance : HasParts b → CanBeStored items (topology_of items) order → (front : List Moved) (ss : List Seat) → AreRunning items order (shelf_of b) (front ++ map (λ (s : Seat). idle s.task) ss) →
-        AllByRecursion (λ (s : Seat). CanAdvance b s.task) ss
-    all-can-advance has law front [] run = tt
-    all-can-advance has law front (x ∷ xs) run = (
-      can-advance items order sound fits b topics front x.task (map (λ (s : Seat). idle s.task) xs) run has law,
-      all-can-advance has law (front ++ idle x.task ∷ []) xs (subst (AreRunning items order (shelf_of b)) (sym (append_assoc front (idle x.task ∷ []) (map (λ (s : Seat). idle s.task) xs))) run),
+  module _ (b : Shelf) where
+    abbrev routes : Routes
+    routes = (top items order sound fits).routes
+
+    pub all-can-advance : CanBeStored items (topology_of items) order → (front : List Moved) (ss : List Seat) → AreRunning items order b (front ++ map (λ (s : Seat). idle s.task) ss) →
+        AllByRecursion (λ (s : Seat). CanAdvance routes b s.task) ss
+    all-can-advance law front [] run = tt
+    all-can-advance law front (x ∷ xs) run = (
+      can-advance items order sound fits b front x.task (map (λ (s : Seat). idle s.task) xs) run law,
+      all-can-advance law (front ++ idle x.task ∷ []) xs (subst (AreRunning items order b) (sym (append_assoc front (idle x.task ∷ []) (map (λ (s : Seat). idle s.task) xs))) run),
     )
 
-    pub all-advanced : (lost : Option ℕ) (front : List Moved) (ss : List Seat) (rs : List Ran) → AllZip (HasRun lost b) ss rs →
-        AreRunning items order (shelf_of b) (front ++ map (λ (s : Seat). idle s.task) ss) → AreRunning items order (shelf_of b) (front ++ map (λ (r : Ran). r.moved) rs)
+    pub all-readable : (broker : Shelves) → topics_of broker ≡ (topology_of items).topics → HasParts broker → (front : List Moved) (ss : List Seat) →
+        AreRunning items order b (front ++ map (λ (s : Seat). idle s.task) ss) → AllByRecursion (λ (s : Seat). CanRead broker s.task) ss
+    all-readable broker topics has front [] run = tt
+    all-readable broker topics has front (x ∷ xs) run = (
+      readable items order sound fits b front x.task (map (λ (s : Seat). idle s.task) xs) run broker topics has,
+      all-readable broker topics has (front ++ idle x.task ∷ []) xs
+          (subst (AreRunning items order b) (sym (append_assoc front (idle x.task ∷ []) (map (λ (s : Seat). idle s.task) xs))) run),
+    )
+
+    pub all-advanced : (lost : Option ℕ) (front : List Moved) (ss : List Seat) (rs : List Ran) → AllZip (HasRun lost routes b) ss rs →
+        AreRunning items order b (front ++ map (λ (s : Seat). idle s.task) ss) → AreRunning items order b (front ++ map (λ (r : Ran). r.moved) rs)
     all-advanced lost front [] [] zip run = run
     all-advanced lost front [] (r ∷ rs) zip run = absurd zip
     all-advanced lost front (x ∷ xs) [] zip run = absurd zip
     all-advanced lost front (x ∷ xs) (r ∷ rs) zip run =
-        subst (AreRunning items order (shelf_of b)) (append_assoc front (r.moved ∷ []) (map (λ (y : Ran). y.moved) rs))
+        subst (AreRunning items order b) (append_assoc front (r.moved ∷ []) (map (λ (y : Ran). y.moved) rs))
         (all-advanced lost (front ++ r.moved ∷ []) xs rs zip.1
-        (subst (AreRunning items order (shelf_of b)) (sym (append_assoc front (r.moved ∷ []) (map (λ (s : Seat). idle s.task) xs))) (now (is_with x.worker lost) refl)))
+        (subst (AreRunning items order b) (sym (append_assoc front (r.moved ∷ []) (map (λ (s : Seat). idle s.task) xs))) (now (is_with x.worker lost) refl)))
       where
-        now : (l : Bool) → is_with x.worker lost ≡ l → AreRunning items order (shelf_of b) (front ++ r.moved ∷ map (λ (s : Seat). idle s.task) xs)
-        now true is = subst (λ (m : Moved). AreRunning items order (shelf_of b) (front ++ m ∷ map (λ (s : Seat). idle s.task) xs)) (sym (zip.0.waits is)) run
-        now false is = advanced-task items order sound fits b topics front x.task (map (λ (s : Seat). idle s.task) xs) run r.moved (zip.0.moved is)
+        now : (l : Bool) → is_with x.worker lost ≡ l → AreRunning items order b (front ++ r.moved ∷ map (λ (s : Seat). idle s.task) xs)
+        now true is = subst (λ (m : Moved). AreRunning items order b (front ++ m ∷ map (λ (s : Seat). idle s.task) xs)) (sym (zip.0.waits is)) run
+        now false is = advanced-task items order sound fits b front x.task (map (λ (s : Seat). idle s.task) xs) run r.moved (zip.0.moved is)
 
   -- ---- all proposals are committed
 

@@ -9,29 +9,32 @@ use Rattle.ksql_program.specs.declared.program.Item.{Item}
 use Rattle.meaning_laws.proofs.Lists.{All-weaker}
 use Rattle.topology.specs.Tasks.{chain_of, tasks_of}
 use Rattle.topology.specs.Topologies.{topology_of}
+use Rattle.topology.specs.declared.topology.SubInput.{SubInput}
 use Rattle.topology.specs.declared.topology.Topology.{Topology}
 use Rattle.core_state.proofs.Lifting.{fed}
 use Rattle.core_state.specs.Events.{feed as fed_event}
 use Rattle.core_state.specs.Routes.{routes_of}
-use Rattle.core_state.specs.Shelf.{ShelfFeeds}
+use Rattle.core_state.specs.Shelf.{Shelf, ShelfFeeds}
 use Rattle.core_state.specs.declared.journal.JournalEntry.TheVariants as entry
 use Rattle.core_laws.proofs.Fitting.{keeps-good}
 use Rattle.core_laws.proofs.Wirings.{wired-well}
+use Rattle.topic_log.specs.Giving.{with_gone}
 use Rattle.topic_log.specs.Shelves.{routes_in, shelf_of, topics_of}
-use Rattle.topic_log.specs.declared.shelves.Shelves.{Shelves}
-use Rattle.task_core.specs.Core.{core_of}
+use Rattle.task_core.specs.Core.{core_of, inputs_at}
 use Rattle.task_core.specs.declared.task.Moved.{Moved}
 use Rattle.feed_laws.specs.Feeds.{Source, after_feed, fed_of, records_of}
 use Rattle.feed_laws.specs.Fitting.{AreSourcesOf, Fits, IsSourceOf}
 use Rattle.cluster_core.specs.Cluster.{HasCome, HasComeWith, IsKept, IsProgress, idle}
 use Rattle.cluster_core.specs.Few.{NodesHaveFew}
+use Rattle.cluster_core.specs.Giving.{IsReadUpTo}
 use Rattle.cluster_core.specs.Moves.{owned_of}
 use Rattle.cluster_core.specs.Progress.{Progress, feed}
 use Rattle.cluster_core.specs.Sourcing.{CanFeed}
 use Rattle.cluster_core.specs.declared.cluster.Cluster.{Cluster}
 use Rattle.cluster_core.specs.declared.seats.Seat.{Seat}
 use Rattle.cluster_core.specs.declared.sources.Source.{Source as Kept}
-use Rattle.cluster_core.proofs.Coming.{come-of, done-come, idle-tasks, newest-come, running-of, topics-come}
+use Rattle.cluster_core.proofs.Coming.{come-of, done-come, idle-tasks, newest-come, read-come, running-of, takers-come, topics-come}
+use Rattle.cluster_core.proofs.Gone.{feeds-gone}
 use Rattle.cluster_core.proofs.Running.{on_shelf, parts_of}
 use Rattle.cluster_core.proofs.Tasks.{AreRunning, IsNewest}
 
@@ -91,27 +94,24 @@ module _ (items : List Item) (p : Progress) (count : Source → ℕ) (come : IsP
     t = topology_of items
 
     -- tasks that run go on
-    feed-run : (b next : Shelves) (ms : List Moved) → topics_of b ≡ t.topics → (shelf_of b).fed ≡ p.fed → ShelfFeeds (routes_in b) records (shelf_of b) (shelf_of next) →
-        AreRunning items p.order (shelf_of b) ms → AreRunning items (p.order ++ records) (shelf_of next) ms
-    feed-run b next ms same last feeds run = record {
+    feed-run : (b next : Shelf) (ms : List Moved) → b.fed ≡ p.fed → ShelfFeeds (routes_of t.topics) records b next →
+        AreRunning items p.order b ms → AreRunning items (p.order ++ records) next ms
+    feed-run b next ms last feeds run = record {
       apart = run.apart;
       among = run.among;
       tasks = run.tasks;
       named = run.named;
       newest = newest-next ms run.among run.newest;
-      good = keeps-good items sound p.order (fed_event records) (on_shelf (shelf_of b) ms) (on_shelf (shelf_of next) ms) fits.counted run.good
-          (fed (core_of t) (wired-well items sound).writes records (parts_of (shelf_of b) ms) (parts_of (shelf_of next) ms)
-          (subst (λ n. All (λ r. r.stamp.feed ≡ n + 1) records) (sym last) of_feed) feeds-so (λ u among. refl) (λ u among. refl));
+      good = keeps-good items sound p.order (fed_event records) (on_shelf b ms) (on_shelf next ms) fits.counted run.good
+          (fed (core_of t) (wired-well items sound).writes records (parts_of b ms) (parts_of next ms)
+          (subst (λ n. All (λ r. r.stamp.feed ≡ n + 1) records) (sym last) of_feed) feeds (λ u among. refl) (λ u among. refl));
     }
       where
-        feeds-so : ShelfFeeds (routes_of t.topics) records (shelf_of b) (shelf_of next)
-        feeds-so = subst (λ ts. ShelfFeeds (routes_of ts) records (shelf_of b) (shelf_of next)) same feeds
-
         -- the generations stay the newest ones
-        newest-next : (xs : List Moved) → AllByRecursion (λ (m : Moved). Contains (tasks_of t.subs) m.task.name) xs → AllByRecursion (IsNewest (shelf_of b)) xs → AllByRecursion (IsNewest (shelf_of next)) xs
+        newest-next : (xs : List Moved) → AllByRecursion (λ (m : Moved). Contains (tasks_of t.subs) m.task.name) xs → AllByRecursion (IsNewest b) xs → AllByRecursion (IsNewest next) xs
         newest-next [] among newest = tt
         newest-next (m ∷ xs) among newest =
-            (newest.0 ∙ sym (feeds-so.newest m.task.name ((wired-well items sound).writes m.task.name among.0)), newest-next xs among.1 newest.1)
+            (newest.0 ∙ sym (feeds.newest m.task.name ((wired-well items sound).writes m.task.name among.0)), newest-next xs among.1 newest.1)
 
     -- ---- the cluster
 
@@ -119,6 +119,7 @@ module _ (items : List Item) (p : Progress) (count : Source → ℕ) (come : IsP
     pub record IsFed (c next : Cluster) : Type 0 where
       pub topology : next.topology ≡ c.topology
       pub chain : next.chain ≡ c.chain
+      pub takers : next.takers.items ≡ c.takers.items
       pub live : next.live.items ≡ c.live.items
       pub seats : next.seats.items ≡ c.seats.items
       pub rounds : next.rounds ≡ c.rounds
@@ -140,7 +141,14 @@ module _ (items : List Item) (p : Progress) (count : Source → ℕ) (come : IsP
           live = is.live ∙ was.live;
           owners = ap (map owned_of) is.seats ∙ was.owners;
           running = idle-tasks c.seats.items ∙ sym (ap (map (λ (s : Seat). s.task)) is.seats);
-          run = feed-run c.broker next.broker waiting same was.fed is.feeds (running-of items p waiting c was);
+          takers = is.takers ∙ takers-come items p waiting c was;
+          gone = was.gone;
+          whole = was.whole;
+          read = λ u among.
+              subst (λ (n : ℕ). IsReadUpTo was.gone (map (λ (i : SubInput). i.topic) (inputs_at t u)) u.part n) (sym (feeds-so.done u ((wired-well items sound).writes u among)))
+              (read-come items p waiting c was u among);
+          run = feed-run (with_gone was.gone (shelf_of c.broker)) (with_gone was.gone (shelf_of next.broker)) waiting was.fed
+              (feeds-gone was.gone (routes_of t.topics) records (shelf_of c.broker) (shelf_of next.broker) feeds-so) (running-of items p waiting c was);
           fed = is.feeds.fed ∙ ap (λ n. n + 1) was.fed;
           newest = λ u among. feeds-so.newest u ((wired-well items sound).writes u among) ∙ newest-come items p waiting c was u among;
           done = λ u among. feeds-so.done u ((wired-well items sound).writes u among) ∙ done-come items p waiting c was u among;

@@ -1,12 +1,16 @@
 pub mod Advanced
 pub mod Advancing
 pub mod AllTasks
+pub mod Alone
 pub mod Apart
 pub mod Coming
 pub mod Counting
 pub mod Draining
 pub mod Driving
 pub mod Feeding
+pub mod Given
+pub mod Going
+pub mod Gone
 pub mod Inputs
 pub mod Leaving
 pub mod Leavings

@@ -11,22 +11,27 @@ use Rattle.ksql_program.specs.declared.program.Item.{Item}
 use Rattle.meaning_laws.proofs.Lists.{Pairwise}
 use Rattle.topology.specs.Tasks.{chain_of, tasks_of}
 use Rattle.topology.specs.Topologies.{subs, topology_of}
+use Rattle.topology.specs.declared.topology.SubInput.{SubInput}
 use Rattle.topology.specs.declared.topology.Topology.{Topology}
 use Rattle.core_state.specs.Routes.{IsWriter, routes_of}
 use Rattle.core_state.specs.Shelf.{Shelf}
 use Rattle.core_state.specs.declared.journal.JournalEntry.{JournalEntry}
 use Rattle.core_state.specs.declared.journal.JournalEntry.TheVariants as entry
+use Rattle.topic_log.specs.Giving.{with_gone}
 use Rattle.topic_log.specs.Shelves.{routes_in, shelf_of, topics_of}
 use Rattle.assignor.specs.declared.assignment.Owned.{Owned}
+use Rattle.task_core.specs.Core.{inputs_at}
 use Rattle.task_core.specs.declared.task.Moved.{Moved}
 use Rattle.cluster_core.specs.Cluster.{CanMove, HasCome, HasComeWith, IsKept, IsOwned, idle}
 use Rattle.cluster_core.specs.Few.{NodesHaveFew}
+use Rattle.cluster_core.specs.Giving.{IsReadUpTo}
 use Rattle.cluster_core.specs.Moves.{AllLeave, CanRestore, kept_of, owned_of, seat_notes, seated}
 use Rattle.cluster_core.specs.Progress.{Progress, after_moves, is_owned, newest_after, notes_of_left, notes_of_restored}
 use Rattle.cluster_core.specs.declared.cluster.Cluster.{Cluster}
 use Rattle.cluster_core.specs.declared.seats.Seat.{Seat}
 use Rattle.cluster_core.specs.declared.sources.Source.{Source as Kept}
-use Rattle.cluster_core.proofs.Coming.{come-of, done-come, few-come, idle-tasks, newest-come, owned-among, running-of, topics-come}
+use Rattle.cluster_core.proofs.Coming.{come-of, done-come, few-come, idle-tasks, newest-come, owned-among, read-come, running-of, takers-come, topics-come}
+use Rattle.cluster_core.proofs.Gone.{all-leave-gone, restore-gone, seated-gone}
 use Rattle.cluster_core.proofs.Leaving.{all-left, staying_of}
 use Rattle.cluster_core.proofs.Leavings.{flat-same, left-done, left-fed, left-newest, left-notes, seated-notes, seated-owners}
 use Rattle.cluster_core.proofs.Lists.{all-mapped}
@@ -42,6 +47,7 @@ pub record IsMoved (stays : List Bool) (owners : List Owned) (c : Cluster) (note
   pub topics : topics_of next.broker ≡ topics_of c.broker
   pub topology : next.topology ≡ c.topology
   pub chain : next.chain ≡ c.chain
+  pub takers : next.takers.items ≡ c.takers.items
   pub live : next.live.items ≡ c.live.items
   pub sources : next.sources.items ≡ c.sources.items
   pub rounds : next.rounds ≡ c.rounds
@@ -73,7 +79,7 @@ module _ (items : List Item) (p : Progress) (ms : List Moved) (c : Cluster) (sou
   topics : topics_of c.broker ≡ t.topics
   topics = topics-come items p ms c h
 
-  run : AreRunning items p.order (shelf_of c.broker) ms
+  run : AreRunning items p.order (with_gone h.gone (shelf_of c.broker)) ms
   run = running-of items p ms c h
 
   owned : IsOwned t owners
@@ -111,8 +117,10 @@ module _ (items : List Item) (p : Progress) (ms : List Moved) (c : Cluster) (sou
     leaving : AllLeave (routes_of t.topics) stays c.seats.items (shelf_of c.broker) notes after
     leaving = subst (λ (ts : List TopicSpec). AllLeave (routes_of ts) stays c.seats.items (shelf_of c.broker) notes after) topics left
 
-    left-run : AreRunning items p.order after (staying_of stays ms)
-    left-run = all-left items p.order sound h.progress.order [] ms c.seats.items stays (shelf_of c.broker) after notes h.running leave-places leaving run
+    left-run : AreRunning items p.order (with_gone h.gone after) (staying_of stays ms)
+    left-run =
+        all-left items p.order sound h.progress.order [] ms c.seats.items stays (with_gone h.gone (shelf_of c.broker)) (with_gone h.gone after) notes h.running leave-places
+        (all-leave-gone h.gone (routes_of t.topics) stays c.seats.items (shelf_of c.broker) notes after leaving) run
 
     -- what making tasks anew asks for
     pub restore-ready : All (CanRestore c.topology (routes_in c.broker) after) owners
@@ -123,7 +131,10 @@ module _ (items : List Item) (p : Progress) (ms : List Moved) (c : Cluster) (sou
       where
         each : (os : List Owned) → AllByRecursion (λ (o : Owned). Contains (tasks_of (subs items)) o.task) os → AllByRecursion (CanRestore t (routes_of t.topics) after) os
         each [] all = tt
-        each (o ∷ os) all = (can-restore items p.order sound h.progress.order after (staying_of stays ms) left-run o all.0, each os all.1)
+        each (o ∷ os) all = (
+          restore-gone h.gone t (routes_of t.topics) after o (can-restore items p.order sound h.progress.order (with_gone h.gone after) (staying_of stays ms) left-run o all.0),
+          each os all.1,
+        )
 
   -- ---- after all
 
@@ -137,19 +148,20 @@ module _ (items : List Item) (p : Progress) (ms : List Moved) (c : Cluster) (sou
     leaves-so : AllLeave (routes_of t.topics) stays c.seats.items (shelf_of c.broker) notes after
     leaves-so = leaving after notes is.left
 
-    kept-run : AreRunning items p.order after (idle_kept kept)
+    kept-run : AreRunning items p.order (with_gone h.gone after) (idle_kept kept)
     kept-run =
-        subst (AreRunning items p.order after)
+        subst (AreRunning items p.order (with_gone h.gone after))
         (ap (λ (bs : List Bool). staying_of bs ms) can.stays ∙ staying-kept leaves c.seats.items ms can.idle ∙ sym (ap (λ (bs : List Bool). idle_kept (kept_of bs c.seats.items)) can.stays))
         (left-run after notes is.left)
 
     seats-next : next.seats.items ≡ seated t after owners kept
     seats-next = is.seats ∙ ap (λ (x : Topology). seated x after owners kept) h.topology
 
-    next-run : AreRunning items p.order after (map (λ (s : Seat). idle s.task) next.seats.items)
+    next-run : AreRunning items p.order (with_gone h.gone after) (map (λ (s : Seat). idle s.task) next.seats.items)
     next-run =
-        subst (λ (ss : List Seat). AreRunning items p.order after (map (λ (s : Seat). idle s.task) ss)) (sym seats-next)
-        (all-seated items p.order sound h.progress.order after (All-from_recursion NodesHaveFew (subs items) (few-come items p ms c h)) [] owners kept
+        subst (λ (ss : List Seat). AreRunning items p.order (with_gone h.gone after) (map (λ (s : Seat). idle s.task) ss))
+        (seated-gone h.gone t after owners kept ∙ sym seats-next)
+        (all-seated items p.order sound h.progress.order (with_gone h.gone after) (All-from_recursion NodesHaveFew (subs items) (few-come items p ms c h)) [] owners kept
         owners-among (owned-apart items owners owned) can.places kept-run)
 
     apart : Pairwise AreApart (map (λ (s : Seat). s.task.name) c.seats.items)
@@ -160,8 +172,11 @@ module _ (items : List Item) (p : Progress) (ms : List Moved) (c : Cluster) (sou
         left-newest (routes_of t.topics) leaves stays c.seats.items (shelf_of c.broker) after notes can.stays apart leaves-so u (writer u among)
         ∙ ap₂ (λ (os : List Owned) (n : ℕ). if is_owned os u && leaves u then n + 1 else n) h.owners (newest-come items p ms c h u among)
 
+    still-done : (u : TaskName) → Contains (tasks_of (subs items)) u → after.done u ≡ (shelf_of c.broker).done u
+    still-done u among = left-done (routes_of t.topics) stays c.seats.items (shelf_of c.broker) after notes leaves-so u (writer u among)
+
     done-next : (u : TaskName) → Contains (tasks_of (subs items)) u → after.done u ≡ p.done u
-    done-next u among = left-done (routes_of t.topics) stays c.seats.items (shelf_of c.broker) after notes leaves-so u (writer u among) ∙ done-come items p ms c h u among
+    done-next u among = still-done u among ∙ done-come items p ms c h u among
 
     notes-left : notes ≡ notes_of_left leaves p
     notes-left =
@@ -210,6 +225,11 @@ module _ (items : List Item) (p : Progress) (ms : List Moved) (c : Cluster) (sou
       live = is.live ∙ h.live;
       owners = ap (map owned_of) seats-next ∙ seated-owners t after owners kept can.places;
       running = idle-tasks next.seats.items;
+      takers = is.takers ∙ takers-come items p ms c h;
+      gone = h.gone;
+      whole = h.whole;
+      read = λ u among.
+          subst (λ (n : ℕ). IsReadUpTo h.gone (map (λ (i : SubInput). i.topic) (inputs_at t u)) u.part n) (sym (still-done u among)) (read-come items p ms c h u among);
       run = next-run;
       fed = left-fed (routes_of t.topics) stays c.seats.items (shelf_of c.broker) after notes leaves-so ∙ h.fed;
       newest = newest-next;

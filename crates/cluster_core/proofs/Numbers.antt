@@ -21,8 +21,6 @@ use Rattle.core_state.specs.declared.journal.JournalEntry.{JournalEntry}
 use Rattle.core_state.specs.declared.journal.JournalEntry.TheVariants as entry
 use Rattle.core_state.specs.declared.log.Proposal.{Proposal}
 use Rattle.core_state.proofs.Lists.{lowest-same}
-use Rattle.topic_log.specs.Shelves.{shelf_of, topics_of}
-use Rattle.topic_log.specs.declared.shelves.Shelves.{Shelves}
 use Rattle.assignor.specs.Rule.{is_with, owner_of}
 use Rattle.assignor.specs.declared.assignment.Owned.{Owned}
 use Rattle.task_core.specs.Core.{inputs_at}
@@ -91,28 +89,28 @@ owner-none [] u apart = refl
 owner-none (s ∷ ss) u apart = owner-other s (map owned_of ss) u (named-other u (idle s.task) (λ same. apart.0 (sym same))) ∙ owner-none ss u apart.1
 
 -- a task of a cluster and what it did in a round: it writes, it is done with what the broker has, and this is the feed up to which it can go
-pub record IsReady (r : Routes) (b : Shelves) (bound : TaskName → ℕ) (s : Seat) : Type 0 where
+pub record IsReady (r : Routes) (b : Shelf) (bound : TaskName → ℕ) (s : Seat) : Type 0 where
   pub writes : IsWriter r s.task.name
-  pub step : s.task.done ≡ (shelf_of b).done s.task.name
-  pub goes : bound_of b s.task ≡ bound s.task.name
+  pub step : s.task.done ≡ b.done s.task.name
+  pub goes : bound_of r b s.task ≡ bound s.task.name
 
 -- a task keeps its name in a round
-pub same-name : (lost : Option ℕ) (b : Shelves) (s : Seat) (x : Ran) → HasRun lost b s x → x.moved.task.name ≡ s.task.name
-same-name lost b s x ran = by (is_with s.worker lost) refl
+pub same-name : (lost : Option ℕ) (r : Routes) (b : Shelf) (s : Seat) (x : Ran) → HasRun lost r b s x → x.moved.task.name ≡ s.task.name
+same-name lost r b s x ran = by (is_with s.worker lost) refl
   where
     by : (l : Bool) → is_with s.worker lost ≡ l → x.moved.task.name ≡ s.task.name
     by true is = ap (λ (m : Moved). m.task.name) (ran.waits is)
     by false is = (ran.moved is).same.name
 
-module _ (r : Routes) (lost : Option ℕ) (b : Shelves) (bound : TaskName → ℕ) where
+module _ (r : Routes) (lost : Option ℕ) (b : Shelf) (bound : TaskName → ℕ) where
   -- what a task's own commit leaves
-  own-done : (from c : Shelf) (s : Seat) (x : Ran) → HasRun lost b s x → IsReady r b bound s → from.done s.task.name ≡ (shelf_of b).done s.task.name → Settles r (offered x) from c →
+  own-done : (from c : Shelf) (s : Seat) (x : Ran) → HasRun lost r b s x → IsReady r b bound s → from.done s.task.name ≡ b.done s.task.name → Settles r (offered x) from c →
       c.done s.task.name ≡ (if takes_part lost (Some s.worker) then bound s.task.name else from.done s.task.name)
   own-done from c s x ran ready same does = part (is_with s.worker lost) refl
     where
-      commits : (o : Option Proposal) → is_none o ≡ (bound_of b s.task == s.task.done) → IfSome o (IsProposedBy b s.task x.moved.task) → Settles r o from c → c.done s.task.name ≡ bound s.task.name
+      commits : (o : Option Proposal) → is_none o ≡ (bound_of r b s.task == s.task.done) → IfSome o (IsProposedBy r b s.task x.moved.task) → Settles r o from c → c.done s.task.name ≡ bound s.task.name
       commits None none proposed still =
-          let equal : bound_of b s.task ≡ s.task.done = eqb-true (bound_of b s.task) s.task.done (sym none) in
+          let equal : bound_of r b s.task ≡ s.task.done = eqb-true (bound_of r b s.task) s.task.done (sym none) in
           (λ i. (still i).done s.task.name) ∙ same ∙ sym ready.step ∙ sym equal ∙ ready.goes
       commits (Some p) none proposed applies = ap c.done (sym proposed.task) ∙ applies.done ∙ proposed.to ∙ ready.goes
 
@@ -121,8 +119,8 @@ module _ (r : Routes) (lost : Option ℕ) (b : Shelves) (bound : TaskName → �
       part false is = commits x.moved.proposal (ran.moved is).none (ran.moved is).proposal does
 
   -- what the commits of a round leave of what a task is done with
-  pub commits-done : (ss : List Seat) (rs : List Ran) → AllZip (HasRun lost b) ss rs → AllByRecursion (IsReady r b bound) ss → AllByRecursion (λ (x : Ran). IsNamed x.moved) rs →
-      Pairwise (λ (x y : Seat). AreApart x.task.name y.task.name) ss → (from c : Shelf) → AllByRecursion (λ (s : Seat). from.done s.task.name ≡ (shelf_of b).done s.task.name) ss →
+  pub commits-done : (ss : List Seat) (rs : List Ran) → AllZip (HasRun lost r b) ss rs → AllByRecursion (IsReady r b bound) ss → AllByRecursion (λ (x : Ran). IsNamed x.moved) rs →
+      Pairwise (λ (x y : Seat). AreApart x.task.name y.task.name) ss → (from c : Shelf) → AllByRecursion (λ (s : Seat). from.done s.task.name ≡ b.done s.task.name) ss →
       AllSettle r (map offered rs) from c → (u : TaskName) → IsWriter r u → c.done u ≡ (if takes_part lost (owner_of (map owned_of ss) u) then bound u else from.done u)
   commits-done [] [] zip ready named apart from c same does u writes = λ i. (does i).done u
   commits-done [] (x ∷ rs) zip ready named apart from c same does u writes = absurd zip
@@ -134,7 +132,7 @@ module _ (r : Routes) (lost : Option ℕ) (b : Shelves) (bound : TaskName → �
       mid = does.0
 
       offer : IfSome (offered x) (λ p. p.task ≡ s.task.name)
-      offer = subst (λ (v : TaskName). IfSome (offered x) (λ p. p.task ≡ v)) (same-name lost b s x zip.0) named.0
+      offer = subst (λ (v : TaskName). IfSome (offered x) (λ p. p.task ≡ v)) (same-name lost r b s x zip.0) named.0
 
       else-done : (v : TaskName) → IsWriter r v → AreApart s.task.name v → mid.done v ≡ from.done v
       else-done v writer other = settle-done r (offered x) from mid v writer (name (offered x) offer) does.1
@@ -144,7 +142,7 @@ module _ (r : Routes) (lost : Option ℕ) (b : Shelves) (bound : TaskName → �
           name (Some p) h = λ is. other (sym h ∙ is)
 
       later : (ys : List Seat) → AllByRecursion (IsReady r b bound) ys → AllByRecursion (λ (y : Seat). AreApart s.task.name y.task.name) ys →
-          AllByRecursion (λ (y : Seat). from.done y.task.name ≡ (shelf_of b).done y.task.name) ys → AllByRecursion (λ (y : Seat). mid.done y.task.name ≡ (shelf_of b).done y.task.name) ys
+          AllByRecursion (λ (y : Seat). from.done y.task.name ≡ b.done y.task.name) ys → AllByRecursion (λ (y : Seat). mid.done y.task.name ≡ b.done y.task.name) ys
       later [] ready apart same = tt
       later (y ∷ ys) ready apart same = (else-done y.task.name ready.0.writes apart.0 ∙ same.0, later ys ready.1 apart.1 same.1)
 
@@ -166,46 +164,49 @@ module _ (r : Routes) (lost : Option ℕ) (b : Shelves) (bound : TaskName → �
 -- ---- a cluster's round
 
 module _ (items : List Item) (order : List SourceRecord) (sound : IsSound items) (fits : Fits items order)
-    (b : Shelves) (topics : topics_of b ≡ (topology_of items).topics) (p : Progress) (fed : b.fed ≡ p.fed)
-    (dones : (u : TaskName) → Contains (tasks_of (subs items)) u → (shelf_of b).done u ≡ p.done u) where
+    (b : Shelf) (p : Progress) (fed : b.fed ≡ p.fed)
+    (dones : (u : TaskName) → Contains (tasks_of (subs items)) u → b.done u ≡ p.done u) where
+  abbrev routes : Routes
+  routes = (top items order sound fits).routes
+
   -- the broker closes each topic up to the feed that the numbers say
-  pub closed-same : (topic : ℕ) → shelf_closed (top items order sound fits).routes (shelf_of b) topic ≡ progress.closed (topology_of items) p topic
+  pub closed-same : (topic : ℕ) → shelf_closed routes b topic ≡ progress.closed (topology_of items) p topic
   closed-same topic =
-      lowest-same b.fed p.fed (shelf_of b).done p.done ((top items order sound fits).routes.writers topic) fed
+      lowest-same b.fed p.fed b.done p.done ((top items order sound fits).routes.writers topic) fed
       (λ w at. dones w ((means items order sound fits).written_by topic w at).0)
 
-  core-bound : (ms : List Moved) (u : TaskName) → core.bound (top items order sound fits) (on_shelf (shelf_of b) ms) u ≡ progress.bound (topology_of items) p u
+  pub core-bound : (ms : List Moved) (u : TaskName) → core.bound (top items order sound fits) (on_shelf b ms) u ≡ progress.bound (topology_of items) p u
   core-bound ms u =
-      lowest-map b.fed (core.closed (top items order sound fits).routes (on_shelf (shelf_of b) ms)) (λ (i : SubInput). i.topic) (inputs_at (topology_of items) u)
-      ∙ lowest-same b.fed p.fed (λ (i : SubInput). core.closed (top items order sound fits).routes (on_shelf (shelf_of b) ms) i.topic)
+      lowest-map b.fed (core.closed (top items order sound fits).routes (on_shelf b ms)) (λ (i : SubInput). i.topic) (inputs_at (topology_of items) u)
+      ∙ lowest-same b.fed p.fed (λ (i : SubInput). core.closed (top items order sound fits).routes (on_shelf b ms) i.topic)
       (λ (i : SubInput). progress.closed (topology_of items) p i.topic) (inputs_at (topology_of items) u) fed (λ i at. closed-same i.topic)
 
   -- each task is ready
-  pub all-ready : (front : List Moved) (ss : List Seat) → AreRunning items order (shelf_of b) (front ++ map (λ (s : Seat). idle s.task) ss) →
-      AllByRecursion (IsReady (top items order sound fits).routes b (progress.bound (topology_of items) p)) ss
+  pub all-ready : (front : List Moved) (ss : List Seat) → AreRunning items order b (front ++ map (λ (s : Seat). idle s.task) ss) →
+      AllByRecursion (IsReady routes b (progress.bound (topology_of items) p)) ss
   all-ready front [] run = tt
   all-ready front (s ∷ ss) run = (
     record {
-      writes = (means items order sound fits).writes s.task.name (is items order sound fits b topics front s.task (map (λ (x : Seat). idle x.task) ss) run);
-      step = (step items order sound fits b topics front s.task (map (λ (x : Seat). idle x.task) ss) run).0;
-      goes = bound-same items order sound fits b topics front s.task (map (λ (x : Seat). idle x.task) ss) run
+      writes = (means items order sound fits).writes s.task.name (is items order sound fits b front s.task (map (λ (x : Seat). idle x.task) ss) run);
+      step = (step items order sound fits b front s.task (map (λ (x : Seat). idle x.task) ss) run).0;
+      goes = bound-same items order sound fits b front s.task (map (λ (x : Seat). idle x.task) ss) run
           ∙ core-bound (front ++ idle s.task ∷ map (λ (x : Seat). idle x.task) ss) s.task.name;
     },
-    all-ready (front ++ idle s.task ∷ []) ss (subst (AreRunning items order (shelf_of b)) (sym (append_assoc front (idle s.task ∷ []) (map (λ (x : Seat). idle x.task) ss))) run),
+    all-ready (front ++ idle s.task ∷ []) ss (subst (AreRunning items order b) (sym (append_assoc front (idle s.task ∷ []) (map (λ (x : Seat). idle x.task) ss))) run),
   )
 
   -- what a task's offer is noted as
-  one-noted : (lost : Option ℕ) (s : Seat) (x : Ran) → HasRun lost b s x → IsReady (top items order sound fits).routes b (progress.bound (topology_of items) p) s → s.task.done ≡ p.done s.task.name →
+  one-noted : (lost : Option ℕ) (s : Seat) (x : Ran) → HasRun lost routes b s x → IsReady routes b (progress.bound (topology_of items) p) s → s.task.done ≡ p.done s.task.name →
       noted (offered x) ≡ (if takes_part lost (Some s.worker) then progress.committed (topology_of items) p s.task.name else [])
   one-noted lost s x ran ready done = part (is_with s.worker lost) refl
     where
-      test : (bound_of b s.task == s.task.done) ≡ (progress.bound (topology_of items) p s.task.name == p.done s.task.name)
+      test : (bound_of routes b s.task == s.task.done) ≡ (progress.bound (topology_of items) p s.task.name == p.done s.task.name)
       test = ap₂ (λ n k. n == k) ready.goes done
 
       some : List JournalEntry
       some = entry.Committed s.task.name (p.done s.task.name) (progress.bound (topology_of items) p s.task.name) ∷ []
 
-      by : (o : Option Proposal) → is_none o ≡ (bound_of b s.task == s.task.done) → IfSome o (IsProposedBy b s.task x.moved.task) → noted o ≡ progress.committed (topology_of items) p s.task.name
+      by : (o : Option Proposal) → is_none o ≡ (bound_of routes b s.task == s.task.done) → IfSome o (IsProposedBy routes b s.task x.moved.task) → noted o ≡ progress.committed (topology_of items) p s.task.name
       by None none proposal = ap (λ (c : Bool). if c then [] else some) (none ∙ test)
       by (Some q) none proposal =
           let from : q.from ≡ p.done s.task.name = proposal.from ∙ done in
@@ -217,8 +218,8 @@ module _ (items : List Item) (order : List SourceRecord) (sound : IsSound items)
       part false is = by x.moved.proposal (ran.moved is).none (ran.moved is).proposal
 
   -- what a round notes
-  pub all-noted : (lost : Option ℕ) (ss : List Seat) (rs : List Ran) → AllZip (HasRun lost b) ss rs →
-      AllByRecursion (IsReady (top items order sound fits).routes b (progress.bound (topology_of items) p)) ss → AllByRecursion (λ (s : Seat). s.task.done ≡ p.done s.task.name) ss →
+  pub all-noted : (lost : Option ℕ) (ss : List Seat) (rs : List Ran) → AllZip (HasRun lost routes b) ss rs →
+      AllByRecursion (IsReady routes b (progress.bound (topology_of items) p)) ss → AllByRecursion (λ (s : Seat). s.task.done ≡ p.done s.task.name) ss →
       flat_map noted (map offered rs) ≡ flat_map (λ (o : Owned). if takes_part lost (Some o.worker) then progress.committed (topology_of items) p o.task else []) (map owned_of ss)
   all-noted lost [] [] zip ready dones = refl
   all-noted lost [] (x ∷ rs) zip ready dones = absurd zip

@@ -1,5 +1,5 @@
 -- The cluster before any worker is there: its state is good.
-use Rattle.std.proofs.Common.{◌≡◌, ◌∙◌, ap, refl, sym, subst, ◌<◌, List, [], ◌∷◌, map, arith, inl}
+use Rattle.std.proofs.Common.{◌≡◌, ◌∙◌, ap, refl, sym, subst, ◌<◌, ◌≤◌, List, [], ◌∷◌, length, map, arith, inl}
 use Rattle.std.specs.Prelude.{All}
 use Rattle.std.specs.List.{AllZip}
 use Rattle.std.proofs.lemmas.List.Elements.{All-nil}
@@ -17,19 +17,21 @@ use Rattle.topology_laws.specs.Fed.{IsInItsPartition}
 use Rattle.core_state.proofs.Events.{opening-good}
 use Rattle.core_state.proofs.Lifting.{opened}
 use Rattle.core_state.specs.Routes.{routes_of}
-use Rattle.core_state.specs.Shelf.{ShelfOpens}
+use Rattle.core_state.specs.Shelf.{Shelf, ShelfOpens}
+use Rattle.core_state.specs.Wired.{log_feed}
 use Rattle.core_state.specs.declared.journal.JournalEntry.TheVariants as entry
 use Rattle.core_laws.proofs.Fitting.{core-meaning}
 use Rattle.core_laws.proofs.Wirings.{wired-well}
 use Rattle.core_laws.specs.Core.{meaning_in_core}
+use Rattle.topic_log.specs.Giving.{with_gone}
 use Rattle.topic_log.specs.Shelves.{routes_in, shelf_of, topics_of}
-use Rattle.topic_log.specs.declared.shelves.Shelves.{Shelves}
 use Rattle.task_core.specs.Core.{core_of}
 use Rattle.task_core.specs.declared.task.Moved.{Moved}
 use Rattle.feed_laws.specs.Feeds.{sources_of}
 use Rattle.feed_laws.specs.Fitting.{AreSourcesOf, Fits, IsOfDeclared}
 use Rattle.cluster_core.specs.Cluster.{HasCome, HasComeWith, IsKept, IsProgress, idle}
 use Rattle.cluster_core.specs.Few.{NodesHaveFew}
+use Rattle.cluster_core.specs.Giving.{is_taker}
 use Rattle.cluster_core.specs.Moves.{owned_of}
 use Rattle.cluster_core.specs.Progress.{before_workers}
 use Rattle.cluster_core.specs.declared.cluster.Cluster.{Cluster}
@@ -64,8 +66,8 @@ module _ (items : List Item) (sound : IsSound items) where
   t = topology_of items
 
   -- no task runs
-  none-run : (b : Shelves) → topics_of b ≡ t.topics → ShelfOpens (routes_in b) (shelf_of b) → AreRunning items [] (shelf_of b) []
-  none-run b same opens =
+  none-run : (b : Shelf) → ShelfOpens (routes_of t.topics) b → AreRunning items [] b []
+  none-run b opens =
       let law = core-meaning items sound in
       record {
         apart = tt;
@@ -73,9 +75,8 @@ module _ (items : List Item) (sound : IsSound items) where
         tasks = tt;
         named = tt;
         newest = tt;
-        good = opening-good (core_of t) (meaning_in_core items []) (law.means [] (All-nil (λ (r : SourceRecord). 0 < r.stamp.feed))) law.opens (on_shelf (shelf_of b) [])
-            (opened (core_of t) (wired-well items sound).writes (parts_of (shelf_of b) [])
-            (subst (λ ts. ShelfOpens (routes_of ts) (shelf_of b)) same opens) (λ u among. refl) (λ u among i none. absurd (none-some i none)));
+        good = opening-good (core_of t) (meaning_in_core items []) (law.means [] (All-nil (λ (r : SourceRecord). 0 < r.stamp.feed))) law.opens (on_shelf b [])
+            (opened (core_of t) (wired-well items sound).writes (parts_of b []) opens (λ u among. refl) (λ u among i none. absurd (none-some i none)));
       }
 
   -- what a cluster has before any worker
@@ -83,6 +84,7 @@ module _ (items : List Item) (sound : IsSound items) where
     pub topology : c.topology ≡ t
     pub few : All NodesHaveFew t.subs
     pub chain : c.chain ≡ chain_of t.subs
+    pub takers : c.takers.items ≡ map (is_taker (length items) t.subs) t.subs
     pub topics : topics_of c.broker ≡ t.topics
     pub opens : ShelfOpens (routes_in c.broker) (shelf_of c.broker)
     pub live : c.live.items ≡ []
@@ -104,7 +106,11 @@ module _ (items : List Item) (sound : IsSound items) where
         live = is.live;
         owners = ap (map owned_of) is.seats;
         running = sym (ap (map (λ (s : Seat). s.task)) is.seats);
-        run = none-run c.broker is.topics is.opens;
+        takers = is.takers;
+        gone = λ topic q. [];
+        whole = λ topic q below. refl;
+        read = λ u among topic reads. All-nil (λ x. log_feed x ≤ (shelf_of c.broker).done u);
+        run = none-run (with_gone (λ topic q. []) (shelf_of c.broker)) (nothing-gone (begun is.opens));
         fed = is.opens.fed;
         newest = λ u among. (begun is.opens).newest u ((wired-well items sound).writes u among);
         done = λ u among. (begun is.opens).done u ((wired-well items sound).writes u among);
@@ -115,3 +121,6 @@ module _ (items : List Item) (sound : IsSound items) where
     where
       begun : ShelfOpens (routes_in c.broker) (shelf_of c.broker) → ShelfOpens (routes_of t.topics) (shelf_of c.broker)
       begun = subst (λ ts. ShelfOpens (routes_of ts) (shelf_of c.broker)) is.topics
+
+      nothing-gone : ShelfOpens (routes_of t.topics) (shelf_of c.broker) → ShelfOpens (routes_of t.topics) (with_gone (λ topic q. []) (shelf_of c.broker))
+      nothing-gone h = record { fed = h.fed; shown = h.shown; waiting = h.waiting; done = h.done; newest = h.newest; logs = h.logs }

@@ -1,5 +1,5 @@
 -- A cluster that has come so far: its numbers are those of the steps taken, and its state is good.
-use Rattle.std.specs.Prelude.{◌≡◌, ◌⊎◌, ◌+◌, ◌≤◌, ◌^◌, ◌&&◌, ◌==◌, ℕ, Bool, false, not, if◌then◌else◌, IsTrue, IfSome, List, [], ◌∷◌, drop, length, map, All, Option, Some, None}
+use Rattle.std.specs.Prelude.{◌≡◌, ◌⊎◌, ◌+◌, ◌<◌, ◌≤◌, ◌^◌, ◌&&◌, ◌==◌, ℕ, Bool, false, not, if◌then◌else◌, IsTrue, IfSome, List, [], ◌∷◌, drop, length, map, All, Option, Some, None}
 use Rattle.std.specs.List.{AllZip}
 use Rattle.std.specs.List.Sorted.{IsStrictlyIncreasing}
 use Rattle.ksql_types.specs.declared.relation.TaskName.{TaskName}
@@ -13,9 +13,10 @@ use Rattle.topology.specs.declared.schedule.Step.{Step}
 use Rattle.topology.specs.declared.schedule.Step.TheVariants as step
 use Rattle.topology.specs.declared.topology.Topology.{Topology}
 use Rattle.core_state.specs.Good.{Good}
-use Rattle.core_state.specs.Shelf.{state_of}
+use Rattle.core_state.specs.Shelf.{Shelf, state_of}
 use Rattle.core_state.specs.State.{Instance, State}
 use Rattle.core_laws.specs.Core.{meaning_in_core}
+use Rattle.topic_log.specs.Giving.{with_gone}
 use Rattle.topic_log.specs.Shelves.{shelf_of, topics_of}
 use Rattle.topic_log.specs.declared.shelves.Shelves.{Shelves}
 use Rattle.task_core.specs.Core.{core_of, inputs_at, nodes_at}
@@ -26,6 +27,7 @@ use Rattle.assignor.specs.declared.assignment.Owned.{Owned}
 use Rattle.feed_laws.specs.Feeds.{Source}
 use Rattle.feed_laws.specs.Fitting.{AreSourcesOf, Fits}
 use Rattle.cluster_core.specs.Few.{NodesHaveFew}
+use Rattle.cluster_core.specs.Giving.{Gone, IsReadUpTo, is_taker}
 use Rattle.cluster_core.specs.Moves.{kept_of, owned_of}
 use Rattle.cluster_core.specs.Progress.{Progress}
 use Rattle.cluster_core.specs.declared.cluster.Cluster.{Cluster}
@@ -51,9 +53,13 @@ abbrev pub instance_in : List Moved → TaskName → Option (Instance (List Maps
 instance_in [] u = None
 instance_in (m ∷ ms) u = if is_named u m then Some (instance_of m) else instance_in ms u
 
--- the core of a broker and of tasks that run
-abbrev pub core_state_of : Shelves → List Moved → State (List Maps)
-core_state_of b running = state_of (record { shelf = shelf_of b; instance = instance_in running; held = λ u. [] })
+-- the core of a broker, with what it gave away, and of tasks that run
+abbrev pub core_state_of : Gone → Shelves → List Moved → State (List Maps)
+core_state_of gone b running = state_of (record { shelf = with_gone gone (shelf_of b); instance = instance_in running; held = λ u. [] })
+
+-- what a broker gave away of the inputs of a task is of feeds that the task is done with
+abbrev pub IsRead : Topology → Gone → Shelf → TaskName → Type 0
+IsRead t gone b u = IsReadUpTo gone (map (λ i. i.topic) (inputs_at t u)) u.part (b.done u)
 
 -- ---- the cluster
 
@@ -97,7 +103,11 @@ pub record HasComeWith (items : List Item) (p : Progress) (ms : List Moved) (c :
   pub named : All (λ m. IfSome m.proposal (λ q. q.task ≡ m.task.name)) ms
   pub tasks : All (λ s. IsTaskIn c.topology s.task) c.seats.items
   pub instances : All (λ s. s.task.generation ≡ (shelf_of c.broker).newest s.task.name) c.seats.items
-  pub good : Good (core_of c.topology) (meaning_in_core items p.order) (core_state_of c.broker ms)
+  pub takers : c.takers.items ≡ map (is_taker (length items) c.topology.subs) c.topology.subs
+  pub gone : Gone
+  pub whole : (topic q : ℕ) → topic < length items → gone topic q ≡ []
+  pub read : All (IsRead c.topology gone (shelf_of c.broker)) (tasks_of c.topology.subs)
+  pub good : Good (core_of c.topology) (meaning_in_core items p.order) (core_state_of gone c.broker ms)
   pub fed : c.broker.fed ≡ p.fed
   pub newest : All (λ u. (shelf_of c.broker).newest u ≡ p.newest u) (tasks_of c.topology.subs)
   pub done : All (λ u. (shelf_of c.broker).done u ≡ p.done u) (tasks_of c.topology.subs)

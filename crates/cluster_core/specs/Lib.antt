@@ -1,5 +1,6 @@
 pub mod Cluster
 pub mod Few
+pub mod Giving
 pub mod Moves
 pub mod Progress
 pub mod Rounds

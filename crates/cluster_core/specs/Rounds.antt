@@ -1,19 +1,28 @@
 -- What a round does: each task goes over what the broker has as the round begins, and then each proposal is committed.
-use Rattle.std.specs.Prelude.{◌≡◌, ◌==◌, ◌≤◌, ℕ, true, false, List, [], ◌∷◌, IfNone, IfSome, IsSome, Option, Some, None, is_none, option_map, slice_get, ◌<◌}
+use Rattle.std.specs.Prelude.{◌≡◌, ◌==◌, ◌≤◌, ◌⊎◌, ℕ, Bool, true, false, List, [], ◌∷◌, All, Contains, IfNone, IfSome, IsSome, Option, Some, None, is_none, map, option_map, slice_get, ◌<◌}
+use Rattle.std.specs.List.{AllPairs, AllZip}
 use Rattle.ksql_types.specs.declared.topic.TopicSpec.{TopicSpec}
+use Rattle.ksql_place.specs.declared.change.Change.{Change}
 use Rattle.core_state.specs.Routes.{IsWriter, Routes}
-use Rattle.core_state.specs.Shelf.{Shelf, ShelfApplies}
+use Rattle.core_state.specs.Shelf.{Shelf, ShelfApplies, shelf_closed}
+use Rattle.core_state.specs.State.{feed_of}
+use Rattle.core_state.specs.Wired.{log_feed}
 use Rattle.core_state.specs.declared.journal.JournalEntry.{JournalEntry}
 use Rattle.core_state.specs.declared.journal.JournalEntry.TheVariants as entry
+use Rattle.core_state.specs.declared.log.LogEntry.TheVariants.{Said}
 use Rattle.core_state.specs.declared.log.Proposal.{Proposal}
 use Rattle.op_chain.specs.Chain.{HaveOwnStores}
+use Rattle.topology.specs.declared.topology.SubInput.{SubInput}
 use Rattle.task_core.specs.Tasks.{CanRead, CanStore, IsProposedBy, IsSameTask, TaskView, bound_of}
 use Rattle.task_core.specs.declared.task.Moved.{Moved}
 use Rattle.assignor.specs.Rule.{is_with}
+use Rattle.topic_log.specs.Giving.{only_at, with_gone}
+use Rattle.topic_log.specs.Order.{IsInPlaceOrder}
 use Rattle.topic_log.specs.Ready.{IsProposal}
-use Rattle.topic_log.specs.Shelves.{part_at, topics_of}
+use Rattle.topic_log.specs.Shelves.{part_at, routes_in, shelf_of, topics_of}
 use Rattle.topic_log.specs.declared.shelves.Shelves.{Shelves}
 use Rattle.cluster_core.specs.Cluster.{idle}
+use Rattle.cluster_core.specs.Giving.{Gone, IsReadUpTo}
 use Rattle.cluster_core.specs.declared.rounds.Ran.{Ran}
 use Rattle.cluster_core.specs.declared.seats.Seat.{Seat}
 
@@ -27,20 +36,19 @@ count_at topics topic = option_map (λ t. t.partitions) (slice_get topics topic)
 abbrev pub HasParts : Shelves → Type 0
 HasParts b = (topic part n : ℕ) → count_at (topics_of b) topic ≡ Some n → part < n → IsSome (part_at b topic part)
 
--- a task can go over what the broker has
-pub record CanAdvance (b : Shelves) (t : TaskView) : Type 0 where
-  pub readable : CanRead b t
-  pub within : t.done ≤ bound_of b t
+-- a task can go over what a broker has
+pub record CanAdvance (r : Routes) (b : Shelf) (t : TaskView) : Type 0 where
+  pub within : t.done ≤ bound_of r b t
   pub stores : HaveOwnStores t.nodes
-  pub storable : CanStore b t
+  pub storable : CanStore r b t
 
--- a task after it went over what the broker has
-pub record IsAdvanced (b : Shelves) (t : TaskView) (m : Moved) : Type 0 where
+-- a task after it went over what a broker has
+pub record IsAdvanced (r : Routes) (b : Shelf) (t : TaskView) (m : Moved) : Type 0 where
   pub same : IsSameTask t m.task
-  pub done : m.task.done ≡ bound_of b t
-  pub none : is_none m.proposal ≡ (bound_of b t == t.done)
+  pub done : m.task.done ≡ bound_of r b t
+  pub none : is_none m.proposal ≡ (bound_of r b t == t.done)
   pub still : IfNone m.proposal (m.task ≡ t)
-  pub proposal : IfSome m.proposal (IsProposedBy b t m.task)
+  pub proposal : IfSome m.proposal (IsProposedBy r b t m.task)
 
 -- ---- proposals that are committed
 
@@ -54,10 +62,10 @@ pub record CanCommit (r : Routes) (b : Shelf) (p : Proposal) : Type 0 where
 -- ---- tasks at their owners
 
 -- a task at its owner after a round: it went over what the broker has, or waits as before where its owner is lost
-pub record HasRun (lost : Option ℕ) (b : Shelves) (s : Seat) (r : Ran) : Type 0 where
-  pub worker : r.worker ≡ s.worker
-  pub waits : is_with s.worker lost ≡ true → r.moved ≡ idle s.task
-  pub moved : is_with s.worker lost ≡ false → IsAdvanced b s.task r.moved
+pub record HasRun (lost : Option ℕ) (r : Routes) (b : Shelf) (s : Seat) (x : Ran) : Type 0 where
+  pub worker : x.worker ≡ s.worker
+  pub waits : is_with s.worker lost ≡ true → x.moved ≡ idle s.task
+  pub moved : is_with s.worker lost ≡ false → IsAdvanced r b s.task x.moved
 
 abbrev pub seat_of : Ran → Seat
 seat_of r = record { worker = r.worker; task = r.moved.task }
@@ -84,3 +92,65 @@ AllSettle r (o ∷ os) b next = (mid : Shelf) × Settles r o b mid × AllSettle 
 abbrev pub noted : Option Proposal → List JournalEntry
 noted None = []
 noted (Some p) = entry.Committed p.task p.from p.to ∷ []
+
+-- ---- what tasks are given
+
+-- the topics that a task reads
+abbrev pub topics_read : TaskView → List ℕ
+topics_read t = map (λ i. i.topic) t.inputs
+
+-- a task is given what a partition shows
+abbrev pub Takes : List Bool → TaskView → ℕ → ℕ → Type 0
+Takes takers t topic q = (slice_get takers t.name.sub ≡ Some true) × (topics_read t ≡ topic ∷ []) × (t.name.part ≡ q)
+
+-- of two tasks the second doesn't read what the first is given
+abbrev pub TakesAlone : List Bool → Seat → Seat → Type 0
+TakesAlone takers a b = (topic : ℕ) → Takes takers a.task topic b.task.name.part → ¬ Contains (topics_read b.task) topic
+
+-- a task can go over what a broker has, where the broker gave away these entries
+pub record CanGo (gone : Gone) (b : Shelves) (t : TaskView) : Type 0 where
+  pub advance : CanAdvance (routes_in b) (with_gone gone (shelf_of b)) t
+  pub readable : CanRead b t
+  pub read : IsReadUpTo gone (topics_read t) t.name.part t.done
+
+-- all of some tasks can, and none reads what an earlier one is given
+pub record CanAllGo (gone : Gone) (b : Shelves) (takers : List Bool) (seats : List Seat) : Type 0 where
+  pub each : All (λ s. CanGo gone b s.task) seats
+  pub apart : AllPairs (TakesAlone takers) seats
+
+-- a broker gives a task all that its only input shows
+pub record IsGiven (takers : List Bool) (t : TaskView) (b next : Shelves) (changes : List Change) : Type 0 where
+  pub input : SubInput
+  pub inputs : t.inputs ≡ input ∷ []
+  pub takes : slice_get takers t.name.sub ≡ Some true
+  pub same : with_gone (only_at input.topic t.name.part (map Said changes)) (shelf_of next) ≡ shelf_of b
+  pub none : (shelf_of next).shown input.topic t.name.part ≡ []
+  pub in_order : IsInPlaceOrder (map Said changes)
+  pub closed : All (λ x. feed_of x ≤ shelf_closed (routes_in b) (shelf_of b) input.topic) changes
+
+-- a task is given what a partition shows, and goes over all that was ever given away of it
+abbrev pub IsTaken : List Bool → Routes → Shelf → TaskView → Gone → ℕ → ℕ → Type 0
+IsTaken takers r b t left topic q = Takes takers t topic q × All (λ x. log_feed x ≤ bound_of r b t) (left topic q)
+
+-- a task went over what a broker has, where the broker gave away these entries, and then more
+pub record HasGone (takers : List Bool) (gone : Gone) (b next : Shelves) (t : TaskView) (m : Moved) : Type 0 where
+  pub left : Gone
+  pub same : with_gone left (shelf_of next) ≡ with_gone gone (shelf_of b)
+  pub each : (topic q : ℕ) → (left topic q ≡ gone topic q) ⊎ IsTaken takers (routes_in b) (with_gone gone (shelf_of b)) t left topic q
+  pub advanced : IsAdvanced (routes_in b) (with_gone gone (shelf_of b)) t m
+
+-- so for a task at its owner in a round
+pub record HasGoneAt (takers : List Bool) (lost : Option ℕ) (gone : Gone) (b next : Shelves) (s : Seat) (x : Ran) : Type 0 where
+  pub left : Gone
+  pub same : with_gone left (shelf_of next) ≡ with_gone gone (shelf_of b)
+  pub each : (topic q : ℕ) → (left topic q ≡ gone topic q)
+      ⊎ ((is_with s.worker lost ≡ false) × IsTaken takers (routes_in b) (with_gone gone (shelf_of b)) s.task left topic q)
+  pub ran : HasRun lost (routes_in b) (with_gone gone (shelf_of b)) s x
+
+-- and for all tasks
+pub record HaveGone (takers : List Bool) (lost : Option ℕ) (gone : Gone) (b next : Shelves) (seats : List Seat) (rans : List Ran) : Type 0 where
+  pub left : Gone
+  pub same : with_gone left (shelf_of next) ≡ with_gone gone (shelf_of b)
+  pub each : (topic q : ℕ) → (left topic q ≡ gone topic q)
+      ⊎ ((s : Seat) × Contains seats s × (is_with s.worker lost ≡ false) × IsTaken takers (routes_in b) (with_gone gone (shelf_of b)) s.task left topic q)
+  pub ran : AllZip (HasRun lost (routes_in b) (with_gone gone (shelf_of b))) seats rans

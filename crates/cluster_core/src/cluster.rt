@@ -16,6 +16,7 @@ use crate::few::check_few;
 use crate::rounds::{advance_all, ask_parts, commit_all};
 use crate::seats::{Seat, leave_all, owners_of, seat_all, staying, staying_but};
 use crate::sources::{Source, feed_sources, sources_of};
+use crate::takers::takers_of;
 use crate::texts::texts_are_utf8;
 use crate::workers::{first_workers, with_worker, without_worker};
 use assignor::{Owned, assign};
@@ -34,6 +35,7 @@ use topology::{Lined, Schedule, Step, Topology, chain_of, tasks_of};
 pub struct Cluster {
     topology: Topology,
     chain: u32,
+    takers: Vec<bool>,
     broker: Broker,
     live: Vec<u32>,
     seats: Vec<Seat>,
@@ -81,6 +83,7 @@ impl Cluster {
         let sources = sources_of(alloc, program.items.items(), files)?;
         Ok(Cluster {
             chain: chain_of(alloc, &topology)?,
+            takers: takers_of(alloc, program.items.items().len(), topology.subs.items())?,
             topology,
             broker,
             live: Vec::new(alloc),
@@ -197,7 +200,8 @@ impl Cluster {
         let rounds = self.rounds + 1;
         self.journal.push(JournalEntry::Round { number: rounds })?;
         ask_parts(&self.broker, self.topology.topics.items());
-        let rans = advance_all(alloc, self.seats, &self.broker, lost)?;
+        let seats = self.seats;
+        let rans = advance_all(alloc, seats, &mut self.broker, self.takers.as_slice(), lost)?;
         let seats = commit_all(alloc, &mut self.broker, rans, &mut self.journal)?;
         Ok(Cluster {
             seats,

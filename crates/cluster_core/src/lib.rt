@@ -6,6 +6,7 @@ mod few;
 mod rounds;
 mod seats;
 mod sources;
+mod takers;
 mod texts;
 mod workers;
 

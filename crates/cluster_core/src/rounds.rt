@@ -1,17 +1,20 @@
 //! A round: each task goes over what its inputs are closed for, and then each proposal is committed.
-ghost use Rattle.std.specs.Prelude.{◌≡◌, ◌++◌, flat_map, map, All, IfOk, IfSome, OnOk, Some};
-ghost use Rattle.std.specs.List.{AllPairs, AllZip};
+ghost use Rattle.std.specs.Prelude.{◌≡◌, ◌++◌, ℕ, flat_map, map, All, IfNone, IfOk, IfSome, IsSome, OnOk, Some};
+ghost use Rattle.std.specs.List.{AllPairs};
 ghost use Rattle.core_state.specs.Shelf.{ShelfApplies};
 ghost use Rattle.assignor.specs.Rule.{is_with};
-ghost use Rattle.topic_log.specs.Shelves.{AreTopics, routes_in, shelf_of, topics_of};
-ghost use Rattle.cluster_core.specs.Rounds.{AllSettle, CanAdvance, CanCommit, HasParts, HasRun, ProposeApart, Settles, noted, offered, seat_of};
+ghost use Rattle.task_core.specs.Tasks.{CanRead};
+ghost use Rattle.topic_log.specs.Shelves.{AreTopics, part_at, routes_in, shelf_of, topics_of};
+ghost use Rattle.cluster_core.specs.Giving.{Gone};
+ghost use Rattle.cluster_core.specs.Rounds.{AllSettle, CanAllGo, CanCommit, CanGo, HasGone, HasGoneAt, HasParts, HaveGone, IsGiven, ProposeApart, Settles, noted, offered, seat_of};
 
 use crate::seats::Seat;
 use core_state::{JournalEntry, Proposal};
+use ksql_place::Change;
 use ksql_types::TopicSpec;
 use std::alloc::{AllocError, Global};
 use task_commit::commit;
-use task_core::Moved;
+use task_core::{Moved, Task};
 use topic_log::Broker;
 
 /// Asks the broker for the partitions of its topics, all of which it has.
@@ -33,19 +36,22 @@ pub struct Ran {
 }
 
 /// The tasks after a round on a broker, in their order, with their proposals. Those of a worker that is lost in the round
-/// don't run: what they propose would be lost.
+/// don't run: what they propose would be lost. The broker gives away what tasks of sub-topologies that take it read.
 pub fn advance_all(
     alloc: Global,
     seats: Vec<Seat>,
-    broker: &Broker,
+    broker: &mut Broker,
+    takers: &[bool],
     lost: Option<u32>,
 ) -> Result<Vec<Ran>, AllocError>
-    requires { All (λ s. CanAdvance broker.now s.task) seats.items }
-    ensures { IfOk result (λ rans. AllZip (HasRun lost broker.now) seats.items rans.items) }
+    requires { (gone : Gone) × CanAllGo gone broker.old takers.now seats.items }
+    ensures topics { OnOk result (topics_of broker.new ≡ topics_of broker.old) }
+    ensures ran { IfOk result (λ rans. (gone : Gone) → CanAllGo gone broker.old takers.now seats.items →
+        HaveGone takers.now lost gone broker.old broker.new seats.items rans.items) }
 {
     let mut rans = Vec::with_capacity(alloc, seats.len())?;
     for seat in seats {
-        rans.push(outcome_of(alloc, seat, broker, lost)?)?;
+        rans.push(outcome_of(alloc, seat, broker, takers, lost)?)?;
     }
     Ok(rans)
 }
@@ -54,11 +60,15 @@ pub fn advance_all(
 fn outcome_of(
     alloc: Global,
     seat: Seat,
-    broker: &Broker,
+    broker: &mut Broker,
+    takers: &[bool],
     lost: Option<u32>,
 ) -> Result<Ran, AllocError>
-    requires { CanAdvance broker.now seat.task }
-    ensures { IfOk result (HasRun lost broker.now seat) }
+    requires { (gone : Gone) × CanGo gone broker.old seat.task }
+    ensures topics { OnOk result (topics_of broker.new ≡ topics_of broker.old) }
+    ensures parts { OnOk result ((t q : ℕ) → IsSome (part_at broker.old t q) → IsSome (part_at broker.new t q)) }
+    ensures ran { IfOk result (λ ran. (gone : Gone) → CanGo gone broker.old seat.task →
+        HasGoneAt takers.now lost gone broker.old broker.new seat ran) }
 {
     let Seat { worker, task } = seat;
     let moved = if is_lost(lost, worker) {
@@ -67,9 +77,44 @@ fn outcome_of(
             proposal: None,
         }
     } else {
-        task.advance(alloc, broker)?
+        advanced(alloc, task, broker, takers)?
     };
     Ok(Ran { worker, moved })
+}
+
+/// A task after it went over what a broker has, which it is given where its sub-topology takes that.
+fn advanced(
+    alloc: Global,
+    task: Task,
+    broker: &mut Broker,
+    takers: &[bool],
+) -> Result<Moved, AllocError>
+    requires { (gone : Gone) × CanGo gone broker.old task }
+    ensures topics { OnOk result (topics_of broker.new ≡ topics_of broker.old) }
+    ensures parts { OnOk result ((t q : ℕ) → IsSome (part_at broker.old t q) → IsSome (part_at broker.new t q)) }
+    ensures moved { IfOk result (λ moved. (gone : Gone) → CanGo gone broker.old task →
+        HasGone takers.now gone broker.old broker.new task moved) }
+{
+    match given_to(&task, broker, takers) {
+        Some(changes) => task.advance_over(alloc, broker, changes),
+        None => task.advance(alloc, broker),
+    }
+}
+
+/// What a broker gives a task: all that its only input shows, where its sub-topology takes that.
+fn given_to(task: &Task, broker: &mut Broker, takers: &[bool]) -> Option<Vec<Change>>
+    requires { CanRead broker.old task.now }
+    ensures topics { topics_of broker.new ≡ topics_of broker.old }
+    ensures parts { (t q : ℕ) → IsSome (part_at broker.old t q) → IsSome (part_at broker.new t q) }
+    ensures given { IfSome result (λ changes. IsGiven takers.now task.now broker.old broker.new changes.items) }
+    ensures none { IfNone result (broker.new ≡ broker.old) }
+{
+    let name = task.name();
+    if takers.get(name.sub as usize) != Some(&true) {
+        return None;
+    }
+    let input = task.only_input()?;
+    broker.take(input.topic, name.part)
 }
 
 /// Whether a worker is the one that is lost.

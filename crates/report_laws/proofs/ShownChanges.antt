@@ -5,6 +5,7 @@ use Rattle.std.proofs.lemmas.List.Elements.{recursion_from_All}
 use Rattle.std.proofs.lemmas.List.Elements as elements
 use Rattle.std.proofs.lemmas.List.Sums.{length-filter}
 use Rattle.std.proofs.lemmas.Cmp.{nat_cmp_total, on_total, then_total}
+use Rattle.std.proofs.lemmas.Option.{slice_get_within}
 use Rattle.std.specs.Prelude.{◌==◌, ◌&&◌, All, Contains, Some, Option, None, filter, flat_map, min, nat_le, nat_lt, slice_get}
 use Rattle.std.specs.List.{AllByRecursion, range_with_len}
 use Rattle.std.specs.Cmp.{IsTotalOrder, unsigned_Decides}
@@ -189,7 +190,7 @@ section-same closed r xs ys us vs skipped shown = ap₂ (λ n ss. record { relat
 module _ (items : List Item) (order : List SourceRecord) (sound : IsSound items) (fed : IsFed items order) (counted : AreCounted order) (b : Shelves) (g : IsGoodBroker items order b) where
   -- the feed up to which a topic is closed is that of the core
   feed-same : (number : ℕ) → shelf_closed (routes_in b) (shelf_of b) number ≡ shelf_closed (routes_of (topology_of items).topics) g.parts.shelf number
-  feed-same number = ap₂ (λ topics s. shelf_closed (routes_of topics) s number) g.topics (sym g.shelf)
+  feed-same number = λ k. lowest (sym g.fed k) (sym g.done k) ((routes_of (g.topics k)).writers number)
 
   -- ---- declared relations
 
@@ -198,7 +199,7 @@ module _ (items : List Item) (order : List SourceRecord) (sound : IsSound items)
 
   -- a declared relation is shown up to the last feed
   pub declared-feed : (r : Relation) → slice_get items r.number ≡ Some (Declared r) → shown_up_to b r ≡ b.fed
-  declared-feed r at = last-feed r at ∙ ap (λ s. s.fed) g.shelf
+  declared-feed r at = last-feed r at ∙ g.fed
 
   -- and so with all records that were fed
   all-records : (r : Relation) → slice_get items r.number ≡ Some (Declared r) → up_to (shown_up_to b r) order ≡ order
@@ -235,7 +236,7 @@ module _ (items : List Item) (order : List SourceRecord) (sound : IsSound items)
 
     part-shown : (part : ℕ) → changes_in (entries_at b q.out part) ≡ filter (λ c. partition_of q.out c == part) changes
     part-shown part =
-        ap (λ s. changes_in (s.shown q.out.number part)) (sym g.shelf)
+        ap changes_in (sym (g.shown q.out.number part (slice_get_within items q.out.number (Started q) at)))
         ∙ ap changes_in (good-shows items order sound counted fed (state_of g.parts) g.good q.out.number q at part)
         ∙ changes-said (meant_in_part items (order_upto (shelf_closed (routes_of (topology_of items).topics) g.parts.shelf q.out.number) order) q.out.number q part)
         ∙ ap (λ xs. meant_in_part items xs q.out.number q part) same-records

@@ -2,7 +2,7 @@
 use Rattle.std.proofs.Common.{◌≡◌, ◌∙◌, ap, refl, sym, subst, ℕ, ◌<◌, ◌≤◌, List, [], ◌∷◌, length, map, take, Bool, true, false, true≢false, arith}
 use Rattle.std.proofs.lemmas.List.Elements.{All-from_recursion, recursion_from_All}
 use Rattle.std.proofs.lemmas.Nat.{mod_below}
-use Rattle.std.proofs.lemmas.Option.{same_Some}
+use Rattle.std.proofs.lemmas.Option.{same_Some, slice_get_within}
 use Rattle.std.specs.Prelude.{◌==◌, All, Contains, Some, filter, flat_map, slice_get}
 use Rattle.std.specs.List.{AllByRecursion, range_with_len}
 use Rattle.std.specs.Cmp.{unsigned_Decides}
@@ -141,7 +141,7 @@ module _ (items : List Item) (order : List SourceRecord) (sound : IsSound items)
     -- its partitions show the records of the order that stand there
     source-shown : (r : Relation) → slice_get items r.number ≡ Some (Declared r) → (q : ℕ) → entries_at b r q ≡ map Fed (filter (is_in r.number q) order)
     source-shown r at q =
-        ap (λ s. s.shown r.number q) (sym g.shelf)
+        sym (g.shown r.number q (slice_get_within items r.number (Declared r) at))
         ∙ g.good.source_shown r.number q (no-writers r.number r at)
         ∙ ap (between log_feed 0 g.parts.shelf.fed) (declared-contents items order sound fed r.number r at q)
         ∙ between-all log_feed 0 g.parts.shelf.fed (map Fed (filter (is_in r.number q) order))

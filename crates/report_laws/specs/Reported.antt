@@ -1,5 +1,5 @@
 -- The report and the summary that a good broker shows: those of what the program means.
-use Rattle.std.specs.Prelude.{◌≡◌, ℕ, List, map, Some, slice_get}
+use Rattle.std.specs.Prelude.{◌≡◌, ℕ, ◌<◌, List, length, map, Some, slice_get}
 use Rattle.ksql_types.specs.declared.relation.Relation.{Relation}
 use Rattle.ksql_place.specs.declared.change.SourceRecord.{SourceRecord}
 use Rattle.ksql_program.specs.Program.{relation_of, relations}
@@ -26,11 +26,14 @@ IsOfDeclared items source = (r : Relation) × (slice_get items source.stamp.topi
 
 -- ---- the broker
 
--- A broker has the topics of a program, and is in a good state with whatever runs beside it, after the records of an order were fed.
+-- A broker has the topics of a program. With all that it gave away of repartition topics, and with whatever runs beside it, it is in
+-- a good state after the records of an order were fed.
 pub record IsGoodBroker (items : List Item) (order : List SourceRecord) (b : Shelves) : Type 0 where
   pub topics : topics_of b ≡ (topology_of items).topics
   pub parts : Parts (List Maps)
-  pub shelf : parts.shelf ≡ shelf_of b
+  pub fed : parts.shelf.fed ≡ b.fed
+  pub done : parts.shelf.done ≡ (shelf_of b).done
+  pub shown : (topic q : ℕ) → topic < length items → parts.shelf.shown topic q ≡ (shelf_of b).shown topic q
   pub good : Good (core_of (topology_of items)) (meaning_in_core items order) (state_of parts)
 
 -- the feed up to which a broker shows a relation

@@ -1,14 +1,20 @@
-use Rattle.std.proofs.Common.{◌++◌, List}
-use Rattle.std.specs.List.{AllByRecursion, AllZip}
+use Rattle.std.proofs.Common.{◌≡◌}
+use Rattle.std.specs.Prelude.{Contains}
+use Rattle.std.specs.List.{AllByRecursion}
 use Rattle.std.specs.Vec.Iter.{into_iter_items}
-use Rattle.cluster_core.specs.Rounds.{CanAdvance, HasRun}
-use Rattle.cluster_core.specs.declared.rounds.Ran.{Ran}
-use Rattle.cluster_core.specs.declared.seats.Seat.{Seat}
+use Rattle.meaning_laws.proofs.Lists.{Pairwise}
+use Rattle.topic_log.specs.Shelves.{topics_of}
+use Rattle.cluster_core.specs.Giving.{Gone}
+use Rattle.cluster_core.specs.Rounds.{CanAllGo, TakesAlone}
+use Rattle.cluster_core.proofs.Going.{Going}
 use Rattle.cluster_core.proofs.rounds.advance_all.Given as goal
 
--- what is left can advance, and what ran so far goes on to all
+-- the tasks so far went over what the broker had, and what is left of the tasks can
 abbrev pub invariant-loop-seat : goal.invariant-loop-seat
 invariant-loop-seat l = record {
-  can : AllByRecursion (λ (s : Seat). CanAdvance l.broker s.task) (into_iter_items l.seat-iterator);
-  ran : (later : List Ran) → AllZip (HasRun l.lost l.broker) (into_iter_items l.seat-iterator) later → AllZip (HasRun l.lost l.broker) l.fn.seats.items (l.rans.items ++ later);
+  topics : topics_of l.broker ≡ topics_of l.fn.broker;
+  alone : Pairwise (TakesAlone l.takers) (into_iter_items l.seat-iterator);
+  among : AllByRecursion (Contains l.fn.seats.items) (into_iter_items l.seat-iterator);
+  go : (gone : Gone) → CanAllGo gone l.fn.broker l.takers l.fn.seats.items →
+      Going l.takers l.lost gone l.fn.broker l.broker l.fn.seats.items (into_iter_items l.seat-iterator) l.rans.items;
 }

@@ -30,7 +30,7 @@ moved-requires c =
         has_left come.1.owners owners,
         come.3,
         same-come come.0 come.1 come.2 old _ live come.1.journal
-            (record { topology = refl; chain = refl; broker = refl; these = refl; seats = refl; sources = refl; rounds = refl; notes = come.4.journal }) c.requires.rises come.4,
+            (record { topology = refl; chain = refl; takers = refl; broker = refl; these = refl; seats = refl; sources = refl; rounds = refl; notes = come.4.journal }) c.requires.rises come.4,
         assign-moves come.0 come.1 come.2 old come.4 live c.requires.rises come.5 owners c.as_slice-5.result.now is same,
       );
     }
@@ -52,6 +52,6 @@ returns c =
     (is ∙ ap (λ (os : List Owned). assignment os live (tasks_of old.topology.subs)) h.owners)
     (has items (record p { live = live; journal = p.journal }) ms (has_left p.owners owners) sound
     (same-come items p ms old _ live p.journal
-    (record { topology = refl; chain = refl; broker = refl; these = refl; seats = refl; sources = refl; rounds = refl; notes = h.journal }) c.requires.rises h)
+    (record { topology = refl; chain = refl; takers = refl; broker = refl; these = refl; seats = refl; sources = refl; rounds = refl; notes = h.journal }) c.requires.rises h)
     (assign-moves items p ms old h live c.requires.rises idle owners c.as_slice-5.result.now is same)))
     c.moved.ensures

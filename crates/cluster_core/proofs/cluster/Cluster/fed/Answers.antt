@@ -88,6 +88,7 @@ returns c items p sound come =
     let next : Cluster = record {
       topology = old.topology;
       chain = old.chain;
+      takers = old.takers;
       broker = c.feed.new.self;
       live = old.live;
       seats = old.seats;
@@ -105,6 +106,7 @@ returns c items p sound come =
     (record {
       topology = refl;
       chain = refl;
+      takers = refl;
       live = refl;
       seats = refl;
       rounds = refl;

@@ -6,7 +6,7 @@ use Rattle.topic_log.specs.Shelves.{AreTopics}
 use Rattle.cluster_core.specs.Rounds.{noted, offered}
 use Rattle.cluster_core.specs.declared.cluster.Cluster.{Cluster}
 use Rattle.cluster_core.specs.declared.rounds.Ran.{Ran}
-use Rattle.cluster_core.proofs.Ready.{advance-ready, after-round, commit-apart, commit-ready}
+use Rattle.cluster_core.proofs.Ready.{after-round, all-went, can-go, commit-apart, commit-ready}
 use Rattle.cluster_core.proofs.Topics.{are-topics}
 use Rattle.cluster_core.proofs.cluster.Cluster.round.Goals as goal
 
@@ -19,13 +19,23 @@ ask_parts-requires-clause-numbered c =
     subst AreTopics (ap (λ (t : Topology). t.topics) (sym come.3.topology) ∙ sym c.items.ensures) (are-topics come.0 come.2)
 
 pub advance_all-requires : goal.advance_all-requires
-advance_all-requires c = let come = c.requires.come in advance-ready come.0 come.1 c.args.self come.2 come.3 c.ask_parts.ensures
+advance_all-requires c =
+    let come = c.requires.come in
+    (come.3.gone, can-go come.0 come.1 c.args.self come.2 come.3 c.as_slice.result.now c.as_slice.ensures.value c.ask_parts.ensures)
 
 pub commit_all-requires-clause-each : goal.commit_all-requires-clause-each
-commit_all-requires-clause-each c = let come = c.requires.come in commit-ready come.0 come.1 c.args.self come.2 come.3 c.args.lost c.in_ok-rans.rans.items c.in_ok-rans.ensures
+commit_all-requires-clause-each c =
+    let come = c.requires.come in
+    commit-ready come.0 come.1 c.args.self come.2 come.3 c.args.lost c.advance_all.new.broker c.in_ok-rans.ensures.topics c.in_ok-rans.rans.items
+    (all-went come.0 come.1 c.args.self come.2 come.3 c.as_slice.result.now c.as_slice.ensures.value c.ask_parts.ensures c.args.lost c.advance_all.new.broker c.in_ok-rans.rans.items
+    c.in_ok-rans.ensures.ran)
 
 pub commit_all-requires-clause-apart : goal.commit_all-requires-clause-apart
-commit_all-requires-clause-apart c = let come = c.requires.come in commit-apart come.0 come.1 c.args.self come.2 come.3 c.args.lost c.in_ok-rans.rans.items c.in_ok-rans.ensures
+commit_all-requires-clause-apart c =
+    let come = c.requires.come in
+    commit-apart come.0 come.1 c.args.self come.2 come.3 c.args.lost c.advance_all.new.broker c.in_ok-rans.ensures.topics c.in_ok-rans.rans.items
+    (all-went come.0 come.1 c.args.self come.2 come.3 c.as_slice.result.now c.as_slice.ensures.value c.ask_parts.ensures c.args.lost c.advance_all.new.broker c.in_ok-rans.rans.items
+    c.in_ok-rans.ensures.ran)
 
 pub returns-clause-next : goal.returns-clause-next
 returns-clause-next c items p sound h =
@@ -34,6 +44,7 @@ returns-clause-next c items p sound h =
     let next : Cluster = record {
       topology = old.topology;
       chain = old.chain;
+      takers = old.takers;
       broker = c.commit_all.new.broker;
       live = old.live;
       seats = c.in_ok-seats.seats;
@@ -41,14 +52,16 @@ returns-clause-next c items p sound h =
       rounds = old.rounds + 1;
       journal = c.commit_all.new.journal;
     } in
-    after-round items p old sound h c.args.lost rans c.in_ok-rans.ensures next
+    after-round items p old sound h c.args.lost c.advance_all.new.broker rans next
     (record {
-      ran = c.in_ok-rans.ensures;
+      has = all-went items p old sound h c.as_slice.result.now c.as_slice.ensures.value c.ask_parts.ensures c.args.lost c.advance_all.new.broker rans c.in_ok-rans.ensures.ran;
+      topics_mid = c.in_ok-rans.ensures.topics;
       settled = c.in_ok-seats.ensures.settled;
       seats = c.in_ok-seats.ensures.seats;
       topics = c.in_ok-seats.ensures.topics;
       topology = refl;
       chain = refl;
+      takers = refl;
       live = refl;
       sources = refl;
       rounds = refl;

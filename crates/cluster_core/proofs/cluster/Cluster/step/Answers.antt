@@ -16,7 +16,7 @@ round_losing-requires c =
         record come.1 { journal = come.1.journal ++ entry.Step c.args.step.now.line ∷ [] },
         come.2,
         begun come.0 come.1 c.args.self _ c.args.step.now.line
-            (record { topology = refl; chain = refl; broker = refl; these = refl; seats = refl; sources = refl; rounds = refl; notes = c.in_ok-push.ensures.items }) come.3,
+            (record { topology = refl; chain = refl; takers = refl; broker = refl; these = refl; seats = refl; sources = refl; rounds = refl; notes = c.in_ok-push.ensures.items }) come.3,
       );
     }
 
@@ -29,7 +29,7 @@ with-requires c =
         record come.1 { journal = come.1.journal ++ entry.Step c.args.step.now.line ∷ [] },
         come.2,
         begun come.0 come.1 c.args.self _ c.args.step.now.line
-            (record { topology = refl; chain = refl; broker = refl; these = refl; seats = refl; sources = refl; rounds = refl; notes = c.in_ok-push.ensures.items }) come.3,
+            (record { topology = refl; chain = refl; takers = refl; broker = refl; these = refl; seats = refl; sources = refl; rounds = refl; notes = c.in_ok-push.ensures.items }) come.3,
       );
     }
 
@@ -42,7 +42,7 @@ without-requires c =
         record come.1 { journal = come.1.journal ++ entry.Step c.args.step.now.line ∷ [] },
         come.2,
         begun come.0 come.1 c.args.self _ c.args.step.now.line
-            (record { topology = refl; chain = refl; broker = refl; these = refl; seats = refl; sources = refl; rounds = refl; notes = c.in_ok-push.ensures.items }) come.3,
+            (record { topology = refl; chain = refl; takers = refl; broker = refl; these = refl; seats = refl; sources = refl; rounds = refl; notes = c.in_ok-push.ensures.items }) come.3,
       );
     }
 
@@ -55,7 +55,7 @@ losing-requires c =
         record come.1 { journal = come.1.journal ++ entry.Step c.args.step.now.line ∷ [] },
         come.2,
         begun come.0 come.1 c.args.self _ c.args.step.now.line
-            (record { topology = refl; chain = refl; broker = refl; these = refl; seats = refl; sources = refl; rounds = refl; notes = c.in_ok-push.ensures.items }) come.3,
+            (record { topology = refl; chain = refl; takers = refl; broker = refl; these = refl; seats = refl; sources = refl; rounds = refl; notes = c.in_ok-push.ensures.items }) come.3,
       );
     }
 
@@ -68,7 +68,7 @@ drained-requires c =
         record come.1 { journal = come.1.journal ++ entry.Step c.args.step.now.line ∷ [] },
         come.2,
         begun come.0 come.1 c.args.self _ c.args.step.now.line
-            (record { topology = refl; chain = refl; broker = refl; these = refl; seats = refl; sources = refl; rounds = refl; notes = c.in_ok-push.ensures.items }) come.3,
+            (record { topology = refl; chain = refl; takers = refl; broker = refl; these = refl; seats = refl; sources = refl; rounds = refl; notes = c.in_ok-push.ensures.items }) come.3,
       );
     }
 
@@ -81,7 +81,7 @@ fed-requires c =
         record come.1 { journal = come.1.journal ++ entry.Step c.args.step.now.line ∷ [] },
         come.2,
         begun come.0 come.1 c.args.self _ c.args.step.now.line
-            (record { topology = refl; chain = refl; broker = refl; these = refl; seats = refl; sources = refl; rounds = refl; notes = c.in_ok-push.ensures.items }) come.3,
+            (record { topology = refl; chain = refl; takers = refl; broker = refl; these = refl; seats = refl; sources = refl; rounds = refl; notes = c.in_ok-push.ensures.items }) come.3,
       );
     }
 
@@ -94,7 +94,7 @@ fed-requires-in-Feed c =
         record come.1 { journal = come.1.journal ++ entry.Step c.args.step.now.line ∷ [] },
         come.2,
         begun come.0 come.1 c.args.self _ c.args.step.now.line
-            (record { topology = refl; chain = refl; broker = refl; these = refl; seats = refl; sources = refl; rounds = refl; notes = c.in_ok-push.ensures.items }) come.3,
+            (record { topology = refl; chain = refl; takers = refl; broker = refl; these = refl; seats = refl; sources = refl; rounds = refl; notes = c.in_ok-push.ensures.items }) come.3,
       );
     }
 
@@ -105,7 +105,7 @@ returns-in-Round c = ok-more c.round_losing.result
     subst (λ (s : Step). HasCome items (after_step c.args.self.topology now s) next) (sym c.in-Round.is)
     (has items now sound
     (begun items p c.args.self _ c.args.step.now.line
-    (record { topology = refl; chain = refl; broker = refl; these = refl; seats = refl; sources = refl; rounds = refl; notes = c.in_ok-push.ensures.items }) h)))
+    (record { topology = refl; chain = refl; takers = refl; broker = refl; these = refl; seats = refl; sources = refl; rounds = refl; notes = c.in_ok-push.ensures.items }) h)))
     c.round_losing.ensures
 
 pub returns-in-Start : goal.returns-in-Start
@@ -115,7 +115,7 @@ returns-in-Start c = ok-more c.with.result
     subst (λ (s : Step). HasCome items (after_step c.args.self.topology now s) next) (sym c.in-Start.is)
     (has items now sound
     (begun items p c.args.self _ c.args.step.now.line
-    (record { topology = refl; chain = refl; broker = refl; these = refl; seats = refl; sources = refl; rounds = refl; notes = c.in_ok-push.ensures.items }) h)))
+    (record { topology = refl; chain = refl; takers = refl; broker = refl; these = refl; seats = refl; sources = refl; rounds = refl; notes = c.in_ok-push.ensures.items }) h)))
     c.with.ensures
 
 pub returns-in-Stop : goal.returns-in-Stop
@@ -125,7 +125,7 @@ returns-in-Stop c = ok-more c.without.result
     subst (λ (s : Step). HasCome items (after_step c.args.self.topology now s) next) (sym c.in-Stop.is)
     (has items now sound
     (begun items p c.args.self _ c.args.step.now.line
-    (record { topology = refl; chain = refl; broker = refl; these = refl; seats = refl; sources = refl; rounds = refl; notes = c.in_ok-push.ensures.items }) h)))
+    (record { topology = refl; chain = refl; takers = refl; broker = refl; these = refl; seats = refl; sources = refl; rounds = refl; notes = c.in_ok-push.ensures.items }) h)))
     c.without.ensures
 
 pub returns-in-Lose : goal.returns-in-Lose
@@ -135,7 +135,7 @@ returns-in-Lose c = ok-more c.losing.result
     subst (λ (s : Step). HasCome items (after_step c.args.self.topology now s) next) (sym c.in-Lose.is)
     (has items now sound
     (begun items p c.args.self _ c.args.step.now.line
-    (record { topology = refl; chain = refl; broker = refl; these = refl; seats = refl; sources = refl; rounds = refl; notes = c.in_ok-push.ensures.items }) h)))
+    (record { topology = refl; chain = refl; takers = refl; broker = refl; these = refl; seats = refl; sources = refl; rounds = refl; notes = c.in_ok-push.ensures.items }) h)))
     c.losing.ensures
 
 pub returns-in-Drain : goal.returns-in-Drain
@@ -145,7 +145,7 @@ returns-in-Drain c = ok-more c.drained.result
     subst (λ (s : Step). HasCome items (after_step c.args.self.topology now s) next) (sym c.in-Drain.is)
     (has items now sound
     (begun items p c.args.self _ c.args.step.now.line
-    (record { topology = refl; chain = refl; broker = refl; these = refl; seats = refl; sources = refl; rounds = refl; notes = c.in_ok-push.ensures.items }) h)))
+    (record { topology = refl; chain = refl; takers = refl; broker = refl; these = refl; seats = refl; sources = refl; rounds = refl; notes = c.in_ok-push.ensures.items }) h)))
     c.drained.ensures
 
 pub returns-in-FeedAll : goal.returns-in-FeedAll
@@ -155,7 +155,7 @@ returns-in-FeedAll c = ok-more c.fed.result
     subst (λ (s : Step). HasCome items (feed (taken s) now) next → HasCome items (after_step c.args.self.topology now s) next) (sym c.in-FeedAll.is) (λ x. x)
     (has items now sound
     (begun items p c.args.self _ c.args.step.now.line
-    (record { topology = refl; chain = refl; broker = refl; these = refl; seats = refl; sources = refl; rounds = refl; notes = c.in_ok-push.ensures.items }) h)))
+    (record { topology = refl; chain = refl; takers = refl; broker = refl; these = refl; seats = refl; sources = refl; rounds = refl; notes = c.in_ok-push.ensures.items }) h)))
     c.fed.ensures
 
 pub returns-in-Feed : goal.returns-in-Feed
@@ -165,5 +165,5 @@ returns-in-Feed c = ok-more c.fed-in-Feed.result
     subst (λ (s : Step). HasCome items (feed (taken s) now) next → HasCome items (after_step c.args.self.topology now s) next) (sym c.in-Feed.is) (λ x. x)
     (has items now sound
     (begun items p c.args.self _ c.args.step.now.line
-    (record { topology = refl; chain = refl; broker = refl; these = refl; seats = refl; sources = refl; rounds = refl; notes = c.in_ok-push.ensures.items }) h)))
+    (record { topology = refl; chain = refl; takers = refl; broker = refl; these = refl; seats = refl; sources = refl; rounds = refl; notes = c.in_ok-push.ensures.items }) h)))
     c.fed-in-Feed.ensures

@@ -1,0 +1,42 @@
+//! The sub-topologies whose tasks are given what they read.
+ghost use Rattle.std.specs.Prelude.{◌≡◌, ◌==◌, IfOk, filter, length, map};
+ghost use Rattle.cluster_core.specs.Giving.{is_taker, reads_topic};
+
+use std::alloc::{AllocError, Global};
+use topology::{Sub, SubInput};
+
+/// Which of some sub-topologies have one input, which is a repartition topic that no other reads. The topics before the number
+/// `relations` are those of relations.
+pub fn takers_of(alloc: Global, relations: usize, subs: &[Sub]) -> Result<Vec<bool>, AllocError>
+    ensures { IfOk result (λ takers. takers.items ≡ map (is_taker relations subs.now) subs.now) }
+{
+    let mut takers = Vec::with_capacity(alloc, subs.len())?;
+    for sub in subs {
+        takers.push(is_taker(relations, subs, sub))?;
+    }
+    Ok(takers)
+}
+
+/// Whether a sub-topology is one of those.
+fn is_taker(relations: usize, subs: &[Sub], sub: &Sub) -> bool
+    ensures { result ≡ is_taker relations subs.now sub.now }
+{
+    match sub.inputs.items() {
+        [SubInput { topic, .. }] => { relations <= *topic as usize && readers(subs, *topic) == 1 }
+        _ => false,
+    }
+}
+
+/// How many sub-topologies read a topic.
+fn readers(subs: &[Sub], topic: u32) -> usize
+    ensures { result ≡ length (filter (reads_topic topic) subs.now) }
+{
+    subs.iter().filter(|sub| reads_topic(sub, topic)).count()
+}
+
+/// Whether a sub-topology reads a topic.
+fn reads_topic(sub: &Sub, topic: u32) -> bool
+    ensures { result ≡ reads_topic topic sub.now }
+{
+    sub.inputs.items().iter().any(|input| input.topic == topic)
+}
