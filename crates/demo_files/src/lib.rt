@@ -1,9 +1,10 @@
 //! What `ksql demo N` runs, as texts: its script, the file of its topic and its schedule.
 #![tactic(auto)]
 
-ghost use Rattle.std.specs.Prelude.{◌≡◌, ◌++◌, IfOk, OnOk, string_bytes};
+ghost use Rattle.std.specs.Prelude.{◌≡◌, ◌++◌, IfOk, OnOk, codes, decimal, string_bytes};
 ghost use Rattle.demo_files.specs.Demo.{demo_line, demo_schedule, demo_script, demo_topic_file, feed_lines, feeds_of};
 
+use itoa::Buffer;
 use std::alloc::{AllocError, Global};
 
 #[cfg(test)]
@@ -46,12 +47,31 @@ pub fn topic_file(alloc: Global, records: u32) -> Result<Vec<u8>, AllocError>
 fn push_line(out: &mut String, i: u32) -> Result<(), AllocError>
     ensures { OnOk result (string_bytes out.new ≡ string_bytes out.old ++ demo_line i) }
 {
-    let time = 1000 * u64::from(i);
-    let (key, page, number) = (i % 1000, i % 10, i % 100);
-    write!(
-        out,
-        "{{\"t\":{time},\"k\":{key},\"v\":{{\"PAGE\":\"p{page}\",\"N\":{number}}}}}\n"
-    )
+    out.push_str("{\"t\":")?;
+    push_number(out, 1000 * i as u64)?;
+    out.push_str(",\"k\":")?;
+    push_number(out, (i % 1000) as u64)?;
+    push_value(out, i % 10, i % 100)
+}
+
+/// Appends the value of a record with this page and this number, up to the end of the line.
+#[tactic(auto, using(crate::proofs::Texts::appends))]
+fn push_value(out: &mut String, page: u32, number: u32) -> Result<(), AllocError>
+    ensures { OnOk result (string_bytes out.new ≡ string_bytes out.old
+        ++ (codes ",\"v\":{\"PAGE\":\"p" ++ (decimal page ++ (codes "\",\"N\":" ++ (decimal number ++ codes "}}\n"))))) }
+{
+    out.push_str(",\"v\":{\"PAGE\":\"p")?;
+    push_number(out, page as u64)?;
+    out.push_str("\",\"N\":")?;
+    push_number(out, number as u64)?;
+    out.push_str("}}\n")
+}
+
+/// Appends a number.
+fn push_number(out: &mut String, number: u64) -> Result<(), AllocError>
+    ensures { OnOk result (string_bytes out.new ≡ string_bytes out.old ++ decimal number) }
+{
+    out.push_str(Buffer::new().format(number))
 }
 
 /// The schedule that feeds this many records.
