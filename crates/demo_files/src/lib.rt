@@ -13,6 +13,9 @@ mod tests;
 /// How many feeds the schedule has.
 const FEEDS: u32 = 10;
 
+/// How many bytes most lines of a file of 100,000 records have.
+const LINE: usize = 48;
+
 /// A stream of hits on pages, and tables of each page's hits: of all, and of those in each minute.
 const SCRIPT: &str = "CREATE STREAM HITS (ID BIGINT KEY, PAGE VARCHAR, N INTEGER)
   WITH (KAFKA_TOPIC='hits', VALUE_FORMAT='JSON', PARTITIONS=4);
@@ -35,7 +38,7 @@ pub fn script() -> &'static str
 pub fn topic_file(alloc: Global, records: u32) -> Result<Vec<u8>, AllocError>
     ensures { IfOk result (λ bytes. bytes.items ≡ demo_topic_file records) }
 {
-    let mut out = String::new(alloc);
+    let mut out = String::with_capacity(alloc, LINE * records as usize)?;
     for i in 0..records {
         push_line(&mut out, i)?;
     }

@@ -1,19 +1,32 @@
 -- What the stages of a run say together: a script that is read, its topic files, and its schedule.
-use Rattle.std.proofs.Common.{◌≡◌, ◌∙◌, ap, sym, subst, List, [], ◌++◌, ℕ}
+use Rattle.std.proofs.Common.{◌≡◌, ◌∙◌, ap, refl, sym, subst, List, [], ◌++◌, ℕ}
 use Rattle.std.specs.Prelude.{Option, IfSome}
 use Rattle.ksql_outside.specs.Outside.{MayJoin}
 use Rattle.ksql_program.specs.declared.program.Item.{Item}
 use Rattle.ksql_program.specs.declared.program.Program.{Program}
 use Rattle.topic_files.specs.declared.topic.Room.{Room}
 use Rattle.topic_files.specs.declared.topic.TopicLines.{TopicLines}
+use Rattle.topology.specs.declared.schedule.Schedule.{Schedule}
 use Rattle.ksql_cli.specs.declared.asked.Asked.{Asked}
+use Rattle.ksql_cli.specs.declared.run.Inputs.{Inputs}
+use Rattle.ksql_cli.specs.declared.run.Ran.{Ran}
 use Rattle.ksql_cli.specs.declared.status.Status.{Status}
-use Rattle.ksql_cli.specs.Command.{AreFed, AreRead, Files, IsProgramRead, RunCause, whole_room}
+use Rattle.ksql_cli.specs.Command.{AreFed, AreRead, Files, IsProgramRead, IsScheduled, RunCause, Runs, whole_room}
 use Rattle.ksql_cli.specs.Run.{declared_of}
-use Rattle.ksql_cli.specs.Stages.{AreDueIn, IsExpected, IsScheduleFailure}
+use Rattle.ksql_cli.specs.Stages.{AreDueIn, IsExpected, IsScheduleFailure, ReadsInputs, run_of}
 use Rattle.ksql_cli.specs.Steps.{AreTopicsDue, HasGrown, IsTopicFailure}
 use Rattle.ksql_cli.proofs.Stages.{as-they-were, cause-schedule, cause-topics, due-both, due-schedule, due-script, due-topics, of-both}
 use Rattle.ksql_cli.proofs.TopicLaws.{as_before}
+
+-- the run that is made of what was read
+pub runs-inputs : (a : Asked) (all : Files) (i : Inputs) (ran : Ran) → ran.program ≡ i.program → ran.schedule ≡ i.schedule → ReadsInputs a all i →
+    Runs a all (run_of a ran i.files.items)
+runs-inputs a all i ran program schedule reads = record {
+  read = subst (λ (p : Program). AreRead a all p i.files.items) (sym program) reads.read;
+  workers = refl;
+  steps = subst (λ (p : Program × Schedule). IsScheduled a.schedule a.workers all p.0 p.1.steps) (λ k. (sym program k, sym schedule k)) reads.steps;
+  trace = refl;
+}
 
 module _ (a : Asked) (known : Option Files) (program : Program) where
   -- a script that is read under a name that is that of the run

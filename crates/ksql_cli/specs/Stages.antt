@@ -1,15 +1,19 @@
 -- What the stages of a command say: how they end without an answer, and which names join.
-use Rattle.std.specs.Prelude.{◌≡◌, ◌⊎◌, ◌≤◌, ℕ, List, [], ◌∷◌, ◌++◌, length, Option, None, Some, IfSome}
+use Rattle.std.specs.Prelude.{◌≡◌, ◌⊎◌, ◌≤◌, ℕ, All, List, [], ◌∷◌, ◌++◌, length, Option, None, Some, IfSome}
 use Rattle.std.specs.List.{AllByRecursion}
 use Rattle.ksql_outside.specs.Outside.{MayJoin}
 use Rattle.ksql_words.specs.Words.{command_of, longest_word}
+use Rattle.ksql_program.specs.Sound.{IsSound}
 use Rattle.ksql_program.specs.declared.program.Program.{Program}
 use Rattle.topic_files.specs.declared.topic.TopicLines.{TopicLines}
 use Rattle.ksql_cli.specs.declared.asked.Asked.{Asked}
+use Rattle.feed_laws.specs.Fitting.{AreFilesOf}
+use Rattle.cluster_core.specs.Cluster.{IsBuilt}
+use Rattle.ksql_cli.specs.declared.run.Inputs.{Inputs}
 use Rattle.ksql_cli.specs.declared.run.Ran.{Ran}
 use Rattle.ksql_cli.specs.declared.status.Status.{Status}
 use Rattle.ksql_cli.specs.declared.status.Status.TheVariants as ended
-use Rattle.ksql_cli.specs.Command.{Files, IsLaterDue, IsScheduleRefused, IsScriptRefused}
+use Rattle.ksql_cli.specs.Command.{AreRead, Files, IsLaterDue, IsScheduleRefused, IsScheduled, IsScriptRefused}
 use Rattle.ksql_cli.specs.Run.{Run}
 
 -- a run's names are words, and it has 1 to 32 workers
@@ -57,6 +61,17 @@ IsRunRefusal _ = Unit {0}
 -- Usage says that the words are no command
 abbrev pub IsUsage : List (List ℕ) → Status → Type 0
 IsUsage words status = status ≡ ended.Usage → command_of words ≡ None
+
+-- what a run reads fits together: a sound program, records of its declared relations, and steps that are built
+pub record AreInputs (i : Inputs) : Type 0 where
+  pub sound : IsSound i.program.items
+  pub files : AreFilesOf i.program.items i.files.items
+  pub built : All (λ l. IsBuilt l.step) i.schedule.steps
+
+-- a run that is asked for reads this
+pub record ReadsInputs (a : Asked) (all : Files) (i : Inputs) : Type 0 where
+  pub read : AreRead a all i.program i.files.items
+  pub steps : IsScheduled a.schedule a.workers all i.program i.schedule.steps
 
 -- the run of a program on some files that is asked for
 abbrev pub run_of : Asked → Ran → List TopicLines → Run

@@ -3,12 +3,11 @@ ghost use Rattle.ksql_outside.specs.Outside.{MayJoin};
 ghost use Rattle.ksql_words.specs.Words.{longest_word};
 ghost use Rattle.ksql_program.specs.Sound.{IsSound};
 ghost use Rattle.topic_files.specs.declared.topic.TopicLines.{TopicLines as OneFile};
-ghost use Rattle.feed_laws.specs.Fitting.{AreFilesOf};
 ghost use Rattle.cluster_core.specs.Cluster.{HasCome, IsBuilt};
 ghost use Rattle.ksql_cli.specs.Command.{IsProgramRead, IsScheduled, RunCause, Runs, fed_once};
 ghost use Rattle.ksql_cli.specs.Ran.{HasRun};
 ghost use Rattle.ksql_cli.specs.Run.{progress};
-ghost use Rattle.ksql_cli.specs.Stages.{AreDueIn, HasShortNames, IsExpected, IsRunRefusal, IsScheduleFailure, IsScriptFailure, run_of};
+ghost use Rattle.ksql_cli.specs.Stages.{AreDueIn, AreInputs, HasShortNames, IsExpected, IsRunRefusal, IsScheduleFailure, IsScriptFailure, ReadsInputs, run_of};
 ghost use Rattle.ksql_cli.specs.Steps.{IsJoined};
 
 use crate::asked::Asked;
@@ -32,6 +31,14 @@ pub(crate) struct Ran {
     pub cluster: Cluster,
 }
 
+/// What a run reads: its program, the records of its topic files, and its schedule.
+#[derive(Drop)]
+pub(crate) struct Inputs {
+    pub program: Program,
+    pub files: Vec<TopicLines>,
+    pub schedule: Schedule,
+}
+
 /// The run that is asked for.
 pub(crate) fn run<F: Folder>(alloc: Global, asked: &Asked, folder: &mut F) -> Result<Ran, Status>
     requires short { HasShortNames asked.now }
@@ -39,6 +46,26 @@ pub(crate) fn run<F: Folder>(alloc: Global, asked: &Asked, folder: &mut F) -> Re
     ensures came { IfOk result (λ ran. (files : List OneFile) × HasRun (run_of asked.now ran files) ran.cluster) }
     ensures runs { IfOk result (λ ran. IfSome (F.files folder.old)
         (λ all. (files : List OneFile) × Runs asked.now all (run_of asked.now ran files) × HasRun (run_of asked.now ran files) ran.cluster)) }
+    ensures cause { IfErr result (λ status. IfSome (F.files folder.old)
+        (λ all. RunCause asked.now all (F.failed folder.old) (F.failed folder.new) status)) }
+    ensures refusal { IfErr result IsRunRefusal }
+    ensures joined { IfErr result (IsJoined (F.failed folder.old) (F.failed folder.new)) }
+    ensures reads { IfSome (F.files folder.old) (λ all. AreDueIn asked.now all (F.failed folder.old) (F.failed folder.new)) }
+    ensures same_files { F.files folder.new ≡ F.files folder.old }
+{
+    let inputs = inputs_of(alloc, asked, folder)?;
+    Ok(ran_over(alloc, inputs, asked.workers)?)
+}
+
+/// What the run that is asked for reads.
+pub(crate) fn inputs_of<F: Folder>(
+    alloc: Global,
+    asked: &Asked,
+    folder: &mut F,
+) -> Result<Inputs, Status>
+    requires short { HasShortNames asked.now }
+    ensures inputs { IfOk result AreInputs }
+    ensures read { IfOk result (λ inputs. IfSome (F.files folder.old) (λ all. ReadsInputs asked.now all inputs)) }
     ensures cause { IfErr result (λ status. IfSome (F.files folder.old)
         (λ all. RunCause asked.now all (F.failed folder.old) (F.failed folder.new) status)) }
     ensures refusal { IfErr result IsRunRefusal }
@@ -54,7 +81,29 @@ pub(crate) fn run<F: Folder>(alloc: Global, asked: &Asked, folder: &mut F) -> Re
     let topics = asked.topics.items();
     let files = read_topics(alloc, folder, topics, program.items.items(), nothing)?;
     let schedule = schedule_of(alloc, asked, &program, folder)?;
-    let cluster = driven(alloc, &program, files, asked.workers, &schedule)?;
+    Ok(Inputs {
+        program,
+        files,
+        schedule,
+    })
+}
+
+/// The run of what was read, with so many workers.
+pub(crate) fn ran_over(alloc: Global, inputs: Inputs, workers: u32) -> Result<Ran, AllocError>
+    requires { AreInputs inputs }
+    ensures program { IfOk result (λ ran. ran.program ≡ inputs.program) }
+    ensures schedule { IfOk result (λ ran. ran.schedule ≡ inputs.schedule) }
+    ensures sound { IfOk result (λ ran. IsSound ran.program.items) }
+    ensures cluster { IfOk result (λ ran. HasCome ran.program.items
+        (progress ran.program.items inputs.files.items workers ran.schedule.steps) ran.cluster) }
+{
+    let Inputs {
+        program,
+        files,
+        schedule,
+    } = inputs;
+    let topology = build(alloc, &program)?;
+    let cluster = drive(alloc, &program, topology, files, workers, &schedule)?;
     Ok(Ran {
         program,
         schedule,
@@ -127,21 +176,4 @@ fn fed_once(alloc: Global) -> Result<Schedule, AllocError>
     Ok(Schedule {
         steps: Items::of(vec![in alloc; feed, drain]?),
     })
-}
-
-/// The cluster of a program with so many workers, after the steps of a schedule.
-fn driven(
-    alloc: Global,
-    program: &Program,
-    files: Vec<TopicLines>,
-    workers: u32,
-    schedule: &Schedule,
-) -> Result<Cluster, AllocError>
-    requires sound { IsSound program.now.items }
-    requires files { AreFilesOf program.now.items files.items }
-    requires built { All (λ l. IsBuilt l.step) schedule.now.steps }
-    ensures { IfOk result (HasCome program.now.items (progress program.now.items files.items workers schedule.now.steps)) }
-{
-    let topology = build(alloc, program)?;
-    drive(alloc, program, topology, files, workers, schedule)
 }

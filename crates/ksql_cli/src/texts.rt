@@ -11,11 +11,11 @@ ghost use Rattle.topology_build.specs.Text.{topology_text};
 ghost use Rattle.ksql_cli.specs.Command.{ExplainCause, IsProgramRead, RunCause, Runs, demo_asked, demo_files};
 ghost use Rattle.ksql_cli.specs.Ran.{HasRun};
 ghost use Rattle.ksql_cli.specs.Run.{Run, report_of, summary_of};
-ghost use Rattle.ksql_cli.specs.Stages.{AreDueIn, HasShortNames, IsRunRefusal};
+ghost use Rattle.ksql_cli.specs.Stages.{AreDueIn, AreInputs, HasShortNames, IsRunRefusal, ReadsInputs};
 ghost use Rattle.ksql_cli.specs.Steps.{IsJoined};
 
 use crate::asked::Asked;
-use crate::run::{Ran, accepted_program, run};
+use crate::run::{Inputs, Ran, accepted_program, inputs_of, ran_over, run};
 use crate::status::Status;
 use cluster_core::Cluster;
 use demo_files::{schedule, script, topic_file};
@@ -125,15 +125,26 @@ pub(crate) fn demonstrated(
     ensures ran { IfOk result (λ finished. (run : Run) × Runs (demo_asked workers) (demo_files records) run × IsSomeAnd finished.cluster (HasRun run)) }
 {
     let asked = demo_asked(alloc, workers)?;
-    let mut folder = demo_folder(alloc, records)?;
-    let Ok(ran) = run(alloc, &asked, &mut folder) else {
-        return Err(AllocError);
-    };
+    let inputs = demo_inputs(alloc, &asked, records)?;
+    let ran = ran_over(alloc, inputs, workers)?;
     let text = broker_summary(alloc, &ran.program, ran.cluster.broker())?;
     Ok(Finished {
         text: text.into_bytes(),
         cluster: Some(ran.cluster),
     })
+}
+
+/// What a demo that asks this reads, of so many records. Its texts are gone before it runs.
+fn demo_inputs(alloc: Global, asked: &Asked, records: u32) -> Result<Inputs, AllocError>
+    requires short { HasShortNames asked.now }
+    ensures inputs { IfOk result AreInputs }
+    ensures read { IfOk result (ReadsInputs asked.now (demo_files records)) }
+{
+    let mut folder = demo_folder(alloc, records)?;
+    match inputs_of(alloc, asked, &mut folder) {
+        Ok(inputs) => Ok(inputs),
+        Err(_) => Err(AllocError),
+    }
 }
 
 /// What a demo asks for.

@@ -10,9 +10,9 @@ use Rattle.ksql_cli.proofs.Runs.{files-read, schedule-cause, schedule-due, topic
 use Rattle.ksql_cli.proofs.Sounds.{feedable}
 use Rattle.ksql_cli.proofs.Stages.{grown-both, later-joined, may-grow}
 use Rattle.ksql_cli.proofs.TopicLaws.{whole_few, whole_short}
-use Rattle.ksql_cli.proofs.run.run.Given as given
-use Rattle.ksql_cli.proofs.run.run.Goals as goal
-use Rattle.ksql_cli.proofs.run.run.Goals.{After-schedule_of}
+use Rattle.ksql_cli.proofs.run.inputs_of.Given as given
+use Rattle.ksql_cli.proofs.run.inputs_of.Goals as goal
+use Rattle.ksql_cli.proofs.run.inputs_of.Goals.{After-schedule_of}
 
 -- the files that were read before the schedule
 fed : (g : given.Over) (c : After-schedule_of g) → IfSome (g.F.Folder.files c.args.folder.now) (λ all. AreRead c.args.asked.now all c.in_ok-program.program c.in_ok-files.files.items)
@@ -95,6 +95,3 @@ returns-in_err-schedule-clause-reads g c = due g (goal.at.returns-in_err-schedul
 
 pub returns-clause-reads : goal.returns-clause-reads
 returns-clause-reads g c = due g (goal.at.returns-clause-reads g c).After-schedule_of c.in_ok-schedule.ensures.grows
-
-pub returns-in_err-cluster-clause-reads : goal.returns-in_err-cluster-clause-reads
-returns-in_err-cluster-clause-reads g c = due g (goal.at.returns-in_err-cluster-clause-reads g c).After-schedule_of c.in_ok-schedule.ensures.grows
