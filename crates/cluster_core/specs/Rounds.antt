@@ -132,14 +132,14 @@ pub record IsGiven (takers : List Bool) (t : TaskView) (b next : Shelves) (chang
 abbrev pub IsTaken : List Bool → Routes → Shelf → TaskView → Gone → ℕ → ℕ → Type 0
 IsTaken takers r b t left topic q = Takes takers t topic q × All (λ x. log_feed x ≤ bound_of r b t) (left topic q)
 
--- a task went over what a broker has, where the broker gave away these entries, and then more
+-- a task advanced over what a broker has together with what it had given away, and the broker may have given it more since
 pub record HasGone (takers : List Bool) (gone : Gone) (b next : Shelves) (t : TaskView) (m : Moved) : Type 0 where
   pub left : Gone
   pub same : with_gone left (shelf_of next) ≡ with_gone gone (shelf_of b)
   pub each : (topic q : ℕ) → (left topic q ≡ gone topic q) ⊎ IsTaken takers (routes_in b) (with_gone gone (shelf_of b)) t left topic q
   pub advanced : IsAdvanced (routes_in b) (with_gone gone (shelf_of b)) t m
 
--- so for a task at its owner in a round
+-- the task of a seat advanced like that in a round, unless the worker that owns it was lost
 pub record HasGoneAt (takers : List Bool) (lost : Option ℕ) (gone : Gone) (b next : Shelves) (s : Seat) (x : Ran) : Type 0 where
   pub left : Gone
   pub same : with_gone left (shelf_of next) ≡ with_gone gone (shelf_of b)
@@ -147,7 +147,7 @@ pub record HasGoneAt (takers : List Bool) (lost : Option ℕ) (gone : Gone) (b n
       ⊎ ((is_with s.worker lost ≡ false) × IsTaken takers (routes_in b) (with_gone gone (shelf_of b)) s.task left topic q)
   pub ran : HasRun lost (routes_in b) (with_gone gone (shelf_of b)) s x
 
--- and for all tasks
+-- the tasks of all seats did
 pub record HaveGone (takers : List Bool) (lost : Option ℕ) (gone : Gone) (b next : Shelves) (seats : List Seat) (rans : List Ran) : Type 0 where
   pub left : Gone
   pub same : with_gone left (shelf_of next) ≡ with_gone gone (shelf_of b)

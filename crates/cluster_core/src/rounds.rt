@@ -36,7 +36,7 @@ pub struct Ran {
 }
 
 /// The tasks after a round on a broker, in their order, with their proposals. Those of a worker that is lost in the round
-/// don't run: what they propose would be lost. The broker gives away what tasks of sub-topologies that take it read.
+/// don't run: what they propose would be lost. The broker gives the tasks of takers what they read.
 pub fn advance_all(
     alloc: Global,
     seats: Vec<Seat>,

@@ -17,7 +17,7 @@ pub fn takers_of(alloc: Global, relations: usize, subs: &[Sub]) -> Result<Vec<bo
     Ok(takers)
 }
 
-/// Whether a sub-topology is one of those.
+/// Whether a sub-topology has one input, which is a repartition topic that no other of these reads.
 fn is_taker(relations: usize, subs: &[Sub], sub: &Sub) -> bool
     ensures { result ≡ is_taker relations subs.now sub.now }
 {

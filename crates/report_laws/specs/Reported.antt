@@ -26,8 +26,8 @@ IsOfDeclared items source = (r : Relation) × (slice_get items source.stamp.topi
 
 -- ---- the broker
 
--- A broker has the topics of a program. With all that it gave away of repartition topics, and with whatever runs beside it, it is in
--- a good state after the records of an order were fed.
+-- A broker has the topics of a program, and there is a good state after the records of an order that has its feeds, its commits and
+-- what it shows of the relations. Tasks, and what repartition topics show, may be anything there.
 pub record IsGoodBroker (items : List Item) (order : List SourceRecord) (b : Shelves) : Type 0 where
   pub topics : topics_of b ≡ (topology_of items).topics
   pub parts : Parts (List Maps)

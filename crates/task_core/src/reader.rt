@@ -43,7 +43,7 @@ impl Reader<'_> {
         self.left.is_done() && self.right.is_done()
     }
 
-    /// How many entries are left; out of memory where they are more than a list can have.
+    /// How many entries are left; out of memory where a usize can't count them.
     pub fn len(&self) -> Result<usize, AllocError>
         ensures { IfOk result (λ count. count ≡ left_len self.now) }
     {
@@ -107,7 +107,7 @@ impl Rest<'_> {
         self.entries.fed.is_empty() && self.entries.said.is_empty() && self.given.is_empty()
     }
 
-    /// How many entries are left; out of memory where they are more than a list can have.
+    /// How many entries are left; out of memory where a usize can't count them.
     fn len(&self) -> Result<usize, AllocError>
         ensures { IfOk result (λ count. count ≡ length (entries_left self.now)) }
     {

@@ -144,7 +144,7 @@ impl Task {
         self.moved(alloc, reader, bound)
     }
 
-    /// The same of a task with one input that is given all that this shows: changes in the order of their places.
+    /// As `advance`, for a task with one input that is given what the input shows: changes in the order of their places.
     pub fn advance_over(
         self,
         alloc: Global,

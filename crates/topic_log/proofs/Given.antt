@@ -1,10 +1,11 @@
 -- The changes that a partition shows are given away, and nothing else changes.
-use Rattle.std.proofs.Common.{◌≡◌, ◌∙◌, ap, sym, refl, subst, ℕ, ◌==◌, ◌≤◌, List, [], ◌∷◌, ◌++◌, map, length, set, Option, Some, None, arith, ⊎_elim, append-nil, eq-eqb, rules}
+use Rattle.std.proofs.Common.{◌≡◌, ◌∙◌, ap, sym, refl, subst, ℕ, ◌==◌, ◌≤◌, get_or, List, [], ◌∷◌, ◌++◌, map, length, set, Option, Some, None, arith, ⊎_elim, append-nil, eq-eqb, rules}
 use Rattle.std.specs.Prelude.{All, IsSome, slice_get, option_and_then, option_map, unwrap_or, if◌then◌else◌}
 use Rattle.std.specs.Global.{Vec}
 use Rattle.std.specs.List.{AllByRecursion, AllZip}
 use Rattle.std.proofs.lemmas.Bool.{cases_eq, cond-true, cond-false, ne_eqb}
 use Rattle.std.proofs.lemmas.List.{length-set}
+use Rattle.std.proofs.lemmas.Option.{same_Some}
 use Rattle.std.proofs.lemmas.List.Elements.{All-from_recursion, All-nil, All-set, recursion_from_All}
 use Rattle.ksql_types.specs.declared.relation.TaskName.{TaskName}
 use Rattle.ksql_types.specs.declared.topic.TopicSpec.{TopicSpec}
@@ -23,6 +24,7 @@ use Rattle.topic_log.specs.Entries.{entries_of, shown_in}
 use Rattle.topic_log.specs.Giving.{only_at, with_gone}
 use Rattle.topic_log.specs.Order.{IsInPlaceOrder, feed_in}
 use Rattle.topic_log.specs.Shelves.{AreShelves, IsPartShelf, IsTopicShelf, Waits, closed_in, dones_of, part_at, routes_in, shelf_of, task_at, waiting_in}
+use Rattle.topic_log.proofs.Read.{was-read}
 use Rattle.topic_log.proofs.OneTopic.{All-slice_get, Replaces, closed-is, part-else, part-there, part-was, routes-same, shelves-kept, slice_get-set_else, slice_get-set_same, task-else, task-there, task-was}
 
 -- the next shelves are these, where one partition shows nothing any more
@@ -50,6 +52,27 @@ part-is s i q some = in-topic (slice_get s.topics.items i) refl some
         (t : TopicShelf) × (p : PartShelf) × (slice_get s.topics.items i ≡ Some t) × (slice_get t.parts.items q ≡ Some p)
     in-topic None at some = cc
     in-topic (Some t) at some = in-part t at (slice_get t.parts.items q) refl some
+
+-- a topic and a partition of it that are there, as they were read
+pub part-read : (s : Shelves) (i q : ℕ) (t : TopicShelf) (p : PartShelf) → IsSome (part_at s i q) → t ≡ get_or s.topics.items i t → p ≡ get_or t.parts.items q p →
+    (slice_get s.topics.items i ≡ Some t) × (slice_get t.parts.items q ≡ Some p)
+part-read s i q t p some topic part =
+    let is = part-is s i q some in
+    let at : slice_get s.topics.items i ≡ Some t = was-read s.topics.items i t is.0 is.2 topic in
+    let same : is.0 ≡ t = same_Some is.0 t (sym is.2 ∙ at) in
+    (at, was-read t.parts.items q p is.1 (subst (λ (t : TopicShelf). slice_get t.parts.items q ≡ Some is.1) same is.3) part)
+
+not-said : (fed : List SourceRecord) (said changes : List Change) → ¬ (fed ≡ []) → ¬ (entries_of fed said ≡ map Said changes)
+not-said [] said changes some same = some refl
+not-said (x ∷ xs) said [] some same = cc
+not-said (x ∷ xs) said (c ∷ cs) some same = cc
+
+-- a partition to which records were fed doesn't show changes alone
+pub records-shown : (s : Shelves) (i q : ℕ) (t : TopicShelf) (p : PartShelf) → slice_get s.topics.items i ≡ Some t → slice_get t.parts.items q ≡ Some p →
+    ¬ (p.fed.items ≡ []) → (changes : List Change) → ¬ ((shelf_of s).shown i q ≡ map Said changes)
+records-shown s i q t p topic part some changes same =
+    let at : part_at s i q ≡ Some p = ap (option_and_then (λ (t : TopicShelf). slice_get t.parts.items q)) topic ∙ part in
+    not-said p.fed.items p.said.items changes some (sym (ap (λ (o : Option PartShelf). unwrap_or (option_map shown_in o) []) at) ∙ same)
 
 said-of : (P : LogEntry → Type 0) (xs : List Change) → AllByRecursion P (map Said xs) → AllByRecursion (λ (x : Change). P (Said x)) xs
 said-of P [] all = tt

@@ -1,5 +1,5 @@
 //! The broker and its calls.
-ghost use Rattle.std.specs.Prelude.{◌≡◌, ℕ, ◌+◌, ◌<◌, ◌≤◌, ◌^◌, [], All, IfErr, IfNone, IfOk, IfSome, IsSome, OnErr, OnOk, Some, length, map};
+ghost use Rattle.std.specs.Prelude.{◌≡◌, ℕ, ◌+◌, ◌<◌, ◌≤◌, ◌^◌, [], All, IfErr, IfNone, IfOk, IfSome, IsSome, List, OnErr, OnOk, Some, length, map};
 ghost use Rattle.ksql_place.specs.Ascending.{ascending};
 ghost use Rattle.ksql_place.specs.Order.{record_cmp};
 ghost use Rattle.ksql_place.specs.Routing.{partitions_of};
@@ -136,6 +136,7 @@ impl Broker {
         ensures in_order { IfSome result (λ changes. IsInPlaceOrder (map Said changes.items)) }
         ensures closed { IfSome result (λ changes. All (λ x. feed_of x ≤ shelf_closed (routes_in self.old) (shelf_of self.old) topic) changes.items) }
         ensures kept { IfNone result (self.new ≡ self.old) }
+        ensures records { IfNone result ((changes : List Change) → ¬ ((shelf_of self.old).shown topic part ≡ map Said changes)) }
     {
         let shown = &self.inner.topics[topic as usize].parts[part as usize];
         if !shown.fed.is_empty() {

@@ -154,7 +154,7 @@ fn show_each(part: &mut PartShelf, closed: u64)
     }
 }
 
-/// Shows all that waits of a writer, in a partition that shows no change yet.
+/// Shows all that waits of a writer, in a partition that shows no change.
 fn show_whole(part: &mut PartShelf, writer: usize)
     requires writer { writer < length part.old.waiting.items }
     ensures fed { part.new.fed ≡ part.old.fed }
@@ -166,7 +166,7 @@ fn show_whole(part: &mut PartShelf, writer: usize)
 }
 
 /// The only writer of whom anything waits, where all of that is of feeds up to the closed one and the partition shows no
-/// change yet.
+/// change.
 fn whole_due(part: &PartShelf, closed: u64) -> Option<usize>
     requires { All (λ w. Rises change_cmp w.items) part.now.waiting.items }
     ensures { IfSome result (IsWholeDue closed part.now) }

@@ -158,7 +158,18 @@ fn reserve_part(part: &mut PartShelf, writer: usize, more: usize) -> Result<(), 
 {
     reserve_waiting(&mut part.waiting, writer, more)?;
     let coming = room_for(part.waiting.as_slice(), more)?;
-    part.said.reserve(coming)
+    reserve_shown(&mut part.said, coming)
+}
+
+/// Makes room for so many more changes. New room is taken where there are none yet: a list that grows copies all of its room.
+fn reserve_shown(said: &mut Vec<Change>, more: usize) -> Result<(), AllocError>
+    ensures items { said.new.items ≡ said.old.items }
+    ensures room { OnOk result (length said.new.items + more ≤ vec_capacity said.new) }
+{
+    if said.is_empty() && said.capacity() < more {
+        *said = Vec::with_capacity(*said.allocator(), more)?;
+    }
+    said.reserve(more)
 }
 
 /// Makes room for so many changes of a task beside those of it that wait, where any do.

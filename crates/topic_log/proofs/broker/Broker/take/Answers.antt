@@ -1,9 +1,10 @@
-use Rattle.std.proofs.Common.{◌≡◌, ◌∙◌, ap, eqb-true, refl, subst, sym, ℕ, ◌≤◌, List, length, map, arith}
-use Rattle.std.specs.Prelude.{All, IsSome, slice_get, unwrap_or, Some}
+use Rattle.std.proofs.Common.{◌≡◌, ◌∙◌, ap, eq-eqb, eqb-true, refl, subst, sym, ℕ, ◌≤◌, List, [], length, map, arith}
+use Rattle.std.specs.Prelude.{All, IsSome, slice_get, unwrap_or}
 use Rattle.std.specs.BTreeMap.{get}
 use Rattle.std.specs.Ordering.{nat_cmp}
 use Rattle.std.specs.Global.{Vec}
 use Rattle.std.specs.Vec.{with_item}
+use Rattle.std.proofs.lemmas.Bool.{false≢true}
 use Rattle.std.proofs.lemmas.List.{length-set, nil_from_length}
 use Rattle.std.proofs.lemmas.Option.{same_Some}
 use Rattle.ksql_types.specs.declared.topic.TopicSpec.{TopicSpec}
@@ -18,9 +19,8 @@ use Rattle.topic_log.specs.declared.shelves.TopicShelf.{TopicShelf}
 use Rattle.topic_log.specs.Giving.{only_at, with_gone}
 use Rattle.topic_log.specs.Order.{IsInPlaceOrder}
 use Rattle.topic_log.specs.Shelves.{part_at, routes_in, shelf_of, topics_of}
-use Rattle.topic_log.proofs.Given.{Gives, given-closed, given-in_order, gives, part-is, parts-there, shelves-given, shown-none}
+use Rattle.topic_log.proofs.Given.{Gives, given-closed, given-in_order, gives, part-read, parts-there, records-shown, shelves-given, shown-none}
 use Rattle.topic_log.proofs.OneTopic.{topics-same}
-use Rattle.topic_log.proofs.Read.{was-read}
 use Rattle.topic_log.proofs.broker.Broker.take.Goals as goal
 
 abbrev left_part : PartShelf → Vec Change → PartShelf
@@ -38,26 +38,20 @@ facts : (c : goal.After-self-1) → Gives c.self.inside.inner
     c.index_mut-shelf.result.now (left_part c.index_mut-shelf.result.now c.replace.new.dest)
 facts c =
     let s : Shelves = c.self.inside.inner in
-    let is = part-is s c.args.topic c.args.part (subst (λ (b : Shelves). IsSome (part_at b c.args.topic c.args.part)) (sym c.self.view_is) c.requires) in
+    let some = subst (λ (b : Shelves). IsSome (part_at b c.args.topic c.args.part)) (sym c.self.view_is) c.requires in
     let t : TopicShelf = c.index_mut.result.now in
     let p : PartShelf = c.index_mut-shelf.result.now in
-    let at : slice_get s.topics.items c.args.topic ≡ Some t = was-read s.topics.items c.args.topic t is.0 is.2 c.index_mut.ensures.value in
-    let topic : is.0 ≡ t = same_Some is.0 t (sym is.2 ∙ at) in
-    let there : slice_get t.parts.items c.args.part ≡ Some p =
-    was-read t.parts.items c.args.part p is.1 (subst (λ (t : TopicShelf). slice_get t.parts.items c.args.part ≡ Some is.1) topic is.3) c.index_mut-shelf.ensures.value in
-    let t0 : TopicShelf = c.index.result.now in
+    let read = part-read s c.args.topic c.args.part t p some c.index_mut.ensures.value c.index_mut-shelf.ensures.value in
     let p0 : PartShelf = c.index-shown.result.now in
-    let at0 : slice_get s.topics.items c.args.topic ≡ Some t0 = was-read s.topics.items c.args.topic t0 is.0 is.2 c.index.ensures in
-    let topic0 : is.0 ≡ t0 = same_Some is.0 t0 (sym is.2 ∙ at0) in
-    let there0 : slice_get t0.parts.items c.args.part ≡ Some p0 =
-    was-read t0.parts.items c.args.part p0 is.1 (subst (λ (t : TopicShelf). slice_get t.parts.items c.args.part ≡ Some is.1) topic0 is.3) c.index-shown.ensures in
-    let part : p0 ≡ p = same_Some p0 p (sym there0 ∙ ap (λ (t : TopicShelf). slice_get t.parts.items c.args.part) (sym topic0 ∙ topic) ∙ there) in
+    let read0 = part-read s c.args.topic c.args.part c.index.result.now p0 some c.index.ensures c.index-shown.ensures in
+    let topic : c.index.result.now ≡ t = same_Some c.index.result.now t (sym read0.0 ∙ read.0) in
+    let part : p0 ≡ p = same_Some p0 p (sym read0.1 ∙ ap (λ (t : TopicShelf). slice_get t.parts.items c.args.part) topic ∙ read.1) in
     let zero : p0.fed.len ≡ 0 = eqb-true p0.fed.len 0 (sym c.is_empty.ensures ∙ c.if-not-is_empty.false) in
     record {
-      replaces = record { at = at; items = refl; spec = refl };
+      replaces = record { at = read.0; items = refl; spec = refl };
       fed = refl;
       tasks = refl;
-      there = there;
+      there = read.1;
       parts = refl;
       unfed = ap (λ (p : PartShelf). p.fed.items) (sym part) ∙ nil_from_length p0.fed.items (omega (arith, zero, p0.fed.ok.0));
       fed_left = refl;
@@ -98,3 +92,13 @@ returns-clause-closed c =
     subst (λ (v : Vec Change). All (λ x. feed_of x ≤ shelf_closed (routes_in c.args.self.now) (shelf_of c.args.self.now) c.args.topic) v.items) (sym c.replace.ensures.value)
     (subst (λ (b : Shelves). All (λ x. feed_of x ≤ shelf_closed (routes_in b) (shelf_of b) c.args.topic) c.index_mut-shelf.result.now.said.items) c.self.view_is
     (given-closed (facts c) c.self.invariant.0))
+
+pub returns-then-not-is_empty-clause-records : goal.returns-then-not-is_empty-clause-records
+returns-then-not-is_empty-clause-records c =
+    let s : Shelves = c.self.inside.inner in
+    let p : PartShelf = c.index-shown.result.now in
+    let some = subst (λ (b : Shelves). IsSome (part_at b c.args.topic c.args.part)) (sym c.self.view_is) c.requires in
+    let read = part-read s c.args.topic c.args.part c.index.result.now p some c.index.ensures c.index-shown.ensures in
+    let fed : ¬ (p.fed.items ≡ []) = λ none. false≢true (sym c.if-not-is_empty.true ∙ c.is_empty.ensures ∙ eq-eqb p.fed.len 0 (omega (arith, p.fed.ok.0, ap length none))) in
+    λ changes same. records-shown s c.args.topic c.args.part c.index.result.now p read.0 read.1 fed changes
+    (ap (λ (b : Shelves). (shelf_of b).shown c.args.topic c.args.part) c.self.view_is ∙ same)
