@@ -12,8 +12,8 @@ ghost use Rattle.join_ops.specs.Tables.{HoldTables};
 
 use ksql_place::Change;
 use ksql_types::{Changelog, Row, StoreEntry};
-use operator::with_number;
-use row_ops::{standing, turn};
+use operator::{spelled_key, with_number};
+use row_ops::{standing_at, turn_at};
 use state_store::Store;
 use std::alloc::{AllocError, Global};
 
@@ -118,8 +118,9 @@ fn turned(
         × HoldsRows own.new.map (mine ++ record { side = side; change = change.now } ∷ [])) }
     ensures base { (base : Values) → IsBase base own.old → IsBase base own.new }
 {
+    let key = spelled_key(alloc, &change.key)?;
     Ok(Latest {
-        own: turn(own, alloc, change)?,
-        other: standing(other, alloc, &change.key)?,
+        own: turn_at(own, alloc, key.items(), change)?,
+        other: standing_at(other, alloc, key.items())?,
     })
 }

@@ -2,7 +2,8 @@
 ghost use Rattle.std.specs.Prelude.{◌≡◌, ℕ, List, [], ◌∷◌, ◌++◌, All, IfOk, IfSome, OnOk, option_copied, option_map, unwrap_or};
 ghost use Rattle.ksql_nodes.specs.Entries.{Entry, of_key};
 ghost use Rattle.state_store.specs.Store.{Values, IsBase};
-ghost use Rattle.record_codec.specs.Spelling.{spelling, IsShort, IsSpellable};
+ghost use Rattle.ksql_types.specs.declared.value.Value.{Value as OneValue};
+ghost use Rattle.record_codec.specs.Spelling.{spelling, values, IsShort, IsSpellable, IsSpellableRow};
 ghost use Rattle.operator.specs.Kept.{kept, kept_after};
 ghost use Rattle.operator.specs.Storable.{HasShortRow};
 ghost use Rattle.row_ops.specs.InputTable.{HoldsRows, latest_row};
@@ -29,11 +30,28 @@ pub fn turn(
     ensures base { (base : Values) → IsBase base store.old → IsBase base store.new }
 {
     let key = spelled_key(alloc, &change.key)?;
-    let found = store.find(key.items());
+    turn_at(store, alloc, key.items(), change)
+}
+
+/// As `turn`, under the bytes of the change's key.
+pub fn turn_at(
+    store: &mut Store,
+    alloc: Global,
+    key: &[u8],
+    change: &Change,
+) -> Result<Option<(u64, Row)>, AllocError>
+    requires bytes { key.now ≡ values change.now.key }
+    requires key { IsSpellableRow change.now.key }
+    requires row { HasShortRow change.now }
+    ensures next { IfOk result (λ before. (side : ℕ) (es : List Entry) → HoldsRows store.old.map es →
+        (before ≡ latest_row (of_key change.now.key es)) × HoldsRows store.new.map (es ++ record { side = side; change = change.now } ∷ [])) }
+    ensures base { (base : Values) → IsBase base store.old → IsBase base store.new }
+{
+    let found = store.find(key);
     let place = found.place;
     let before = kept_in(alloc, found.value)?;
     let bytes = kept_of(alloc, change)?;
-    store.write_at(alloc, place, key.items(), bytes)?;
+    store.write_at(alloc, place, key, bytes)?;
     Ok(before)
 }
 
@@ -46,7 +64,18 @@ pub fn standing(store: &Store, alloc: Global, key: &Key) -> Result<Option<(u64, 
         return Ok(None);
     }
     let key = spelled_key(alloc, key)?;
-    kept_in(alloc, store.get(key.items()))
+    standing_at(store, alloc, key.items())
+}
+
+/// The row that the key of these bytes has, as `standing` answers it.
+pub fn standing_at(
+    store: &Store,
+    alloc: Global,
+    bytes: &[u8],
+) -> Result<Option<(u64, Row)>, AllocError>
+    ensures { IfOk result (λ found. (key : List OneValue) (es : List Entry) → bytes.now ≡ values key → IsSpellableRow key → HoldsRows store.now.map es → found ≡ latest_row (of_key key es)) }
+{
+    kept_in(alloc, store.get(bytes))
 }
 
 /// The row that was found, without its time.

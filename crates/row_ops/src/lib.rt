@@ -8,7 +8,7 @@ mod select_op;
 mod table_op;
 
 pub use filter_op::FilterOp;
-pub use input_table::{row_of, standing, time_of, turn};
+pub use input_table::{row_of, standing, standing_at, time_of, turn, turn_at};
 pub use rekey_op::RekeyOp;
 pub use select_op::SelectOp;
 pub use table_op::TableOp;
