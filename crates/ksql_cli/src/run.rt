@@ -1,13 +1,11 @@
-ghost use Rattle.std.specs.Prelude.{◌≡◌, ◌≤◌, All, IfErr, IfOk, IfSome, List, length};
+ghost use Rattle.std.specs.Prelude.{◌≡◌, ◌≤◌, All, IfErr, IfOk, IfSome, length};
 ghost use Rattle.ksql_outside.specs.Outside.{MayJoin};
 ghost use Rattle.ksql_words.specs.Words.{longest_word};
 ghost use Rattle.ksql_program.specs.Sound.{IsSound};
-ghost use Rattle.topic_files.specs.declared.topic.TopicLines.{TopicLines as OneFile};
 ghost use Rattle.cluster_core.specs.Cluster.{HasCome, IsBuilt};
-ghost use Rattle.ksql_cli.specs.Command.{IsProgramRead, IsScheduled, RunCause, Runs, fed_once};
-ghost use Rattle.ksql_cli.specs.Ran.{HasRun};
+ghost use Rattle.ksql_cli.specs.Command.{IsProgramRead, IsScheduled, RunCause, fed_once};
 ghost use Rattle.ksql_cli.specs.Run.{progress};
-ghost use Rattle.ksql_cli.specs.Stages.{AreDueIn, AreInputs, HasShortNames, IsExpected, IsRunRefusal, IsScheduleFailure, IsScriptFailure, ReadsInputs, run_of};
+ghost use Rattle.ksql_cli.specs.Stages.{AreDueIn, AreInputs, HasShortNames, IsExpected, IsRunRefusal, IsScheduleFailure, IsScriptFailure, ReadsInputs};
 ghost use Rattle.ksql_cli.specs.Steps.{IsJoined};
 
 use crate::asked::Asked;
@@ -37,24 +35,6 @@ pub(crate) struct Inputs {
     pub program: Program,
     pub files: Vec<TopicLines>,
     pub schedule: Schedule,
-}
-
-/// The run that is asked for.
-pub(crate) fn run<F: Folder>(alloc: Global, asked: &Asked, folder: &mut F) -> Result<Ran, Status>
-    requires short { HasShortNames asked.now }
-    ensures sound { IfOk result (λ ran. IsSound ran.program.items) }
-    ensures came { IfOk result (λ ran. (files : List OneFile) × HasRun (run_of asked.now ran files) ran.cluster) }
-    ensures runs { IfOk result (λ ran. IfSome (F.files folder.old)
-        (λ all. (files : List OneFile) × Runs asked.now all (run_of asked.now ran files) × HasRun (run_of asked.now ran files) ran.cluster)) }
-    ensures cause { IfErr result (λ status. IfSome (F.files folder.old)
-        (λ all. RunCause asked.now all (F.failed folder.old) (F.failed folder.new) status)) }
-    ensures refusal { IfErr result IsRunRefusal }
-    ensures joined { IfErr result (IsJoined (F.failed folder.old) (F.failed folder.new)) }
-    ensures reads { IfSome (F.files folder.old) (λ all. AreDueIn asked.now all (F.failed folder.old) (F.failed folder.new)) }
-    ensures same_files { F.files folder.new ≡ F.files folder.old }
-{
-    let inputs = inputs_of(alloc, asked, folder)?;
-    Ok(ran_over(alloc, inputs, asked.workers)?)
 }
 
 /// What the run that is asked for reads.
@@ -89,7 +69,7 @@ pub(crate) fn inputs_of<F: Folder>(
 }
 
 /// The run of what was read, with so many workers.
-pub(crate) fn ran_over(alloc: Global, inputs: Inputs, workers: u32) -> Result<Ran, AllocError>
+pub(crate) fn run(alloc: Global, inputs: Inputs, workers: u32) -> Result<Ran, AllocError>
     requires { AreInputs inputs }
     ensures program { IfOk result (λ ran. ran.program ≡ inputs.program) }
     ensures schedule { IfOk result (λ ran. ran.schedule ≡ inputs.schedule) }

@@ -15,7 +15,7 @@ ghost use Rattle.ksql_cli.specs.Stages.{AreDueIn, AreInputs, HasShortNames, IsRu
 ghost use Rattle.ksql_cli.specs.Steps.{IsJoined};
 
 use crate::asked::Asked;
-use crate::run::{Inputs, Ran, accepted_program, inputs_of, ran_over, run};
+use crate::run::{Inputs, Ran, accepted_program, inputs_of, run};
 use crate::status::Status;
 use cluster_core::Cluster;
 use demo_files::{schedule, script, topic_file};
@@ -52,7 +52,8 @@ pub(crate) fn reported<F: Folder>(
     ensures reads { IfSome (F.files folder.old) (λ all. AreDueIn asked.now all (F.failed folder.old) (F.failed folder.new)) }
     ensures same_files { F.files folder.new ≡ F.files folder.old }
 {
-    let ran = run(alloc, asked, folder)?;
+    let inputs = inputs_of(alloc, asked, folder)?;
+    let ran = run(alloc, inputs, asked.workers)?;
     let text = report(alloc, asked.trace, &ran)?;
     Ok(Finished {
         text,
@@ -126,7 +127,7 @@ pub(crate) fn demonstrated(
 {
     let asked = demo_asked(alloc, workers)?;
     let inputs = demo_inputs(alloc, &asked, records)?;
-    let ran = ran_over(alloc, inputs, workers)?;
+    let ran = run(alloc, inputs, workers)?;
     let text = broker_summary(alloc, &ran.program, ran.cluster.broker())?;
     Ok(Finished {
         text: text.into_bytes(),
