@@ -48,6 +48,7 @@ impl Reached {
             Reaches relation.now (before ++ fed_from feed relation.now before feds) self.new) }
     {
         let mut highs = vec![in alloc; 0u64; relation.partitions as usize]?;
+        records.reserve(feds.items().len())?;
         for fed in feds.into_items() {
             let part = part_of(relation, &fed.key, self.count);
             let offset = self.parts[part as usize];

@@ -24,7 +24,7 @@ pub fn read_topic(
         → result ≡ Err (FileFault.Refused line why) → first_fault room bytes.now ≡ Some (line, why) }
     ensures answered { result ≢ Err FileFault.OutOfMemory → result ≡ reading relation.now room bytes.now }
 {
-    let mut feds = Vec::new(alloc);
+    let mut feds = Vec::with_capacity(alloc, most_records(room, bytes.len()))?;
     let mut scratch = Scratch::new(alloc);
     let mut number: usize = 0;
     let mut records: usize = 0;
@@ -49,6 +49,11 @@ pub fn read_topic(
         relation: relation.number,
         feds: Items::of(feds),
     })
+}
+
+/// How many records a file of so many bytes can have at most: `{"t":0}` and a line feed are 8 bytes.
+fn most_records(room: Room, bytes: usize) -> usize {
+    room.records.min(bytes as u64 / 8 + 1) as usize
 }
 
 /// The refusal of the line with this number.

@@ -18,11 +18,13 @@ loop-fed-init c =
     let feds : List Fed = c.args.feds in
     let items : List SourceRecord = c.args.records.now.items in
     let highs : List ℕ = c.in_ok-highs.highs.items in
-    let none_since : drop (length items) items ≡ [] = drop_all (length items) items (omega arith) in
+    let same : c.reserve.new.self.items ≡ items = c.in_ok-reserve.ensures.items in
+    let none_since : drop (length items) c.reserve.new.self.items ≡ [] =
+    ap (λ (rs : List SourceRecord). drop (length items) rs) same ∙ drop_all (length items) items (omega arith) in
     let left : into_iter_items c.into_iter-fed-iterator.result ≡ feds = c.into_iter-fed-iterator.ensures.into_iter_gives.0 ∙ c.into_items-fed-items.ensures in
     let zeros : highs ≡ replicate relation.partitions 0 = c.in_ok-highs.ensures.items_if_clones_equal (λ y same. same) in
     record {
-      kept = sym (ap (λ (rs : List SourceRecord). items ++ rs) none_since ∙ append-nil items);
+      kept = same ∙ sym (ap (λ (rs : List SourceRecord). items ++ rs) none_since ∙ append-nil items);
       is_fed = λ before reaches none.
           subst (λ (since : List SourceRecord). IsFed feed relation feds before since (into_iter_items c.into_iter-fed-iterator.result) c.args.self.now highs) (sym none_since)
           (subst (λ (rest : List Fed). IsFed feed relation feds before [] rest c.args.self.now highs) (sym left)
