@@ -111,11 +111,12 @@ fn give(
     groups.write_at(alloc, place, key.items(), Some(turn.bytes))?;
     let time = kept_time(turn.after.as_slice());
     let body = turn_of(alloc, &change.key, None, turn.before, turn.after)?;
-    out.push(Change {
+    out.reserve(1)?;
+    out.push_reserved(Change {
         time,
         span: None,
         body,
         ..change
-    })?;
+    });
     Ok(())
 }

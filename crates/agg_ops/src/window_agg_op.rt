@@ -148,6 +148,7 @@ fn give(
     for (index, span) in spans.iter().enumerate() {
         if windows.time() < span.end + window.grace {
             put_window_key(&mut at, key, span.start)?;
+            out.reserve(1)?;
             let given = add_to(
                 windows,
                 alloc,
@@ -157,7 +158,7 @@ fn give(
                 index as u32,
                 change,
             )?;
-            out.push(given)?;
+            out.push_reserved(given);
         }
     }
     Ok(())

@@ -46,7 +46,8 @@ pub fn push_grouped(
         Body::Said(row) => {
             let key = key_from(alloc, keys, change.time, row)?;
             if put_under(key, &mut change) {
-                out.push(change)?;
+                out.reserve(1)?;
+                out.push_reserved(change);
             }
             Ok(())
         }

@@ -16,6 +16,6 @@ pub use group_changes::{argument, type_of_agg};
 pub use groups::{push_grouped, rekeyed};
 pub use keys::{is_same_key, key_of};
 pub use rows::{
-    copied, filtered, push_copies, push_given, push_nulls, selected, turned, values_of,
+    copied, filtered, push_copies, push_given, push_nulls, push_selected, turned, values_of,
 };
 pub use steps::{one_or_none, results};

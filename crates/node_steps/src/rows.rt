@@ -25,14 +25,16 @@ pub fn filtered(alloc: Global, on: &Typed, mut change: Change) -> Result<Option<
     }
 }
 
-/// What the key items and the value items of a select list make of a change.
-pub fn selected(
+/// Adds what the key items and the value items of a select list make of a change.
+pub fn push_selected(
     alloc: Global,
     keys: &[Typed],
     items: &[Typed],
     change: Change,
-) -> Result<Option<Change>, AllocError>
-    ensures { IfOk result (λ made. option_to_list made ≡ selected keys.now items.now change) }
+    out: &mut Vec<Change>,
+) -> Result<(), AllocError>
+    ensures given { OnOk result (out.new.items ≡ out.old.items ++ selected keys.now items.now change) }
+    ensures unchanged { OnErr result (out.new.items ≡ out.old.items) }
 {
     let Change {
         place,
@@ -43,15 +45,17 @@ pub fn selected(
     } = change;
     let key = selected_key(alloc, keys, time, key, &body)?;
     let Some(body) = selected_body(alloc, items, time, body)? else {
-        return Ok(None);
+        return Ok(());
     };
-    Ok(Some(Change {
+    out.reserve(1)?;
+    out.push_reserved(Change {
         place,
         time,
         key,
         span,
         body,
-    }))
+    });
+    Ok(())
 }
 
 /// A change from one row of a table to another; from absent to absent there is none.
@@ -149,7 +153,8 @@ pub fn push_given(out: &mut Vec<Change>, change: Option<Change>) -> Result<(), A
     ensures unchanged { OnErr result (out.new.items ≡ out.old.items) }
 {
     if let Some(change) = change {
-        out.push(change)?;
+        out.reserve(1)?;
+        out.push_reserved(change);
     }
     Ok(())
 }

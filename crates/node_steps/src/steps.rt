@@ -9,7 +9,7 @@ ghost use Rattle.node_steps.specs.Steps.{entry_of, is_run};
 use crate::entries::{EntryRef, of_key, row_after, row_in};
 use crate::group_changes::group_change;
 use crate::groups::{push_grouped, rekeyed};
-use crate::rows::{copied, filtered, selected, turned, with_body};
+use crate::rows::{copied, filtered, push_selected, turned, with_body};
 use ksql_nodes::Node;
 use ksql_place::Change;
 use ksql_types::CopyOf;
@@ -63,10 +63,11 @@ fn gives<'a>(
             let change = group_change(alloc, *over, aggs.items(), before, entry)?;
             Ok(vec![in alloc; change]?)
         }
-        Node::Select { keys, values } => one_or_none(
-            alloc,
-            selected(alloc, keys.items(), values.items(), change)?,
-        ),
+        Node::Select { keys, values } => {
+            let mut given = Vec::new(alloc);
+            push_selected(alloc, keys.items(), values.items(), change, &mut given)?;
+            Ok(given)
+        }
     }
 }
 

@@ -5,11 +5,11 @@ ghost use Rattle.operator.specs.Holding.{nothing};
 ghost use Rattle.operator.specs.StandsFor.{StandsFor};
 ghost use Rattle.row_ops.specs.Kinds.{is_select};
 
-use ksql_expr::{Exprs, Typed};
+use ksql_expr::Exprs;
 use ksql_nodes::Node;
 use ksql_place::Change;
 use ksql_types::CopyOf;
-use node_steps::{push_given, selected};
+use node_steps::push_selected;
 use operator::Operator;
 use std::alloc::{AllocError, Global};
 
@@ -57,23 +57,9 @@ impl Operator for SelectOp {
         if self.failed {
             return Err(AllocError);
         }
-        let stepped = give(alloc, self.keys.items(), self.items.items(), change, out);
+        let (keys, items) = (self.keys.items(), self.items.items());
+        let stepped = push_selected(alloc, keys, items, change, out);
         self.failed = stepped.is_err();
         stepped
     }
-}
-
-/// Adds what the node gives.
-fn give(
-    alloc: Global,
-    keys: &[Typed],
-    items: &[Typed],
-    change: Change,
-    out: &mut Vec<Change>,
-) -> Result<(), AllocError>
-    ensures given { OnOk result (out.new.items ≡ out.old.items ++ selected keys.now items.now change) }
-    ensures unchanged { OnErr result (out.new.items ≡ out.old.items) }
-{
-    let given = selected(alloc, keys, items, change)?;
-    push_given(out, given)
 }

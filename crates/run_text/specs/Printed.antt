@@ -43,19 +43,19 @@ shown_in part c = record { part = part; time = c.time; key = c.key; span = c.spa
 -- time, key, window and value, up to the end of the line
 unfoldable pub fields_text : (List Value → List ℕ) → Shown → List ℕ
 fields_text print shown =
-    codes "\"t\":" ++ (decimal shown.time
+    decimal shown.time
     ++ (codes ",\"k\":" ++ (key_text shown.key
     ++ (span_text shown.span
     ++ (codes ",\"v\":" ++ (row_text print shown.row
-    ++ codes "}\n"))))))
+    ++ codes "}\n")))))
 
 -- the line of a change
 unfoldable pub change_line : (List Value → List ℕ) → Shown → List ℕ
-change_line print shown = codes "{\"p\":" ++ (decimal shown.part ++ (codes "," ++ fields_text print shown))
+change_line print shown = codes "{\"p\":" ++ (decimal shown.part ++ (codes ",\"t\":" ++ fields_text print shown))
 
 -- the line of a row that a table has
 unfoldable pub row_line : (List Value → List ℕ) → Shown → List ℕ
-row_line print shown = codes "row {" ++ fields_text print shown
+row_line print shown = codes "row {\"t\":" ++ fields_text print shown
 
 -- the line of a record that was fed: feed, topic, partition, offset and time
 unfoldable pub order_line : List ℕ → SourceRecord → List ℕ

@@ -12,6 +12,16 @@ use ksql_types::{Span, Value};
 use std::alloc::{AllocError, Global};
 use topic_files::{Printer, push_printed};
 
+/// The bytes for which room is made for each line: most have fewer.
+const LINE_ROOM: usize = 160;
+
+/// Makes room for so many lines at once: a text that grows is copied.
+pub fn reserve_lines(out: &mut String, lines: usize) -> Result<(), AllocError>
+    ensures { string_bytes out.new ≡ string_bytes out.old }
+{
+    out.reserve(lines.saturating_mul(LINE_ROOM))
+}
+
 /// Appends a number.
 fn push_number(out: &mut String, number: u64) -> Result<(), AllocError>
     ensures { OnOk result (string_bytes out.new ≡ string_bytes out.old ++ decimal number) }
@@ -83,17 +93,6 @@ fn push_row(
     }
 }
 
-/// Appends the time of a change, up to its key.
-#[tactic(auto, using(crate::proofs::ReportLemmas::appends))]
-fn push_time(out: &mut String, time: u64) -> Result<(), AllocError>
-    ensures { OnOk result (string_bytes out.new
-        ≡ string_bytes out.old ++ (codes "\"t\":" ++ (decimal time ++ codes ",\"k\":"))) }
-{
-    out.push_str("\"t\":")?;
-    push_number(out, time)?;
-    out.push_str(",\"k\":")
-}
-
 /// Appends time, key, window and value, up to the end of the line.
 #[tactic(auto, using(crate::proofs::ReportLemmas::appends), unfolding(crate::specs::Printed::fields_text))]
 fn push_fields(
@@ -105,7 +104,8 @@ fn push_fields(
     ensures { OnOk result (string_bytes out.new ≡ string_bytes out.old ++ fields_text (printed_by printer.now) (shown_of line.entry)) }
 {
     let told = line.told;
-    push_time(out, told.time())?;
+    push_number(out, told.time())?;
+    out.push_str(",\"k\":")?;
     push_key(out, alloc, told.key())?;
     push_span(out, told.span())?;
     out.push_str(",\"v\":")?;
@@ -125,7 +125,7 @@ pub fn push_change(
 {
     out.push_str("{\"p\":")?;
     push_number(out, line.part as u64)?;
-    out.push_str(",")?;
+    out.push_str(",\"t\":")?;
     push_fields(out, alloc, printer, line)
 }
 
@@ -139,7 +139,7 @@ pub fn push_row_line(
 ) -> Result<(), AllocError>
     ensures { OnOk result (string_bytes out.new ≡ string_bytes out.old ++ row_line (printed_by printer.now) (shown_of line.entry)) }
 {
-    out.push_str("row {")?;
+    out.push_str("row {\"t\":")?;
     push_fields(out, alloc, printer, line)
 }
 

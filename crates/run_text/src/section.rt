@@ -8,7 +8,7 @@ ghost use Rattle.run_text.specs.Report.{count_text, head_line, kind_text, meant,
 ghost use Rattle.topic_files.specs.Printed.{printed_by};
 
 use crate::line::Line;
-use crate::printed::{push_change, push_row_line};
+use crate::printed::{push_change, push_row_line, reserve_lines};
 use crate::rows::table_rows;
 use ksql_place::{Change, SourceRecord, said_by};
 use ksql_types::{Kind, Relation, lane};
@@ -136,6 +136,7 @@ fn push_changes(
     ensures { OnOk result (string_bytes out.new
         ≡ string_bytes out.old ++ flat_map (change_line (printed_by printer.now)) (map shown_of lines.now)) }
 {
+    reserve_lines(out, lines.len())?;
     for line in lines {
         push_change(out, alloc, printer, *line)?;
     }
@@ -152,6 +153,7 @@ fn push_rows(
     ensures { OnOk result (string_bytes out.new
         ≡ string_bytes out.old ++ flat_map (row_line (printed_by printer.now)) (map shown_of rows.now)) }
 {
+    reserve_lines(out, rows.len())?;
     for row in rows {
         push_row_line(out, alloc, printer, *row)?;
     }

@@ -49,9 +49,22 @@ fn run_all(
     ensures bases { (bases : List Maps) → AreBasesOf bases chain.old → AreBasesOf bases chain.new }
     ensures sound { OnOk result (chain.new.failed ≡ chain.old.failed) }
 {
+    let all = reader.len()?;
     while !reader.is_done() {
+        reserve_rest(out, all, reader.len()?)?;
         let entries = reader.next(alloc)?;
         chain.run(alloc, entries, out)?;
     }
     Ok(())
+}
+
+/// Makes room for what the entries that are left, of so many in all, give if they give as much as those before.
+fn reserve_rest(out: &mut Vec<Change>, all: usize, left: usize) -> Result<(), AllocError>
+    ensures { out.new.items ≡ out.old.items }
+{
+    let taken = all.saturating_sub(left);
+    if taken == 0 {
+        return Ok(());
+    }
+    out.reserve(left.saturating_mul(out.len()) / taken)
 }

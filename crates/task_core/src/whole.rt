@@ -32,19 +32,25 @@ pub fn push_said(
     let Some(body) = said_body(alloc, kind, columns, &fed.key, row)? else {
         return Ok(());
     };
-    taken.push(Entry {
-        side,
-        change: Change {
-            place: Place {
-                stamp: fed.stamp,
-                path: Path::root(),
-            },
-            time: fed.time,
-            key: fed.key.copy(alloc)?,
-            span: None,
-            body,
+    let change = Change {
+        place: Place {
+            stamp: fed.stamp,
+            path: Path::root(),
         },
-    })?;
+        time: fed.time,
+        key: fed.key.copy(alloc)?,
+        span: None,
+        body,
+    };
+    push_entry(taken, side, change)
+}
+
+/// Adds an entry of a side.
+fn push_entry(taken: &mut Vec<Entry>, side: u32, change: Change) -> Result<(), AllocError>
+    ensures { OnOk result (entries_of taken.new.items ≡ entries_of taken.old.items ++ from_side side (change ∷ [])) }
+{
+    taken.reserve(1)?;
+    taken.push_reserved(Entry { side, change });
     Ok(())
 }
 
@@ -84,17 +90,14 @@ pub fn push_whole(
         ≡ entries_of taken.old.items ++ from_side side (with_cells columns change.now ∷ [])) }
 {
     let body = whole_body(alloc, columns, change)?;
-    taken.push(Entry {
-        side,
-        change: Change {
-            place: change.place.copy(alloc)?,
-            time: change.time,
-            key: change.key.copy(alloc)?,
-            span: change.span,
-            body,
-        },
-    })?;
-    Ok(())
+    let whole = Change {
+        place: change.place.copy(alloc)?,
+        time: change.time,
+        key: change.key.copy(alloc)?,
+        span: change.span,
+        body,
+    };
+    push_entry(taken, side, whole)
 }
 
 /// Adds an entry of a side: a change that was given, with so many key columns in front of its rows. Copies nothing where that
@@ -112,8 +115,7 @@ pub fn push_given(
     if columns > 0 {
         return push_whole(alloc, taken, side, columns, &change);
     }
-    taken.push(Entry { side, change })?;
-    Ok(())
+    push_entry(taken, side, change)
 }
 
 /// What a change says, with so many key columns in front of its rows, or as it is where that is none.

@@ -29,9 +29,11 @@ returns-clause-next c = λ side es h.
     let bytes : c.in_ok-turn.turn.bytes ≡ values (next_totals over aggs change (unwrap_or (totals over aggs mine) [])) = turn.bytes ∙ ap values after in
     let time : c.kept_time-time.result ≡ kept_time c.in_ok-turn.turn.after.items = c.kept_time-time.ensures.time ∙ ap kept_time c.as_slice.ensures.value in
     let body : c.in_ok-body.body ≡ Turned (result_of change.key None c.in_ok-turn.turn.before.items) (result_of change.key None c.in_ok-turn.turn.after.items) = c.in_ok-body.ensures in
-    let given : record { place = change.place; time = c.kept_time-time.result; key = change.key; span = None; body = c.in_ok-body.body } ≡ changed change None c.in_ok-turn.turn.before.items c.in_ok-turn.turn.after.items =
+    let pushed : Change = record { place = change.place; time = c.kept_time-time.result; key = change.key; span = None; body = c.in_ok-body.body } in
+    let given : pushed ≡ changed change None c.in_ok-turn.turn.before.items c.in_ok-turn.turn.after.items =
     λ i. record { place = change.place; time = time i; key = change.key; span = None; body = body i } in (
-      c.in_ok-push.ensures.items ∙ ap (λ (made : Change). c.args.out.now.items ++ made ∷ []) (given ∙ change-of over aggs None mine e _ _ before turn.after),
+      c.push_reserved.ensures.items ∙ ap (λ (before : List Change). before ++ pushed ∷ []) c.reserve.ensures.items
+          ∙ ap (λ (made : Change). c.args.out.now.items ++ made ∷ []) (given ∙ change-of over aggs None mine e _ _ before turn.after),
       groups-more over aggs m c.write_at.new.self.map es e h key (subst AreSpellable after turn.spellable)
           (c.in_ok-write_at.ensures.map ∙ ap (λ (k : List ℕ). with_value m k (Some c.in_ok-turn.turn.bytes)) kept_at ∙ ap (λ (v : List ℕ). with_value m (values change.key) (Some v)) bytes),
     )

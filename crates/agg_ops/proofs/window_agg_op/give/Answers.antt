@@ -3,7 +3,6 @@ use Rattle.std.specs.Prelude.{None, max, nat_lt}
 use Rattle.std.specs.FinMap.{get}
 use Rattle.std.proofs.lemmas.Bool.{lt-ltb, le-ltb}
 use Rattle.std.proofs.lemmas.List.{append-nil, take_all}
-use Rattle.std.proofs.lemmas.Result.{err_from_is_err_and}
 use Rattle.ksql_types.specs.declared.relation.Span.{Span}
 use Rattle.ksql_place.specs.declared.change.Change.{Change}
 use Rattle.ksql_nodes.specs.Entries.{Entry, latest_time}
@@ -11,13 +10,14 @@ use Rattle.ksql_nodes.specs.Windows.{windows_of}
 use Rattle.record_codec.specs.Spelling.{values}
 use Rattle.state_store.specs.Store.{IsBase}
 use Rattle.window_store.specs.Windows.{has_ended, under, Windows}
+use Rattle.std.proofs.lemmas.Result.{err_from_is_err_and}
 use Rattle.agg_ops.specs.WindowGroups.{HoldsPartly}
 use Rattle.agg_ops.proofs.TotalsLemmas.{time-more}
 use Rattle.agg_ops.proofs.WindowLemmas.{windows-begun, windows-done, windows-expired}
 use Rattle.agg_ops.proofs.WindowSpans.{size-short, grace-short}
 use Rattle.agg_ops.proofs.WindowSteps.{given_of, added-along, span-bounds, shut-step, open-step, IsTurnOf}
 use Rattle.agg_ops.proofs.window_agg_op.give.Goals as goal
-use Rattle.agg_ops.proofs.window_agg_op.give.Goals.{then-time-span+in_ok-put_window_key+in_ok-given+in_ok-push, else-time-span}
+use Rattle.agg_ops.proofs.window_agg_op.give.Goals.{then-time-span+in_ok-put_window_key+in_ok-reserve+in_ok-given, else-time-span}
 
 abbrev none : Span
 none = record { start = 0; end = 0 }
@@ -78,11 +78,17 @@ add_to-requires-clause-bounds c =
     span-bounds w time c.deref-span-items.result.now c.loop-index.index none s (c.deref-span-items.ensures.value ∙ c.in_ok-spans.ensures.spans) c.loop-index-test.true refl c.requires.sound in
     (omega arith, omega (arith, size-short w c.requires.sound))
 
-pub returns-in_err-push-clause-out : goal.returns-in_err-push-clause-out
-returns-in_err-push-clause-out c =
+pub returns-in_err-reserve-clause-out : goal.returns-in_err-reserve-clause-out
+returns-in_err-reserve-clause-out c =
     let so_far = c.loop-index.invariant.out in
-    let p = err_from_is_err_and c.from_residual-in_err-push.result c.from_residual-in_err-push.ensures.1 in
-    rw p.1 (so_far.0, c.in_err-push.ensures.items ∙ so_far.1)
+    let p = err_from_is_err_and c.from_residual-in_err-reserve.result c.from_residual-in_err-reserve.ensures.1 in
+    rw p.1 (so_far.0, c.reserve.ensures.items ∙ so_far.1)
+
+pub returns-in_err-given-clause-out : goal.returns-in_err-given-clause-out
+returns-in_err-given-clause-out c =
+    let so_far = c.loop-index.invariant.out in
+    let p = err_from_is_err_and c.from_residual-in_err-given.result c.from_residual-in_err-given.ensures.1 in
+    rw p.1 (so_far.0, c.reserve.ensures.items ∙ so_far.1)
 
 pub loop-index-preserved : goal.loop-index-preserved
 loop-index-preserved c =
@@ -99,7 +105,7 @@ loop-index-preserved c =
     let now : (side : ℕ) (es : List Entry) → c.args.windows.now.time ≡ latest_time es → old.time ≡ latest_time (es ++ record { side = side; change = change } ∷ []) =
     λ side es at. so_far.time ∙ ap (λ (n : ℕ). max n change.time) at ∙ sym (time-more es (record { side = side; change = change })) in
     elim c.if-time-span.branch [
-      | then-time-span+in_ok-put_window_key+in_ok-given+in_ok-push w ↦ (
+      | then-time-span+in_ok-put_window_key+in_ok-reserve+in_ok-given w ↦ (
           let new = w.add_to.new.windows in
           let made = w.in_ok-given.given in
           let is_open : nat_lt old.time (s.end + window.grace) ≡ true =
@@ -109,7 +115,8 @@ loop-index-preserved c =
           let turn : IsTurnOf c.args.aggs.now change (under (values change.key) s.start) i s old.content.map new.content.map made =
           subst (λ (at : List ℕ). IsTurnOf c.args.aggs.now change at i s old.content.map new.content.map made) at w.in_ok-given.ensures.next in
           let time : c.if-time-span.windows.time ≡ old.time = ap (λ (s : Windows). s.time) w.windows-is ∙ w.in_ok-given.ensures.time in
-          let out : c.if-time-span.out.items ≡ c.loop-index.out.items ++ made ∷ [] = ap (λ (v : Vec Change Global). v.items) w.out-is ∙ w.in_ok-push.ensures.items in
+          let out : c.if-time-span.out.items ≡ c.loop-index.out.items ++ made ∷ [] = ap (λ (v : Vec Change Global). v.items) w.out-is
+          ∙ w.push_reserved.ensures.items ∙ ap (λ (before : List Change). before ++ made ∷ []) w.reserve.ensures.items in
           record {
             size = ap (λ (s : Windows). s.size) w.windows-is ∙ w.in_ok-given.ensures.size ∙ so_far.size;
             time = time ∙ so_far.time;

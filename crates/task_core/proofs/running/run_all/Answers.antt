@@ -1,4 +1,5 @@
 use Rattle.std.proofs.Common.{◌∙◌, refl, sym, subst, List}
+use Rattle.ksql_place.specs.declared.change.Change.{Change}
 use Rattle.ksql_nodes.specs.declared.node.Node.{Node}
 use Rattle.op_chain.specs.Chain.{entries_of, maps_in}
 use Rattle.task_core.specs.Readers.{pending}
@@ -33,7 +34,8 @@ loop-alloc-preserved c =
       order = c.next.ensures.order;
       under = one-more c.args.chain.now.nodes (maps_in c.args.chain.now) now next c.args.out.now.items c.loop-alloc.out.items c.run.new.out.items
           (pending c.args.reader) (pending c.loop-alloc.reader) more (pending c.next.new.self) known.under c.in_ok-entries.ensures.taken
-          (subst (λ (ns : List Node). Goes ns now next c.loop-alloc.out.items c.run.new.out.items more) known.nodes c.in_ok-run.ensures.next);
+          (subst (λ (before : List Change). Goes c.args.chain.now.nodes now next before c.run.new.out.items more) c.reserve_rest.ensures
+          (subst (λ (ns : List Node). Goes ns now next c.reserve_rest.new.out.items c.run.new.out.items more) known.nodes c.in_ok-run.ensures.next));
       bases = λ bases h. c.run.ensures.bases bases (known.bases bases h);
       sound = c.in_ok-run.ensures.sound ∙ known.sound;
     }

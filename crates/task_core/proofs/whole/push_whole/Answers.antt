@@ -1,8 +1,8 @@
-use Rattle.std.proofs.Common.{◌≡◌, ◌∙◌, ap, refl, ℕ, zero, suc, List, [], ◌∷◌, ◌++◌}
-use Rattle.std.proofs.lemmas.List.{map-append}
+use Rattle.std.proofs.Common.{◌≡◌, ◌∙◌, refl, subst, ℕ, zero, suc, [], ◌∷◌, ◌++◌}
+use Rattle.std.specs.Prelude.{OnOk}
 use Rattle.ksql_place.specs.declared.change.Change.{Change}
+use Rattle.ksql_nodes.specs.Entries.{from_side}
 use Rattle.op_chain.specs.Chain.{entries_of}
-use Rattle.op_chain.specs.declared.chain.Entry.{Entry as Taken}
 use Rattle.topology.specs.Contents.{with_cells}
 use Rattle.task_core.proofs.whole.push_whole.Goals as goal
 
@@ -13,7 +13,6 @@ body-alone (suc columns) c = refl
 
 pub returns : goal.returns
 returns c =
-    let old : List Taken = c.args.taken.now.items in
     let change : Change = c.args.change.now in
     let columns : ℕ = c.args.columns in
     let place = c.in_ok-copy.ensures in
@@ -21,6 +20,5 @@ returns c =
     let body = c.in_ok-body.ensures in
     let pushed : Change = record { place = c.in_ok-copy.field-0; time = change.time; key = c.in_ok-copy-2.field-0; span = change.span; body = c.in_ok-body.body } in
     let same : pushed ≡ record change { body = (with_cells columns change).body } = λ i. record { place = place i; time = change.time; key = key i; span = change.span; body = body i } in
-    ap entries_of c.in_ok-push.ensures.items
-    ∙ map-append (λ (e : Taken). record { side = e.side; change = e.change }) old (record { side = c.args.side; change = pushed } ∷ [])
-    ∙ ap (λ (x : Change). entries_of old ++ record { side = c.args.side; change = x } ∷ []) (same ∙ body-alone columns change)
+    subst (λ (x : Change). OnOk c.push_entry.result (entries_of c.push_entry.new.taken.items ≡ entries_of c.args.taken.now.items ++ from_side c.args.side (x ∷ [])))
+    (same ∙ body-alone columns change) c.push_entry.ensures

@@ -10,6 +10,6 @@ pub returns-clause-next : goal.returns-clause-next
 returns-clause-next c =
     let e : Entry = record { side = c.args._side; change = c.args.change } in
     let s = c.args.self.now in
-    idle-next c.give-stepped.result _ _ _ _ e
-    (λ es. select-gives s.keys s.items es e ∙ sym (ap₂ (λ (keys items : List Typed). selected keys items c.args.change) c.items.ensures c.items-2.ensures))
-    (select-stands s.keys s.items) c.give-stepped.ensures.given
+    idle-next c.push_selected-stepped.result _ _ _ _ e
+    (λ es. select-gives s.keys s.items es e ∙ sym (ap₂ (λ (keys items : List Typed). selected keys items c.args.change) c.items-keys.ensures c.items-items.ensures))
+    (select-stands s.keys s.items) c.push_selected-stepped.ensures.given
