@@ -39,7 +39,8 @@ pub(crate) fn taken_cells(
         let Some(column) = column_of(expression) else {
             unreachable!()
         };
-        taken.push(taken_cell(&mut cells, column))?;
+        taken.reserve(1)?;
+        taken.push_reserved(taken_cell(&mut cells, column));
     }
     Ok(taken)
 }

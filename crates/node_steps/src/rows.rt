@@ -117,7 +117,9 @@ pub fn values_of(
 {
     let mut values = Vec::with_capacity(alloc, expressions.len())?;
     for expression in expressions {
-        values.push(value_of(alloc, expression, time, row)?)?;
+        let value = value_of(alloc, expression, time, row)?;
+        values.reserve(1)?;
+        values.push_reserved(value);
     }
     Ok(values)
 }
@@ -168,7 +170,9 @@ pub fn push_copies(
     ensures { OnOk result (cells.new.items ≡ cells.old.items ++ values.now) }
 {
     for value in values {
-        cells.push(value.copy(alloc)?)?;
+        let copy = value.copy(alloc)?;
+        cells.reserve(1)?;
+        cells.push_reserved(copy);
     }
     Ok(())
 }
