@@ -2,6 +2,7 @@
 use Rattle.std.proofs.Common.{◌≡◌, ◌∙◌, ℕ, ◌+◌, ◌<◌, zero, suc, List, [], ◌∷◌, ◌++◌, length, get_or, take, refl, ap, sym, append_assoc, add-one, arith, Bool, true, false, cond, map}
 use Rattle.std.specs.Prelude.{count_by, filter, flat_map, nat_le, ◌&&◌, Option, None, Some, option_map, unwrap_or, slice_get}
 use Rattle.std.proofs.lemmas.List.Sums.{length-filter}
+use Rattle.std.proofs.lemmas.List.{append-nil}
 use Rattle.std.proofs.lemmas.Option.{slice_get-map}
 use Rattle.ksql_types.specs.declared.relation.Kind.{Kind}
 use Rattle.ksql_types.specs.declared.relation.Kind.TheVariants.{Stream, Table, Windowed}
@@ -16,9 +17,10 @@ use Rattle.query_meaning.specs.Meaning.{up_to}
 use Rattle.query_meaning.specs.Queries.{changes_at}
 use Rattle.query_meaning.specs.Plain.{changes_of}
 use Rattle.query_meaning.specs.declared.meaning.Listed.{Listed}
-use Rattle.run_text.specs.Lines.{is_skipped_up_to}
+use Rattle.run_text.specs.Lines.{is_skipped_up_to, shown_of}
+use Rattle.run_text.specs.declared.line.Line.{Line}
 use Rattle.run_text.specs.Printed.{Shown}
-use Rattle.run_text.specs.Report.{closed_at, count_text, meant, rows_of, section_of, sections, skipped_of, table_rows, Section}
+use Rattle.run_text.specs.Report.{closed_at, count_text, meant, head_line, rows_of, section_of, sections, skipped_of, summary_rows, summary_text, table_rows, Section}
 
 -- one text after another, in any grouping
 pub ruleset appends = (append_assoc)
@@ -27,6 +29,10 @@ pub ruleset appends = (append_assoc)
 pub lines-by : (line : (List Value → List ℕ) → Shown → List ℕ) (f g : List Value → List ℕ) → ((row : List Value) → f row ≡ g row) →
     (shown : List Shown) → flat_map (line f) shown ≡ flat_map (line g) shown
 lines-by line f g same shown = ap (λ (print : List Value → List ℕ). flat_map (line print) shown) (λ i row. same row i)
+
+-- what is shown of a relation whose changes have these lines
+abbrev pub told : Relation → ℕ → ℕ → List Line → Section
+told relation closed skipped lines = record { relation = relation; closed = closed; skipped = skipped; shown = map shown_of lines }
 
 -- what is shown of one relation
 abbrev pub one_section : List ℕ → List SourceRecord → List (List Change) → Relation → Section
@@ -85,6 +91,13 @@ unfolding count_text
 count_text-rows Stream shown rows is = refl
 count_text-rows Table shown rows is = ap (count_text Table) is
 count_text-rows Windowed shown rows is = ap (count_text Windowed) is
+
+-- ---- the summary
+
+-- a summary without rows is the head line
+pub head_alone : (s : Section) → summary_rows s.relation.kind s ≡ [] → head_line s ≡ summary_text s
+unfolding summary_text
+head_alone s none = sym (ap (λ (rows : List ℕ). head_line s ++ rows) none ∙ append-nil (head_line s))
 
 -- ---- the lists of relations
 

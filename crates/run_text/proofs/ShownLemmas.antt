@@ -1,23 +1,37 @@
 -- What partitions show, one partition later, and the order in which changes stand.
-use Rattle.std.proofs.Common.{subst, ◌≡◌, ◌∙◌, ap, refl, sym, ℕ, zero, suc, ◌+◌, add-one, add-zero, List, [], ◌∷◌, ◌++◌, ◌<◌, arith, get_or, length, map}
-use Rattle.std.specs.Prelude.{flat_map, option_map, slice_get, unwrap_or, All, Option, None, Some}
+use Rattle.std.proofs.Common.{subst, Bool, true, false, cond, ◌≡◌, ◌∙◌, ap, refl, sym, ℕ, zero, suc, ◌+◌, add-one, add-zero, List, [], ◌∷◌, ◌++◌, ◌<◌, arith, get_or, length, map}
+use Rattle.std.specs.Prelude.{count_by, filter, flat_map, is_some, option_map, slice_get, unwrap_or, ◌&&◌, ◌==◌, All, Option, None, Some}
 use Rattle.std.specs.Option.{IsSomeAnd}
 use Rattle.std.proofs.lemmas.Option.{slice_get_within}
 use Rattle.std.specs.List.{range_with_len}
 use Rattle.std.proofs.lemmas.List.{append-nil, get_or-map, length-map}
 use Rattle.std.proofs.lemmas.List.Concat.{flat_map-append}
 use Rattle.std.proofs.lemmas.List.Folds.{flat_map-map}
+use Rattle.std.proofs.lemmas.List.Recursion.{is_count_by}
+use Rattle.std.proofs.lemmas.List.Sorted.{length_permutation}
+use Rattle.std.proofs.lemmas.List.Sums.{length-filter}
+use Rattle.std.specs.declared.cmp.Ordering.{Ordering}
 use Rattle.std.specs.Cmp.{IsTotalOrder, nat_cmp_total, on_total, then_total}
 use Rattle.ksql_types.specs.declared.relation.Relation.{Relation}
 use Rattle.ksql_types.specs.declared.topic.TopicSpec.{TopicSpec}
+use Rattle.ksql_types.specs.declared.relation.Kind.TheVariants.{Stream}
+use Rattle.ksql_types.specs.declared.value.Value.{Value}
+use Rattle.ksql_place.specs.Ascending.{ascending}
+use Rattle.ksql_place.specs.Said.{said_by, saying}
 use Rattle.ksql_place.specs.declared.change.Change.{Change}
+use Rattle.ksql_place.specs.declared.change.Decoded.{Decoded}
+use Rattle.ksql_place.specs.declared.change.Decoded.TheVariants.{Good, Tombstone, Skipped}
 use Rattle.ksql_place.specs.declared.change.SourceRecord.{SourceRecord}
+use Rattle.ksql_place.specs.declared.stamp.Stamp.{Stamp}
+use Rattle.ksql_place.proofs.Ascending.{IsPermutation-ascending, filter-ascending}
 use Rattle.ksql_place.proofs.Orders.{place_total}
 use Rattle.ksql_program.specs.Program.{relation_of, relations}
 use Rattle.ksql_program.specs.declared.program.Item.{Item}
+use Rattle.query_meaning.specs.Plain.{rows_said}
 use Rattle.topic_log.specs.Entries.{entries_of}
 use Rattle.topic_log.specs.Shelves.{topics_of}
 use Rattle.topic_log.specs.declared.shelves.Shelves.{Shelves}
+use Rattle.run_text.specs.Standings.{brings_row}
 use Rattle.run_text.specs.Shown.{changes_in, records_in, standing_cmp, HasTopicOf, Standing}
 
 -- the records, or the changes, of a partition are those among its entries
@@ -84,3 +98,28 @@ alike-at f g xs ys i x y inside within at is same =
 -- and joined
 pub alike-joined : {A B C : Type 0} (f : A → List C) (g : B → List C) (xs : List A) (ys : List B) → map f xs ≡ map g ys → flat_map f xs ≡ flat_map g ys
 alike-joined f g xs ys same = sym (flat_map-map (λ cs. cs) f xs) ∙ ap (flat_map (λ cs. cs)) same ∙ flat_map-map (λ cs. cs) g ys
+
+-- ---- how many records there are of a kind
+
+-- as many in any order
+pub count-ascending : {A : Type 0} {cmp : A → A → Ordering} (total : IsTotalOrder cmp) (p : A → Bool) (xs : List A) → count_by p (ascending cmp xs) ≡ count_by p xs
+count-ascending {cmp = cmp} total p xs =
+    sym (length-filter p (ascending cmp xs)) ∙ ap length (filter-ascending total p xs)
+    ∙ length_permutation (filter p xs) (ascending cmp (filter p xs)) (IsPermutation-ascending total (filter p xs))
+    ∙ length-filter p xs
+
+-- those that bring a stream a row are as many as its rows
+pub rows-counted : (number : ℕ) (order : List SourceRecord) → length (rows_said number order) ≡ count_by (brings_row number) order
+rows-counted number = is_count_by (λ order. length (rows_said number order)) (brings_row number) refl (λ r rest. one r.stamp r.time r.key r.value rest (r.stamp.topic == number))
+  where
+    of_topic : List SourceRecord → List SourceRecord
+    of_topic rs = filter (λ (r : SourceRecord). r.stamp.topic == number) rs
+
+    one : (stamp : Stamp) (time : ℕ) (key : List Value) (value : Decoded) (rest : List SourceRecord) (here : Bool) →
+        let r : SourceRecord = record { stamp = stamp; time = time; key = key; value = value } in
+        length (flat_map (saying Stream) (cond here (r ∷ of_topic rest) (of_topic rest)))
+        ≡ cond (here && is_some (said_by Stream key value)) (1 + length (rows_said number rest)) (length (rows_said number rest))
+    one stamp time key (Good row) rest true = omega arith
+    one stamp time key Tombstone rest true = refl
+    one stamp time key Skipped rest true = refl
+    one stamp time key value rest false = refl

@@ -38,9 +38,13 @@ entries_at b r q = (shelf_of b).shown r.number q
 
 -- ---- declared relations
 
--- the records of a declared relation's topic, all partitions together, by their stamps
+-- the records of a declared relation's topic, one partition after another
+abbrev pub records_by_part : Shelves → Relation → List SourceRecord
+records_by_part b r = flat_map (λ q. records_in (entries_at b r q)) (range_with_len 0 r.partitions)
+
+-- all together, by their stamps
 abbrev pub records_shown : Shelves → Relation → List SourceRecord
-records_shown b r = ascending record_cmp (flat_map (λ q. records_in (entries_at b r q)) (range_with_len 0 r.partitions))
+records_shown b r = ascending record_cmp (records_by_part b r)
 
 -- its changes, each in the partition in which its record stands
 abbrev pub declared_shown : Shelves → Relation → List Shown

@@ -1,7 +1,9 @@
 -- Records and changes that are lent.
 use Rattle.std.specs.Borrow.{Bor}
 use Rattle.std.specs.Global.{Vec}
-use Rattle.std.specs.Prelude.{ℕ, List, map}
+use Rattle.std.specs.Prelude.{ℕ, List, map, Bool, ◌&&◌, ◌==◌, is_some}
+use Rattle.ksql_types.specs.declared.relation.Kind.TheVariants.{Stream}
+use Rattle.ksql_place.specs.Said.{said_by}
 use Rattle.ksql_place.specs.declared.change.Change.{Change}
 use Rattle.ksql_place.specs.declared.change.SourceRecord.{SourceRecord}
 use Rattle.run_text.specs.Shown.{Standing}
@@ -18,3 +20,7 @@ standing_of lent = record { part = lent.part; change = lent.change.now }
 -- changes that stand in one partition
 abbrev pub standing_in : ℕ → List Change → List Standing
 standing_in part changes = map (λ c. record { part = part; change = c }) changes
+
+-- whether a record brings the stream of this topic a row
+abbrev pub brings_row : ℕ → SourceRecord → Bool
+brings_row number r = r.stamp.topic == number && is_some (said_by Stream r.key r.value)

@@ -1,7 +1,8 @@
 //! The report of a program as a broker shows it, and its summary.
 
-ghost use Rattle.std.specs.Prelude.{◌≡◌, ◌++◌, [], All, IfOk, OnOk, flat_map, map, string_bytes};
+ghost use Rattle.std.specs.Prelude.{◌≡◌, ◌++◌, [], All, IfOk, OnOk, count_by, flat_map, map, string_bytes};
 ghost use Rattle.std.specs.List.{range_with_len};
+ghost use Rattle.ksql_types.specs.declared.relation.Kind.TheVariants.{Stream};
 ghost use Rattle.ksql_place.specs.Ascending.{ascending};
 ghost use Rattle.ksql_place.specs.Order.{record_cmp};
 ghost use Rattle.ksql_program.specs.declared.program.Item.TheVariants.{Declared};
@@ -9,17 +10,17 @@ ghost use Rattle.ksql_program.specs.Program.{relation_of, relations};
 ghost use Rattle.topic_log.specs.Shelves.{routes_in, shelf_of};
 ghost use Rattle.core_state.specs.Shelf.{shelf_closed};
 ghost use Rattle.run_text.specs.Lines.{extent_text};
-ghost use Rattle.run_text.specs.Report.{section_of, skipped_of, IsPrintable};
-ghost use Rattle.run_text.specs.Shown.{declared_records, order_shown, query_shown, records_shown, section_shown, shown_report, shown_summary, standing_at, standing_cmp, HasTopicOf};
-ghost use Rattle.run_text.specs.Standings.{records_lent, standing_of};
+ghost use Rattle.run_text.specs.Report.{section_of, section_text, skipped_of, summary_text, IsPrintable};
+ghost use Rattle.run_text.specs.Shown.{declared_records, order_shown, query_shown, records_by_part, records_shown, section_shown, shown_report, shown_summary, standing_at, standing_cmp, HasTopicOf};
+ghost use Rattle.run_text.specs.Standings.{brings_row, records_lent, standing_of};
 
 use crate::declared::declared_lines;
 use crate::program_report::push_order;
-use crate::section::{Extent, push_section};
+use crate::section::{Extent, push_head, push_section};
 use crate::visible::{LentChange, by_place, by_stamp, push_changes, push_records, standing_lines};
-use ksql_place::{SourceRecord, is_skipped};
+use ksql_place::{SourceRecord, is_skipped, said_by};
 use ksql_program::{Item, Program, relation_of};
-use ksql_types::Relation;
+use ksql_types::{Kind, Relation};
 use std::alloc::{AllocError, Global};
 use topic_log::Broker;
 
@@ -42,14 +43,7 @@ pub fn broker_report(
     let Consumption { of_items, order } = consumption_of(alloc, broker, items)?;
     let mut out = String::new(alloc);
     push_order(&mut out, items, order.as_slice())?;
-    push_sections(
-        &mut out,
-        alloc,
-        Extent::Whole,
-        broker,
-        items,
-        of_items.as_slice(),
-    )?;
+    push_sections(&mut out, alloc, broker, items, of_items.as_slice())?;
     out.push_str(trace)?;
     out.push_str("end\n")?;
     Ok(out)
@@ -68,26 +62,63 @@ pub fn broker_summary(
     requires topics { All (HasTopicOf broker.now) (relations program.now.items) }
     ensures { IfOk result (λ text. string_bytes text ≡ shown_summary program.now.items broker.now) }
 {
-    let items = program.items.items();
-    let records = records_of_items(alloc, broker, items)?;
     let mut out = String::new(alloc);
-    push_sections(
-        &mut out,
-        alloc,
-        Extent::Summary,
-        broker,
-        items,
-        records.as_slice(),
-    )?;
+    for item in program.items.items() {
+        push_item_summary(&mut out, alloc, broker, item)?;
+    }
     out.push_str("end\n")?;
     Ok(out)
 }
 
-/// Appends what is shown of each item, to this extent. These are the records of the topic of each.
+/// Appends what a summary has of an item.
+fn push_item_summary(
+    out: &mut String,
+    alloc: Global,
+    broker: &Broker,
+    item: &Item,
+) -> Result<(), AllocError>
+    requires { HasTopicOf broker.now (relation_of item.now) }
+    ensures { OnOk result (string_bytes out.new
+        ≡ string_bytes out.old ++ summary_text (section_shown broker.now item.now)) }
+{
+    match item {
+        Item::Declared(relation) => match relation.kind {
+            Kind::Stream => push_stream_summary(out, alloc, broker, relation),
+            Kind::Table | Kind::Windowed => {
+                let records = records_shown(alloc, broker, relation)?;
+                let records = records.as_slice();
+                push_declared_section(out, alloc, Extent::Summary, broker, relation, records)
+            }
+        },
+        Item::Started(query) => {
+            push_query_section(out, alloc, Extent::Summary, broker, &query.out)
+        }
+    }
+}
+
+/// Appends what a summary has of a declared stream. Its records are counted, and needn't be sorted.
+fn push_stream_summary(
+    out: &mut String,
+    alloc: Global,
+    broker: &Broker,
+    relation: &Relation,
+) -> Result<(), AllocError>
+    requires topic { HasTopicOf broker.now relation.now }
+    requires stream { relation.now.kind ≡ Stream }
+    ensures { OnOk result (string_bytes out.new
+        ≡ string_bytes out.old ++ summary_text (section_shown broker.now (Declared relation.now))) }
+{
+    let records = records_by_part(alloc, broker, relation)?;
+    let changes = rows_among(relation.number, records.as_slice());
+    let skipped = skipped_among(relation, records.as_slice());
+    let closed = broker.closed(relation.number);
+    push_head(out, relation, closed, skipped, changes, 0)
+}
+
+/// Appends what is shown of each item. These are the records of the topic of each.
 fn push_sections(
     out: &mut String,
     alloc: Global,
-    extent: Extent,
     broker: &Broker,
     items: &[Item],
     records: &[Vec<&SourceRecord>],
@@ -95,20 +126,19 @@ fn push_sections(
     requires topics { All (HasTopicOf broker.now) (relations items.now) }
     requires records { map records_lent records.now ≡ map (declared_records broker.now) items.now }
     ensures { OnOk result (string_bytes out.new
-        ≡ string_bytes out.old ++ flat_map (extent_text extent) (map (section_shown broker.now) items.now)) }
+        ≡ string_bytes out.old ++ flat_map section_text (map (section_shown broker.now) items.now)) }
 {
     for (number, item) in items.iter().enumerate() {
         let of_topic = records[number].as_slice();
-        push_item_section(out, alloc, extent, broker, item, of_topic)?;
+        push_item_section(out, alloc, broker, item, of_topic)?;
     }
     Ok(())
 }
 
-/// Appends what is shown of an item, to this extent. These are the records of its topic.
+/// Appends what is shown of an item. These are the records of its topic.
 fn push_item_section(
     out: &mut String,
     alloc: Global,
-    extent: Extent,
     broker: &Broker,
     item: &Item,
     records: &[&SourceRecord],
@@ -116,13 +146,13 @@ fn push_item_section(
     requires topic { HasTopicOf broker.now (relation_of item.now) }
     requires records { map (λ r. r.now) records.now ≡ declared_records broker.now item.now }
     ensures { OnOk result (string_bytes out.new
-        ≡ string_bytes out.old ++ extent_text extent (section_shown broker.now item.now)) }
+        ≡ string_bytes out.old ++ section_text (section_shown broker.now item.now)) }
 {
     match item {
         Item::Declared(relation) => {
-            push_declared_section(out, alloc, extent, broker, relation, records)
+            push_declared_section(out, alloc, Extent::Whole, broker, relation, records)
         }
-        Item::Started(query) => push_query_section(out, alloc, extent, broker, &query.out),
+        Item::Started(query) => push_query_section(out, alloc, Extent::Whole, broker, &query.out),
     }
 }
 
@@ -181,6 +211,20 @@ fn skipped_among(relation: &Relation, records: &[&SourceRecord]) -> usize
         .iter()
         .filter(|fed| is_skipped(relation, fed))
         .count()
+}
+
+/// How many of some records bring the stream of this topic a row.
+fn rows_among(number: u32, records: &[&SourceRecord]) -> usize
+    ensures { result ≡ count_by (brings_row number) (map (λ r. r.now) records.now) }
+{
+    records.iter().filter(|fed| brings_row(number, fed)).count()
+}
+
+/// Whether a record brings the stream of this topic a row.
+fn brings_row(number: u32, fed: &SourceRecord) -> bool
+    ensures { result ≡ brings_row number fed.now }
+{
+    fed.stamp.topic == number && said_by(Kind::Stream, &fed.key, &fed.value).is_some()
 }
 
 /// The records of the topics of some items, by their stamps: those of each item, and all in the order of consumption.
@@ -259,11 +303,23 @@ fn records_shown<'a>(
     requires { HasTopicOf broker.now relation.now }
     ensures { IfOk result (λ records. map (λ r. r.now) records.items ≡ records_shown broker.now relation.now) }
 {
+    by_stamp(records_by_part(alloc, broker, relation)?)
+}
+
+/// The records of a declared relation's topic, one partition after another.
+fn records_by_part<'a>(
+    alloc: Global,
+    broker: &'a Broker,
+    relation: &Relation,
+) -> Result<Vec<&'a SourceRecord>, AllocError>
+    requires { HasTopicOf broker.now relation.now }
+    ensures { IfOk result (λ records. map (λ r. r.now) records.items ≡ records_by_part broker.now relation.now) }
+{
     let mut records = Vec::new(alloc);
     for part in 0..broker.partitions(relation.number) {
         push_records(&mut records, broker.visible(relation.number, part).fed)?;
     }
-    by_stamp(records)
+    Ok(records)
 }
 
 /// The changes of a query's topic, all partitions together, by their places.

@@ -1,6 +1,6 @@
 //! The rows that a table has after its changes.
 
-ghost use Rattle.std.specs.Prelude.{◌≡◌, IfOk, OnOk, filter, is_some, map};
+ghost use Rattle.std.specs.Prelude.{◌≡◌, IfOk, OnOk, count_by, filter, is_some, length, map};
 ghost use Rattle.std.specs.Option.{option_cmp};
 ghost use Rattle.std.specs.Cmp.Lexicographic.{slice_cmp};
 ghost use Rattle.ksql_place.specs.Ascending.{ascending};
@@ -38,6 +38,14 @@ fn rows_of<'a>(alloc: Global, lines: &[Line<'a>]) -> Result<Vec<Line<'a>>, Alloc
     Ok(rows)
 }
 
+/// How many rows these changes leave.
+pub fn count_rows(alloc: Global, lines: &[Line]) -> Result<usize, AllocError>
+    ensures { IfOk result (λ count. count ≡ length (rows_of (map shown_of lines.now))) }
+{
+    let latest = latest_lines(alloc, lines)?;
+    Ok(count_with_row(latest.as_slice()))
+}
+
 /// Of each row the line of its latest change.
 fn latest_lines<'a>(alloc: Global, lines: &[Line<'a>]) -> Result<IndexSet<Line<'a>>, AllocError>
     ensures { IfOk result (λ latest. map shown_of latest.keys ≡ latest_of (map shown_of lines.now)) }
@@ -56,6 +64,13 @@ fn lines_with_row<'a>(alloc: Global, lines: &[Line<'a>]) -> Result<Vec<Line<'a>>
         .copied()
         .filter(|line| line.told.has_row())
         .collect(alloc)
+}
+
+/// How many lines have a row that isn't gone.
+fn count_with_row(lines: &[Line]) -> usize
+    ensures { result ≡ count_by (λ line. is_some (shown_of line).row) lines.now }
+{
+    lines.iter().filter(|line| line.told.has_row()).count()
 }
 
 /// Sorts lines by key and window. Those of one row keep their order.

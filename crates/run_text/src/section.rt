@@ -4,12 +4,12 @@ ghost use Rattle.std.specs.Prelude.{◌≡◌, ◌∷◌, ◌++◌, [], IfOk, Li
 ghost use Rattle.query_meaning.specs.Plain.{changes_of, rows_said};
 ghost use Rattle.run_text.specs.Lines.{extent_text, shown_of};
 ghost use Rattle.run_text.specs.Printed.{change_line, row_line, Shown};
-ghost use Rattle.run_text.specs.Report.{count_text, head_line, kind_text, meant, origin_text, table_rows, IsPrintable};
+ghost use Rattle.run_text.specs.Report.{count_text, head_line, kind_text, meant, origin_text, summary_text, table_rows, IsPrintable};
 ghost use Rattle.topic_files.specs.Printed.{printed_by};
 
 use crate::line::Line;
 use crate::printed::{push_change, push_row_line, reserve_lines};
-use crate::rows::table_rows;
+use crate::rows::{count_rows, table_rows};
 use ksql_place::{Change, SourceRecord, said_by};
 use ksql_types::{Kind, Relation, lane};
 use query_meaning::{Listed, partition_of};
@@ -111,18 +111,40 @@ pub fn push_section(
     ensures { OnOk result (string_bytes out.new ≡ string_bytes out.old
         ++ extent_text extent (record { relation = relation.now; closed = closed; skipped = skipped; shown = map shown_of lines.now })) }
 {
+    if let Extent::Summary = extent {
+        return push_summary(out, alloc, relation, closed, skipped, lines);
+    }
     let rows = table_rows(alloc, relation.kind, lines)?;
-    push_head(out, relation, closed, skipped, lines, rows.as_slice())?;
+    push_head(out, relation, closed, skipped, lines.len(), rows.len())?;
     let printer = Printer::of(alloc, relation)?;
-    match extent {
-        Extent::Whole => {
-            push_changes(out, alloc, &printer, lines)?;
+    push_changes(out, alloc, &printer, lines)?;
+    push_rows(out, alloc, &printer, rows.as_slice())
+}
+
+/// Appends what a summary has of a relation: its head line and, of a table without windows, those of its rows.
+fn push_summary(
+    out: &mut String,
+    alloc: Global,
+    relation: &Relation,
+    closed: u64,
+    skipped: usize,
+    lines: &[Line],
+) -> Result<(), AllocError>
+    ensures { OnOk result (string_bytes out.new ≡ string_bytes out.old
+        ++ summary_text (record { relation = relation.now; closed = closed; skipped = skipped; shown = map shown_of lines.now })) }
+{
+    match relation.kind {
+        Kind::Stream => push_head(out, relation, closed, skipped, lines.len(), 0),
+        Kind::Windowed => {
+            let rows = count_rows(alloc, lines)?;
+            push_head(out, relation, closed, skipped, lines.len(), rows)
+        }
+        Kind::Table => {
+            let rows = table_rows(alloc, relation.kind, lines)?;
+            push_head(out, relation, closed, skipped, lines.len(), rows.len())?;
+            let printer = Printer::of(alloc, relation)?;
             push_rows(out, alloc, &printer, rows.as_slice())
         }
-        Extent::Summary => match relation.kind {
-            Kind::Table => push_rows(out, alloc, &printer, rows.as_slice()),
-            Kind::Stream | Kind::Windowed => Ok(()),
-        },
     }
 }
 
@@ -160,26 +182,26 @@ fn push_rows(
     Ok(())
 }
 
-/// Appends the head line of a relation that has these changes and rows.
+/// Appends the head line of a relation that has so many changes and, where it is a table, rows.
 #[tactic(auto, using(crate::proofs::ReportLemmas::appends), unfolding(crate::specs::Report::head_line))]
-fn push_head(
+pub fn push_head(
     out: &mut String,
     relation: &Relation,
     closed: u64,
     skipped: usize,
-    lines: &[Line],
-    rows: &[Line],
+    changes: usize,
+    rows: usize,
 ) -> Result<(), AllocError>
-    requires { map shown_of rows.now ≡ table_rows relation.now.kind (map shown_of lines.now) }
-    ensures { OnOk result (string_bytes out.new ≡ string_bytes out.old
-        ++ head_line (record { relation = relation.now; closed = closed; skipped = skipped; shown = map shown_of lines.now })) }
+    ensures { (shown : List Shown) → length shown ≡ changes → length (table_rows relation.now.kind shown) ≡ rows
+        → OnOk result (string_bytes out.new ≡ string_bytes out.old
+        ++ head_line (record { relation = relation.now; closed = closed; skipped = skipped; shown = shown })) }
 {
     let kind = kind_text(relation.kind);
     let name = relation.name.items();
     write!(out, "{kind} {name}")?;
     push_origin(out, relation.declared, closed, skipped)?;
-    write!(out, " changes={}", lines.len())?;
-    push_count(out, relation.kind, rows.len())?;
+    write!(out, " changes={changes}")?;
+    push_count(out, relation.kind, rows)?;
     out.push_str("\n")
 }
 

@@ -27,6 +27,7 @@ pub fn push_records<'a>(
 ) -> Result<(), AllocError>
     ensures { OnOk result (map (λ r. r.now) records.new.items ≡ map (λ r. r.now) records.old.items ++ more.now) }
 {
+    records.reserve(more.len())?;
     for fed in more {
         records.push(fed)?;
     }
@@ -41,6 +42,7 @@ pub fn push_changes<'a>(
 ) -> Result<(), AllocError>
     ensures { OnOk result (map standing_of changes.new.items ≡ map standing_of changes.old.items ++ standing_in part more.now) }
 {
+    changes.reserve(more.len())?;
     for change in more {
         changes.push(LentChange { part, change })?;
     }

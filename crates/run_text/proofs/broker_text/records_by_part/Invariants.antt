@@ -1,7 +1,7 @@
 use Rattle.std.proofs.Common.{◌≡◌, flat_map, map}
 use Rattle.std.specs.List.{range_with_len}
 use Rattle.run_text.specs.Shown.{entries_at, records_in}
-use Rattle.run_text.proofs.broker_text.records_shown.Given as goal
+use Rattle.run_text.proofs.broker_text.records_by_part.Given as goal
 
 -- the records of the partitions so far are there
 abbrev pub invariant-loop-part : goal.invariant-loop-part

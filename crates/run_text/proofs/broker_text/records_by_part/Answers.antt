@@ -2,7 +2,7 @@ use Rattle.std.proofs.Common.{◌∙◌, ◌++◌, List, ap, ap₂, sym}
 use Rattle.ksql_place.specs.declared.change.SourceRecord.{SourceRecord}
 use Rattle.run_text.specs.Shown.{entries_at, records_in}
 use Rattle.run_text.proofs.ShownLemmas.{parts-more, records_in-entries, topic-inside}
-use Rattle.run_text.proofs.broker_text.records_shown.Goals as goal
+use Rattle.run_text.proofs.broker_text.records_by_part.Goals as goal
 
 pub partitions-part-end-requires : goal.partitions-part-end-requires
 partitions-part-end-requires c = topic-inside c.args.broker.now c.args.relation.now c.requires
