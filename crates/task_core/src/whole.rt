@@ -1,5 +1,5 @@
 //! Entries as a task reads them: with the cells of their keys in front of their rows.
-ghost use Rattle.std.specs.Prelude.{◌≡◌, ◌++◌, ◌∷◌, [], IfOk, OnOk, map, option_map};
+ghost use Rattle.std.specs.Prelude.{◌≡◌, ◌<◌, ◌++◌, ◌∷◌, [], IfOk, OnOk, map, option_map, vec_capacity, vec_len};
 ghost use Rattle.ksql_place.specs.Said.{saying};
 ghost use Rattle.ksql_nodes.specs.Entries.{from_side};
 ghost use Rattle.query_meaning.specs.Plain.{raw_body};
@@ -32,6 +32,7 @@ pub fn push_said(
     let Some(body) = said_body(alloc, kind, columns, &fed.key, row)? else {
         return Ok(());
     };
+    taken.reserve(1)?;
     let change = Change {
         place: Place {
             stamp: fed.stamp,
@@ -42,16 +43,16 @@ pub fn push_said(
         span: None,
         body,
     };
-    push_entry(taken, side, change)
+    put_entry(taken, side, change);
+    Ok(())
 }
 
-/// Adds an entry of a side.
-fn push_entry(taken: &mut Vec<Entry>, side: u32, change: Change) -> Result<(), AllocError>
-    ensures { OnOk result (entries_of taken.new.items ≡ entries_of taken.old.items ++ from_side side (change ∷ [])) }
+/// Adds an entry of a side to those that have room for it.
+fn put_entry(taken: &mut Vec<Entry>, side: u32, change: Change)
+    requires { vec_len taken.old < vec_capacity taken.old }
+    ensures { entries_of taken.new.items ≡ entries_of taken.old.items ++ from_side side (change ∷ []) }
 {
-    taken.reserve(1)?;
     taken.push_reserved(Entry { side, change });
-    Ok(())
 }
 
 /// What a row, or that there is none, says to a relation of a kind, with so many key columns in front of the row.
@@ -90,6 +91,7 @@ pub fn push_whole(
         ≡ entries_of taken.old.items ++ from_side side (with_cells columns change.now ∷ [])) }
 {
     let body = whole_body(alloc, columns, change)?;
+    taken.reserve(1)?;
     let whole = Change {
         place: change.place.copy(alloc)?,
         time: change.time,
@@ -97,7 +99,8 @@ pub fn push_whole(
         span: change.span,
         body,
     };
-    push_entry(taken, side, whole)
+    put_entry(taken, side, whole);
+    Ok(())
 }
 
 /// Adds an entry of a side: a change that was given, with so many key columns in front of its rows. Copies nothing where that
@@ -115,7 +118,9 @@ pub fn push_given(
     if columns > 0 {
         return push_whole(alloc, taken, side, columns, &change);
     }
-    push_entry(taken, side, change)
+    taken.reserve(1)?;
+    put_entry(taken, side, change);
+    Ok(())
 }
 
 /// What a change says, with so many key columns in front of its rows, or as it is where that is none.
