@@ -1,11 +1,12 @@
 -- The lines of a report on records and changes. `print` gives the text of a row.
-use Rattle.std.specs.Prelude.{ℕ, List, [], ◌∷◌, ◌++◌, map, codes, decimal, Option, Some, None}
+use Rattle.std.specs.Prelude.{◌≡◌, ℕ, List, [], ◌∷◌, ◌++◌, map, codes, decimal, string_bytes, String, Option, Some, None}
 use Rattle.ksql_types.specs.declared.value.Value.{Value}
 use Rattle.ksql_types.specs.declared.relation.Span.{Span}
 use Rattle.ksql_place.specs.Said.{row_in}
 use Rattle.ksql_place.specs.declared.change.Change.{Change}
 use Rattle.ksql_place.specs.declared.change.SourceRecord.{SourceRecord}
 use Rattle.topic_files.specs.Printed.{comma_joined, printed}
+use Rattle.topic_log.specs.Views.{EachAt}
 
 -- values with commas between
 unfoldable pub cells_text : List Value → List ℕ
@@ -48,6 +49,14 @@ fields_text print shown =
     ++ (span_text shown.span
     ++ (codes ",\"v\":" ++ (row_text print shown.row
     ++ codes "}\n")))))
+
+-- the start of the line of a change in a partition, up to its time
+unfoldable pub start_text : ℕ → List ℕ
+start_text part = codes "{\"p\":" ++ (decimal part ++ codes ",\"t\":")
+
+-- texts that are the starts of lines, each at the number of its partition
+abbrev pub AreStarts : {Z : Type 0} → List (String Z) → Type 0
+AreStarts starts = EachAt (λ part start. string_bytes start ≡ start_text part) starts
 
 -- the line of a change
 unfoldable pub change_line : (List Value → List ℕ) → Shown → List ℕ

@@ -1,9 +1,9 @@
 //! The lines of a report on records and changes.
 
-ghost use Rattle.std.specs.Prelude.{◌≡◌, ◌++◌, OnOk, codes, decimal, option_map, string_bytes};
+ghost use Rattle.std.specs.Prelude.{◌≡◌, ◌++◌, IfOk, OnOk, codes, decimal, option_map, string_bytes};
 ghost use Rattle.topic_files.specs.Printed.{printed_by};
 ghost use Rattle.run_text.specs.Lines.{shown_of};
-ghost use Rattle.run_text.specs.Printed.{cells_text, change_line, fields_text, key_text, order_line, row_line, row_text, span_text};
+ghost use Rattle.run_text.specs.Printed.{cells_text, change_line, fields_text, key_text, order_line, row_line, row_text, span_text, start_text, AreStarts};
 
 use crate::line::Line;
 use itoa::Buffer;
@@ -76,20 +76,20 @@ fn push_span(out: &mut String, span: Option<Span>) -> Result<(), AllocError>
     }
 }
 
-/// Appends a row, or null where there is none.
-#[tactic(auto, unfolding(crate::specs::Printed::row_text))]
-fn push_row(
+/// Appends the value of a line, a row, or null where there is none, up to the end of the line.
+#[tactic(auto, using(crate::proofs::ReportLemmas::appends), unfolding(crate::specs::Printed::row_text))]
+fn push_value(
     out: &mut String,
     alloc: Global,
     printer: &Printer,
     row: Option<&[Value]>,
 ) -> Result<(), AllocError>
-    ensures { OnOk result (string_bytes out.new
-        ≡ string_bytes out.old ++ row_text (printed_by printer.now) (option_map (λ r. r.now) row.entry)) }
+    ensures { OnOk result (string_bytes out.new ≡ string_bytes out.old
+        ++ (codes ",\"v\":" ++ (row_text (printed_by printer.now) (option_map (λ r. r.now) row.entry) ++ codes "}\n"))) }
 {
     match row {
-        Some(row) => printer.push_row(out, alloc, row),
-        None => out.push_str("null"),
+        Some(row) => printer.push_value(out, alloc, row),
+        None => out.push_str(",\"v\":null}\n"),
     }
 }
 
@@ -108,24 +108,55 @@ fn push_fields(
     out.push_str(",\"k\":")?;
     push_key(out, alloc, told.key())?;
     push_span(out, told.span())?;
-    out.push_str(",\"v\":")?;
-    push_row(out, alloc, printer, told.row())?;
-    out.push_str("}\n")
+    push_value(out, alloc, printer, told.row())
 }
 
-/// Appends the line of a change of a relation whose rows this prints.
-#[tactic(auto, using(crate::proofs::ReportLemmas::appends), unfolding(crate::specs::Printed::change_line))]
+/// Appends the start of the line of a change in a partition, up to its time.
+#[tactic(auto, using(crate::proofs::ReportLemmas::appends), unfolding(crate::specs::Printed::start_text))]
+fn push_start(out: &mut String, part: u32) -> Result<(), AllocError>
+    ensures { OnOk result (string_bytes out.new ≡ string_bytes out.old ++ start_text part) }
+{
+    out.push_str("{\"p\":")?;
+    push_number(out, part as u64)?;
+    out.push_str(",\"t\":")
+}
+
+/// The start of the line of a change in a partition, up to its time.
+fn start_of(alloc: Global, part: u32) -> Result<String, AllocError>
+    ensures { IfOk result (λ start. string_bytes start ≡ start_text part) }
+{
+    let mut start = String::new(alloc);
+    push_start(&mut start, part)?;
+    Ok(start)
+}
+
+/// The starts of the lines of changes in so many partitions, in the order of their numbers.
+pub fn starts_of(alloc: Global, partitions: u32) -> Result<Vec<String>, AllocError>
+    ensures { IfOk result (λ starts. AreStarts starts.items) }
+{
+    let mut starts = Vec::new(alloc);
+    for part in 0..partitions {
+        starts.push(start_of(alloc, part)?)?;
+    }
+    Ok(starts)
+}
+
+/// Appends the line of a change of a relation whose rows this prints. The starts of lines are written once, not for each line.
+#[tactic(auto, using(crate::proofs::ReportLemmas::appends), unfolding(crate::specs::Printed::change_line, crate::specs::Printed::start_text))]
 pub fn push_change(
     out: &mut String,
     alloc: Global,
+    starts: &[String],
     printer: &Printer,
     line: Line,
 ) -> Result<(), AllocError>
+    requires { AreStarts starts.now }
     ensures { OnOk result (string_bytes out.new ≡ string_bytes out.old ++ change_line (printed_by printer.now) (shown_of line.entry)) }
 {
-    out.push_str("{\"p\":")?;
-    push_number(out, line.part as u64)?;
-    out.push_str(",\"t\":")?;
+    match starts.get(line.part as usize) {
+        Some(start) => out.push_str(start.as_str())?,
+        None => push_start(out, line.part)?,
+    }
     push_fields(out, alloc, printer, line)
 }
 

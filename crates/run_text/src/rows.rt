@@ -50,7 +50,10 @@ pub fn count_rows(alloc: Global, lines: &[Line]) -> Result<usize, AllocError>
 fn latest_lines<'a>(alloc: Global, lines: &[Line<'a>]) -> Result<IndexSet<Line<'a>>, AllocError>
     ensures { IfOk result (λ latest. map shown_of latest.keys ≡ latest_of (map shown_of lines.now)) }
 {
-    let mut latest: IndexSet<Line<'a>> = lines.iter().rev().copied().collect(alloc)?;
+    let mut latest = IndexSet::new(alloc);
+    for line in lines.iter().rev() {
+        latest.insert(*line)?;
+    }
     latest.reverse();
     Ok(latest)
 }

@@ -8,7 +8,7 @@ ghost use Rattle.run_text.specs.Report.{count_text, head_line, kind_text, meant,
 ghost use Rattle.topic_files.specs.Printed.{printed_by};
 
 use crate::line::Line;
-use crate::printed::{push_change, push_row_line, reserve_lines};
+use crate::printed::{push_change, push_row_line, reserve_lines, starts_of};
 use crate::rows::{count_rows, table_rows};
 use ksql_place::{Change, SourceRecord, said_by};
 use ksql_types::{Kind, Relation, lane};
@@ -117,7 +117,7 @@ pub fn push_section(
     let rows = table_rows(alloc, relation.kind, lines)?;
     push_head(out, relation, closed, skipped, lines.len(), rows.len())?;
     let printer = Printer::of(alloc, relation)?;
-    push_changes(out, alloc, &printer, lines)?;
+    push_changes(out, alloc, relation.partitions, &printer, lines)?;
     push_rows(out, alloc, &printer, rows.as_slice())
 }
 
@@ -148,19 +148,21 @@ fn push_summary(
     }
 }
 
-/// Appends the lines of the changes of a relation whose rows this prints.
+/// Appends the lines of the changes of a relation of so many partitions whose rows this prints.
 fn push_changes(
     out: &mut String,
     alloc: Global,
+    partitions: u32,
     printer: &Printer,
     lines: &[Line],
 ) -> Result<(), AllocError>
     ensures { OnOk result (string_bytes out.new
         ≡ string_bytes out.old ++ flat_map (change_line (printed_by printer.now)) (map shown_of lines.now)) }
 {
+    let starts = starts_of(alloc, partitions)?;
     reserve_lines(out, lines.len())?;
     for line in lines {
-        push_change(out, alloc, printer, *line)?;
+        push_change(out, alloc, starts.as_slice(), printer, *line)?;
     }
     Ok(())
 }

@@ -303,6 +303,24 @@ fn a_row_is_printed_without_blanks(rt: HostRuntime) -> Result<(), Fail> {
 }
 
 #[test]
+fn a_value_ends_its_line(rt: HostRuntime) -> Result<(), Fail> {
+    let alloc = rt.alloc();
+    let row = vec![in alloc; Value::Int(1)]?;
+    for (stream, line) in [
+        (stream(alloc, SqlType::Int)?, ",\"v\":{\"AB\":1}}\n"),
+        (
+            stream_of_texts(alloc, vec![in alloc; column(alloc, "A", SqlType::Int)?]?)?,
+            ",\"v\":\"1\"}\n",
+        ),
+    ] {
+        let mut out = String::new(alloc);
+        Printer::of(alloc, &stream)?.push_value(&mut out, alloc, &row)?;
+        assert_eq!(rt; out.as_str(), line);
+    }
+    Ok(())
+}
+
+#[test]
 fn a_text_is_read_as_the_row_of_its_fields(rt: HostRuntime) -> Result<(), Fail> {
     let alloc = rt.alloc();
     let stream = stream_of_texts(alloc, three_columns(alloc)?)?;

@@ -1,6 +1,6 @@
 //! The printed text of a value and of a row.
 
-ghost use Rattle.std.specs.Prelude.{◌≡◌, ◌++◌, IfOk, List, OnOk, length, map, string_bytes};
+ghost use Rattle.std.specs.Prelude.{◌≡◌, ◌++◌, codes, IfOk, List, OnOk, length, map, string_bytes};
 ghost use Rattle.std.specs.List.{concat, list_all};
 ghost use Rattle.json.specs.Print.{quoted};
 ghost use Rattle.json.specs.Run.{is_plain};
@@ -42,6 +42,31 @@ impl Printer {
             Printer::Texts => {
                 let text = line_of(alloc, row)?;
                 push_quoted(out, alloc, text.as_str())
+            }
+        }
+    }
+
+    /// Appends a row as the last field of a line, up to the end of the line.
+    #[tactic(auto, using(crate::proofs::Texts::appends))]
+    pub fn push_value(
+        &self,
+        out: &mut String,
+        alloc: Global,
+        row: &[Value],
+    ) -> Result<(), AllocError>
+        ensures { OnOk result (string_bytes out.new ≡ string_bytes out.old
+            ++ (codes ",\"v\":" ++ (printed_by self.now row.now ++ codes "}\n"))) }
+    {
+        match self {
+            Printer::Objects(labels) => {
+                out.push_str(",\"v\":{")?;
+                push_fields(out, alloc, labels, row)?;
+                out.push_str("}}\n")
+            }
+            Printer::Texts => {
+                out.push_str(",\"v\":")?;
+                self.push_row(out, alloc, row)?;
+                out.push_str("}\n")
             }
         }
     }
