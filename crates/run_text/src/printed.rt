@@ -1,6 +1,6 @@
 //! The lines of a report on records and changes.
 
-ghost use Rattle.std.specs.Prelude.{◌≡◌, ◌++◌, IfOk, OnOk, codes, decimal, option_map, string_bytes};
+ghost use Rattle.std.specs.Prelude.{◌≡◌, ◌++◌, IfOk, OnOk, codes, decimal, length, option_map, string_bytes};
 ghost use Rattle.topic_files.specs.Printed.{printed_by};
 ghost use Rattle.run_text.specs.Lines.{shown_of};
 ghost use Rattle.run_text.specs.Printed.{cells_text, change_line, fields_text, key_text, order_line, row_line, row_text, span_text, start_text, AreStarts};
@@ -132,7 +132,8 @@ fn start_of(alloc: Global, part: u32) -> Result<String, AllocError>
 
 /// The starts of the lines of changes in so many partitions, in the order of their numbers.
 pub fn starts_of(alloc: Global, partitions: u32) -> Result<Vec<String>, AllocError>
-    ensures { IfOk result (λ starts. AreStarts starts.items) }
+    ensures starts { IfOk result (λ starts. AreStarts starts.items) }
+    ensures many { IfOk result (λ starts. length starts.items ≡ partitions) }
 {
     let mut starts = Vec::new(alloc);
     for part in 0..partitions {
