@@ -4,25 +4,25 @@ use Rattle.atomic_table.specs.Table.{rest}
 use Rattle.claim_table.specs.Held.{Holds, Once, behind, brought}
 
 module _ {S : Type 0} where
-  behind_to : (x : ℕ × S) (xs : List (ℕ × S)) (i : ℕ) (s : S) → Holds (x ∷ xs) i s → Holds (behind x xs) i s
-  behind_to x [] i s h = h
-  behind_to x (y ∷ ys) i s h = ⊎_elim (λ (e : (i ≡ x.0) × (s ≡ x.1)). inr (inl e)) (λ (b : Holds (y ∷ ys) i s). ⊎_elim (λ (e : (i ≡ y.0) × (s ≡ y.1)). inl e) (λ (d : Holds ys i s). inr (inr d)) b) h
+  after_to : (x : ℕ × S) (xs : List (ℕ × S)) (i : ℕ) (s : S) → Holds (x ∷ xs) i s → Holds (behind x xs) i s
+  after_to x [] i s h = h
+  after_to x (y ∷ ys) i s h = ⊎_elim (λ (e : (i ≡ x.0) × (s ≡ x.1)). inr (inl e)) (λ (b : Holds (y ∷ ys) i s). ⊎_elim (λ (e : (i ≡ y.0) × (s ≡ y.1)). inl e) (λ (d : Holds ys i s). inr (inr d)) b) h
 
-  behind_from : (x : ℕ × S) (xs : List (ℕ × S)) (i : ℕ) (s : S) → Holds (behind x xs) i s → Holds (x ∷ xs) i s
-  behind_from x [] i s h = h
-  behind_from x (y ∷ ys) i s h = ⊎_elim (λ (e : (i ≡ y.0) × (s ≡ y.1)). inr (inl e)) (λ (b : Holds (x ∷ ys) i s). ⊎_elim (λ (e : (i ≡ x.0) × (s ≡ x.1)). inl e) (λ (d : Holds ys i s). inr (inr d)) b) h
+  after_from : (x : ℕ × S) (xs : List (ℕ × S)) (i : ℕ) (s : S) → Holds (behind x xs) i s → Holds (x ∷ xs) i s
+  after_from x [] i s h = h
+  after_from x (y ∷ ys) i s h = ⊎_elim (λ (e : (i ≡ y.0) × (s ≡ y.1)). inr (inl e)) (λ (b : Holds (x ∷ ys) i s). ⊎_elim (λ (e : (i ≡ x.0) × (s ≡ x.1)). inl e) (λ (d : Holds ys i s). inr (inr d)) b) h
 
-  behind_once : (x : ℕ × S) (xs : List (ℕ × S)) → Once (x ∷ xs) → Once (behind x xs)
-  behind_once x [] o = o
-  behind_once x (y ∷ ys) o = ((λ s h. ⊎_elim (λ (e : (y.0 ≡ x.0) × (s ≡ x.1)). o.0 y.1 (inl (sym e.0, refl))) (λ (d : Holds ys y.0 s). o.1.0 s d) h), ((λ s h. o.0 s (inr h)), o.1.1))
+  after_once : (x : ℕ × S) (xs : List (ℕ × S)) → Once (x ∷ xs) → Once (behind x xs)
+  after_once x [] o = o
+  after_once x (y ∷ ys) o = ((λ s h. ⊎_elim (λ (e : (y.0 ≡ x.0) × (s ≡ x.1)). o.0 y.1 (inl (sym e.0, refl))) (λ (d : Holds ys y.0 s). o.1.0 s d) h), ((λ s h. o.0 s (inr h)), o.1.1))
 
   choose_to : (b : Bool) (x : ℕ × S) (xs ys : List (ℕ × S)) (i : ℕ) (s : S) → (Holds xs i s → Holds ys i s) → Holds (x ∷ xs) i s → Holds (cond b (x ∷ xs) (behind x ys)) i s
   choose_to true x xs ys i s f h = h
-  choose_to false x xs ys i s f h = behind_to x ys i s (⊎_elim (λ (e : (i ≡ x.0) × (s ≡ x.1)). inl e) (λ (d : Holds xs i s). inr (f d)) h)
+  choose_to false x xs ys i s f h = after_to x ys i s (⊎_elim (λ (e : (i ≡ x.0) × (s ≡ x.1)). inl e) (λ (d : Holds xs i s). inr (f d)) h)
 
   choose_from : (b : Bool) (x : ℕ × S) (xs ys : List (ℕ × S)) (i : ℕ) (s : S) → (Holds ys i s → Holds xs i s) → Holds (cond b (x ∷ xs) (behind x ys)) i s → Holds (x ∷ xs) i s
   choose_from true x xs ys i s f h = h
-  choose_from false x xs ys i s f h = ⊎_elim (λ (e : (i ≡ x.0) × (s ≡ x.1)). inl e) (λ (d : Holds ys i s). inr (f d)) (behind_from x ys i s h)
+  choose_from false x xs ys i s f h = ⊎_elim (λ (e : (i ≡ x.0) × (s ≡ x.1)). inl e) (λ (d : Holds ys i s). inr (f d)) (after_from x ys i s h)
 
   pub brought_to : (k : ℕ) (xs : List (ℕ × S)) (i : ℕ) (s : S) → Holds xs i s → Holds (brought k xs) i s
   brought_to k [] i s h = h
@@ -34,7 +34,7 @@ module _ {S : Type 0} where
 
   choose_once : (b : Bool) (x : ℕ × S) (xs ys : List (ℕ × S)) → ((i : ℕ) (s : S) → Holds ys i s → Holds xs i s) → Once ys → Once (x ∷ xs) → Once (cond b (x ∷ xs) (behind x ys))
   choose_once true x xs ys f once o = o
-  choose_once false x xs ys f once o = behind_once x ys ((λ s h. o.0 s (f x.0 s h)), once)
+  choose_once false x xs ys f once o = after_once x ys ((λ s h. o.0 s (f x.0 s h)), once)
 
   pub brought_once : (k : ℕ) (xs : List (ℕ × S)) → Once xs → Once (brought k xs)
   brought_once k [] o = o

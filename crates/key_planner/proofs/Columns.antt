@@ -2,8 +2,8 @@
 use Rattle.std.proofs.Common.{◌≡◌, ◌∙◌, ap, sym, refl, ℕ, zero, suc, ◌+◌, Bool, true, false, IsTrue, List, [], ◌∷◌, length}
 use Rattle.std.specs.Prelude.{◌↔◌, ◌&&◌, ◌≢◌}
 use Rattle.ksql_expr.specs.declared.typed.Typed.{Typed}
-use Rattle.ksql_trees.specs.Same.{same_tree}
-use Rattle.ksql_trees.proofs.Equality.{equal-trees, same-trees}
+use Rattle.grouped_expressions.specs.Same.{same_tree}
+use Rattle.grouped_expressions.proofs.Equality.{equal-trees, same-trees}
 use Rattle.topology.specs.Stages.{are_columns_from, is_column}
 
 -- what a test of two trees says

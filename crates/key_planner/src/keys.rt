@@ -1,7 +1,7 @@
 //! Whether expressions are the key of what a plan makes.
 ghost use Rattle.std.specs.Prelude.{◌≡◌, ◌↔◌, IfOk, IsTrue, List};
 ghost use Rattle.ksql_expr.specs.declared.typed.TypedNode.TheVariants as form;
-ghost use Rattle.ksql_trees.specs.Same.{same_tree};
+ghost use Rattle.grouped_expressions.specs.Same.{same_tree};
 ghost use Rattle.ksql_program.specs.declared.program.Item.{Item as OneItem};
 ghost use Rattle.topology.specs.Stages.{are_columns_from, is_column, is_stream_key, is_tables_key};
 ghost use Rattle.key_planner.specs.Cuts.{is_one, leftmost_of, own_key};
@@ -10,7 +10,7 @@ use crate::relations::side_of;
 use ksql_expr::{Typed, TypedNode};
 use ksql_nodes::Side;
 use ksql_program::{JoinKind, Program};
-use ksql_trees::same_tree;
+use grouped_expressions::same_tree;
 use logical_plan::{Plan, key_columns};
 use std::alloc::AllocError;
 

@@ -1,9 +1,9 @@
 -- What is known of an accepted query when its item is made.
 use Rattle.std.specs.Prelude.{◌≡◌, ◌<◌, ◌^◌, List, false, true, is_some, unwrap_or, codes}
-use Rattle.ksql_statements.specs.declared.tree.Property.{Property}
-use Rattle.ksql_statements.specs.declared.tree.Select.{Select}
-use Rattle.ksql_statements.specs.declared.tree.Statement.{Statement}
-use Rattle.ksql_statements.specs.declared.tree.StatementBody.TheVariants as body
+use Rattle.statement_trees.specs.declared.tree.Property.{Property}
+use Rattle.statement_trees.specs.declared.tree.Select.{Select}
+use Rattle.statement_trees.specs.declared.tree.Statement.{Statement}
+use Rattle.statement_trees.specs.declared.tree.StatementBody.TheVariants as body
 use Rattle.ksql_program.specs.declared.query.Shape.{Shape}
 use Rattle.ksql_clauses.specs.declared.sources.Known.{Known}
 use Rattle.ksql_clauses.specs.Properties.{partitions_in, topic_in, value_of}

@@ -1,10 +1,10 @@
 -- How many functions the expressions of a statement call.
 use Rattle.std.specs.Prelude.{◌≤◌, length}
 use Rattle.std.specs.List.{AllByRecursion}
-use Rattle.ksql_expressions.specs.declared.tree.Expr.{Expr}
-use Rattle.ksql_statements.specs.declared.tree.StatementBody.{StatementBody}
-use Rattle.ksql_statements.specs.declared.tree.StatementBody.TheVariants.{Declared, Query}
-use Rattle.ksql_names.specs.Uses.{calls}
+use Rattle.expression_trees.specs.declared.tree.Expr.{Expr}
+use Rattle.statement_trees.specs.declared.tree.StatementBody.{StatementBody}
+use Rattle.statement_trees.specs.declared.tree.StatementBody.TheVariants.{Declared, Query}
+use Rattle.ksql_scopes.specs.Uses.{calls}
 use Rattle.ksql_clauses.specs.Sources.{late_exprs}
 
 -- an expression calls at most 2,000 functions

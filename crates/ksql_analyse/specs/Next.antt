@@ -1,7 +1,7 @@
 -- Why a statement has no item.
 use Rattle.std.specs.Prelude.{◌≡◌, ℕ, List}
 use Rattle.ksql_types.specs.declared.relation.Relation.{Relation}
-use Rattle.ksql_statements.specs.declared.tree.Statement.{Statement}
+use Rattle.statement_trees.specs.declared.tree.Statement.{Statement}
 use Rattle.ksql_rules.specs.Lowest.{IsRefused}
 use Rattle.ksql_analyse.specs.declared.fault.AnalyseFault.{AnalyseFault}
 use Rattle.ksql_analyse.specs.declared.fault.AnalyseFault.TheVariants.{Refused, OutOfMemory}

@@ -1,8 +1,8 @@
 -- What a query reads, as far as it needs to be known: one source, or two with a join that has a key.
 use Rattle.std.specs.Prelude.{◌≡◌, List, [], ◌∷◌, Some, None}
-use Rattle.ksql_expressions.specs.declared.tree.Expr.{Expr}
-use Rattle.ksql_statements.specs.declared.tree.JoinText.{JoinText}
-use Rattle.ksql_statements.specs.declared.tree.Select.{Select}
+use Rattle.expression_trees.specs.declared.tree.Expr.{Expr}
+use Rattle.statement_trees.specs.declared.tree.JoinText.{JoinText}
+use Rattle.statement_trees.specs.declared.tree.Select.{Select}
 use Rattle.ksql_clauses.specs.declared.sources.Known.{Known}
 use Rattle.ksql_clauses.specs.Sources.{on_scope}
 use Rattle.ksql_clauses.specs.Keys.{join_key}

@@ -6,7 +6,7 @@ ghost use Rattle.ksql_rules.specs.Breaks.{is_key};
 ghost use Rattle.ksql_analyse.specs.Judgement as spec;
 
 use ksql_clauses::{format_in, partitions_in, topic_in};
-use ksql_statements::{ColumnText, KeyMark, Property, Statement};
+use statement_trees::{ColumnText, KeyMark, Property, Statement};
 use ksql_types::{Chars, Column, CopyOf, Format, Items, Kind, Relation, Schema};
 use std::alloc::{AllocError, Global};
 

@@ -9,7 +9,7 @@ use crate::trees::tree_of;
 use ksql_clauses::Known;
 use ksql_program::{From, JoinKind};
 use ksql_rules::Findings;
-use ksql_statements::JoinWord;
+use statement_trees::JoinWord;
 use std::alloc::{AllocError, Global};
 
 /// What a query reads: one relation, or two that are joined.

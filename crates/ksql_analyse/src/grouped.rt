@@ -3,20 +3,20 @@
 ghost use Rattle.std.specs.Prelude.{◌≡◌, ◌≤◌, ◌-◌, ◌^◌, ◌++◌, [], All, IfOk, length, map};
 ghost use Rattle.std.specs.List.{flat_map};
 ghost use Rattle.ksql_clauses.specs.Sources.{there};
-ghost use Rattle.ksql_grouping.specs.Grouping as groups;
+ghost use Rattle.aggregate_rules.specs.Grouping as groups;
 ghost use Rattle.ksql_expr.specs.declared.typed.TypedNode.TheVariants as node;
-ghost use Rattle.ksql_trees.specs.Grouped.{after as after_in};
+ghost use Rattle.grouped_expressions.specs.Grouped.{after as after_in};
 ghost use Rattle.ksql_analyse.specs.Judgement as spec;
 ghost use Rattle.ksql_analyse.specs.Typable.{IsAggregable, IsAggregateNode, IsTypable};
 
 use crate::trees::tree_of;
 use ksql_clauses::Named;
 use ksql_expr::{Typed, TypedNode};
-use ksql_expressions::Expr;
-use ksql_grouping::{aggregates_of, once};
-use ksql_names::Scope;
+use expression_trees::Expr;
+use aggregate_rules::{aggregates_of, once};
+use ksql_scopes::Scope;
 use ksql_program::Agg;
-use ksql_trees::after;
+use grouped_expressions::after;
 use ksql_types::{Boxed, CopyOf};
 use std::alloc::{AllocError, Global};
 

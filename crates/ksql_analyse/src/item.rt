@@ -12,7 +12,7 @@ use crate::declaration::declared_relation;
 use crate::query::query_of;
 use ksql_program::Item;
 use ksql_rules::Body;
-use ksql_statements::Statement;
+use statement_trees::Statement;
 use ksql_types::Catalog;
 use std::alloc::{AllocError, Global};
 

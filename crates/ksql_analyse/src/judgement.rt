@@ -15,7 +15,7 @@ use crate::fault::AnalyseFault;
 use crate::item::item_of;
 use ksql_program::{Item, Program, relation_of};
 use ksql_rules::{Verdict, judge_statement};
-use ksql_statements::Statement;
+use statement_trees::Statement;
 use ksql_types::{AddRefusal, Boxed, Catalog, CopyOf, Items, Relation};
 use std::alloc::{AllocError, Global};
 

@@ -1,6 +1,6 @@
 //! Laws of the judgement. None of these functions does anything.
 ghost use Rattle.std.specs.Prelude.{◌≡◌, ◌⊎◌, List, ℕ};
-ghost use Rattle.ksql_statements.specs.declared.tree.Statement.{Statement as OneStatement};
+ghost use Rattle.statement_trees.specs.declared.tree.Statement.{Statement as OneStatement};
 ghost use Rattle.ksql_program.specs.declared.program.Item.{Item as OneItem};
 ghost use Rattle.ksql_types.specs.declared.code.Code.{Code as OneCode};
 ghost use Rattle.ksql_analyse.specs.Judgement.{AreParsed, AreRefused, IsProgramOf};

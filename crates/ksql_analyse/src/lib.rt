@@ -16,7 +16,7 @@ mod trees;
 
 pub use fault::AnalyseFault;
 pub use judgement::analyse;
-pub use ksql_names::{Scope, ScopeColumn, ScopeColumns};
+pub use ksql_scopes::{Scope, ScopeColumn, ScopeColumns};
 pub use ksql_types::CopyOf;
 pub use ksql_typing::{TypeFault, typed};
 pub use laws::{one_judgement, some_judgement};

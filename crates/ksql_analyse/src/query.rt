@@ -10,7 +10,7 @@ use crate::shape::shape_of;
 use crate::trees::part_tree;
 use ksql_program::Query;
 use ksql_rules::Findings;
-use ksql_statements::{Property, Statement};
+use statement_trees::{Property, Statement};
 use ksql_types::Boxed;
 use std::alloc::{AllocError, Global};
 

@@ -12,7 +12,7 @@ use ksql_clauses::{Known, Named, has_topic, partitions_in, reads_stream, topic_i
 use ksql_expr::Typed;
 use ksql_program::Shape;
 use ksql_rules::{Findings, is_grouped, result_format};
-use ksql_statements::{Property, Select, Statement};
+use statement_trees::{Property, Select, Statement};
 use ksql_types::{Chars, Column, Columns, CopyOf, Items, Kind, Relation, Schema};
 use std::alloc::{AllocError, Global};
 

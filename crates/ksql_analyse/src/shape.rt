@@ -12,11 +12,11 @@ use crate::grouped::{aggregate_exprs, aggs_of, grouped_columns, part_after, tree
 use crate::trees::{column_trees, trees_of};
 use ksql_clauses::{Named, window_of};
 use ksql_expr::{Typed, TypedNode};
-use ksql_expressions::Expr;
-use ksql_names::Scope;
+use expression_trees::Expr;
+use ksql_scopes::Scope;
 use ksql_program::{Agg, Shape};
 use ksql_rules::{Findings, is_grouped};
-use ksql_statements::WindowText;
+use statement_trees::WindowText;
 use ksql_types::{Boxed, Items, Window};
 use std::alloc::{AllocError, Global};
 

@@ -1,7 +1,7 @@
 //! The law of programs. The function does nothing.
 ghost use Rattle.std.specs.Prelude.{List};
 ghost use Rattle.ksql_analyse.specs.Judgement.{AreParsed, IsProgramOf};
-ghost use Rattle.ksql_statements.specs.declared.tree.Statement.{Statement as OneStatement};
+ghost use Rattle.statement_trees.specs.declared.tree.Statement.{Statement as OneStatement};
 ghost use Rattle.ksql_program.specs.declared.program.Item.{Item as OneItem};
 ghost use Rattle.ksql_program.specs.Sound.{IsSound};
 

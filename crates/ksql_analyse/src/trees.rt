@@ -8,8 +8,8 @@ ghost use Rattle.ksql_analyse.specs.Typable.{AreColumnTrees, IsTypable, IsValue,
 
 use ksql_clauses::Named;
 use ksql_expr::Typed;
-use ksql_expressions::Expr;
-use ksql_names::Scope;
+use expression_trees::Expr;
+use ksql_scopes::Scope;
 use ksql_typing::{TypeFault, typed};
 use std::alloc::{AllocError, Global};
 

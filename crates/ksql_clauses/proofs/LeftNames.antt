@@ -4,20 +4,20 @@ use Rattle.std.specs.Prelude.{◌==◌, bytes_eq, filter, find, length, option_m
 use Rattle.std.specs.List.{list_any, list_all, AllByRecursion as Each}
 use Rattle.std.proofs.lemmas.Bool.{lt-ltb}
 use Rattle.std.proofs.lemmas.List.Folds.{list_any-append}
-use Rattle.ksql_expressions.specs.declared.tree.Expr.{Expr}
-use Rattle.ksql_expressions.specs.declared.tree.Expr.TheVariants as e
-use Rattle.ksql_expressions.specs.declared.tree.WhenText.{WhenText}
+use Rattle.expression_trees.specs.declared.tree.Expr.{Expr}
+use Rattle.expression_trees.specs.declared.tree.Expr.TheVariants as e
+use Rattle.expression_trees.specs.declared.tree.WhenText.{WhenText}
 use Rattle.ksql_clauses.specs.declared.sources.Known.{Known}
-use Rattle.ksql_names.specs.declared.scope.Scope.{Scope}
-use Rattle.ksql_names.specs.declared.scope.ScopeColumn.{ScopeColumn}
-use Rattle.ksql_names.specs.Functions.{is_aggregate}
-use Rattle.ksql_names.specs.Scope.{is_known_as, row_time}
-use Rattle.ksql_names.specs.Uses.{Use, names, names_step, of_when, all_of, perhaps, in_aggregate}
-use Rattle.ksql_expressions.proofs.Folds as folds
-use Rattle.ksql_expressions.proofs.Folds.{perhaps_folded}
-use Rattle.ksql_names.proofs.Induction.{IfThere, InWhen, induction}
-use Rattle.ksql_expressions.specs.Parts.{passes, any_of, any_perhaps}
-use Rattle.ksql_expressions.proofs.Passing as passed
+use Rattle.ksql_scopes.specs.declared.scope.Scope.{Scope}
+use Rattle.ksql_scopes.specs.declared.scope.ScopeColumn.{ScopeColumn}
+use Rattle.ksql_scopes.specs.Functions.{is_aggregate}
+use Rattle.ksql_scopes.specs.Scope.{is_known_as, row_time}
+use Rattle.ksql_scopes.specs.Uses.{Use, names, names_step, of_when, all_of, perhaps, in_aggregate}
+use Rattle.expression_trees.proofs.Folds as folds
+use Rattle.expression_trees.proofs.Folds.{perhaps_folded}
+use Rattle.ksql_scopes.proofs.Induction.{IfThere, InWhen, induction}
+use Rattle.expression_trees.specs.Parts.{passes, any_of, any_perhaps}
+use Rattle.expression_trees.proofs.Passing as passed
 use Rattle.ksql_clauses.specs.declared.left_names.Sought.{Sought}
 use Rattle.ksql_clauses.specs.declared.left_names.Sought.TheVariants.{Any, Other}
 use Rattle.ksql_clauses.specs.Keys.{is_left_name, is_of_left}

@@ -2,23 +2,23 @@
 use Rattle.std.specs.Prelude.{ℕ, ◌+◌, ◌==◌, Bool, false, ◌&&◌, nat_lt, if◌then◌else◌, List, [], ◌∷◌, ◌++◌, length, map, filter, Option, Some, None, option_map, codes, bytes_eq, slice_get}
 use Rattle.std.specs.List.{list_any, list_all}
 use Rattle.ksql_types.specs.declared.operator.BinaryOp.TheVariants as op
-use Rattle.ksql_expressions.specs.declared.tree.Expr.{Expr, out-Expr}
-use Rattle.ksql_expressions.specs.declared.tree.Expr.TheVariants as e
-use Rattle.ksql_expressions.specs.declared.tree.Expr.TheOpen.{Expr-F}
-use Rattle.ksql_statements.specs.declared.tree.JoinWord.{JoinWord}
-use Rattle.ksql_statements.specs.declared.tree.JoinWord.TheVariants.{Inner, Left, Full}
-use Rattle.ksql_statements.specs.declared.tree.Select.{Select}
-use Rattle.ksql_expressions.specs.declared.tree.WhenText.{WhenText}
-use Rattle.ksql_names.specs.declared.scope.Scope.{Scope}
-use Rattle.ksql_names.specs.declared.scope.ScopeColumn.{ScopeColumn}
+use Rattle.expression_trees.specs.declared.tree.Expr.{Expr, out-Expr}
+use Rattle.expression_trees.specs.declared.tree.Expr.TheVariants as e
+use Rattle.expression_trees.specs.declared.tree.Expr.TheOpen.{Expr-F}
+use Rattle.statement_trees.specs.declared.tree.JoinWord.{JoinWord}
+use Rattle.statement_trees.specs.declared.tree.JoinWord.TheVariants.{Inner, Left, Full}
+use Rattle.statement_trees.specs.declared.tree.Select.{Select}
+use Rattle.expression_trees.specs.declared.tree.WhenText.{WhenText}
+use Rattle.ksql_scopes.specs.declared.scope.Scope.{Scope}
+use Rattle.ksql_scopes.specs.declared.scope.ScopeColumn.{ScopeColumn}
 use Rattle.ksql_clauses.specs.declared.items.Named.{Named}
 use Rattle.ksql_clauses.specs.declared.sources.Known.{Known}
 use Rattle.ksql_clauses.specs.Items.{result_columns}
-use Rattle.ksql_names.specs.Resolved.{resolved}
-use Rattle.ksql_expressions.specs.Same.{same_expr}
-use Rattle.ksql_names.specs.Scope.{is_known_as, row_time}
+use Rattle.ksql_scopes.specs.Resolved.{resolved}
+use Rattle.expression_trees.specs.Same.{same_expr}
+use Rattle.ksql_scopes.specs.Scope.{is_known_as, row_time}
 use Rattle.ksql_clauses.specs.Sources.{is_stream, join_word, from_scope, on_scope}
-use Rattle.ksql_names.specs.Uses.{Use, names}
+use Rattle.ksql_scopes.specs.Uses.{Use, names}
 
 -- ---- ON
 

@@ -4,9 +4,9 @@ use Rattle.std.specs.List.{list_any, list_all}
 use Rattle.std.specs.Str.{str_to_ascii_uppercase}
 use Rattle.ksql_types.specs.declared.relation.Format.{Format}
 use Rattle.ksql_types.specs.declared.relation.Format.TheVariants.{Json, Delimited}
-use Rattle.ksql_statements.specs.declared.tree.Property.{Property}
-use Rattle.ksql_statements.specs.declared.tree.PropertyValue.{PropertyValue}
-use Rattle.ksql_statements.specs.declared.tree.PropertyValue.TheVariants as is
+use Rattle.statement_trees.specs.declared.tree.Property.{Property}
+use Rattle.statement_trees.specs.declared.tree.PropertyValue.{PropertyValue}
+use Rattle.statement_trees.specs.declared.tree.PropertyValue.TheVariants as is
 use Rattle.ksql_types.specs.Names.{is_among, are_distinct, is_topic_name}
 
 -- the properties whose value is a text, and those whose value is digits

@@ -1,10 +1,10 @@
 -- Names that are looked for in an expression.
 use Rattle.std.specs.Prelude.{ℕ, Bool, true, false, not, List, Option, Some, None}
 use Rattle.std.specs.List.{list_any}
-use Rattle.ksql_expressions.specs.declared.tree.Expr.{Expr, out-Expr}
-use Rattle.ksql_expressions.specs.declared.tree.Expr.TheOpen.{Expr-F}
-use Rattle.ksql_expressions.specs.declared.tree.WhenText.{WhenText}
-use Rattle.ksql_names.specs.Uses.{Use, names}
+use Rattle.expression_trees.specs.declared.tree.Expr.{Expr, out-Expr}
+use Rattle.expression_trees.specs.declared.tree.Expr.TheOpen.{Expr-F}
+use Rattle.expression_trees.specs.declared.tree.WhenText.{WhenText}
+use Rattle.ksql_scopes.specs.Uses.{Use, names}
 use Rattle.ksql_clauses.specs.declared.left_names.Sought.{Sought}
 use Rattle.ksql_clauses.specs.declared.left_names.Sought.TheVariants.{Any, Other}
 use Rattle.ksql_clauses.specs.Keys.{is_left_name}

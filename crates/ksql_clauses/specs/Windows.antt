@@ -1,10 +1,10 @@
 -- Windows as they are written, in milliseconds (ksqlDB reference manual, "Windows").
 use Rattle.std.specs.Prelude.{ℕ, ◌+◌, ◌*◌, ◌^◌, ◌==◌, Bool, true, false, ◌&&◌, ◌||◌, nat_lt, Option, Some, None}
-use Rattle.ksql_statements.specs.declared.tree.SpanText.{SpanText}
-use Rattle.ksql_statements.specs.declared.tree.Unit.{Unit as UnitWord}
-use Rattle.ksql_statements.specs.declared.tree.Unit.TheVariants.{Day, Hour, Minute, Second, Millisecond}
-use Rattle.ksql_statements.specs.declared.tree.WindowText.{WindowText}
-use Rattle.ksql_statements.specs.declared.tree.WindowText.TheVariants.{Tumbling, Hopping}
+use Rattle.statement_trees.specs.declared.tree.SpanText.{SpanText}
+use Rattle.statement_trees.specs.declared.tree.Unit.{Unit as UnitWord}
+use Rattle.statement_trees.specs.declared.tree.Unit.TheVariants.{Day, Hour, Minute, Second, Millisecond}
+use Rattle.statement_trees.specs.declared.tree.WindowText.{WindowText}
+use Rattle.statement_trees.specs.declared.tree.WindowText.TheVariants.{Tumbling, Hopping}
 use Rattle.ksql_types.specs.declared.relation.Window.{Window}
 
 abbrev pub unit_millis : UnitWord → ℕ

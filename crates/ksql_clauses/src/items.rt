@@ -2,15 +2,15 @@
 
 ghost use Rattle.std.specs.Prelude.{◌≡◌, ◌<◌, ◌≤◌, ◌+◌, ◌-◌, ◌^◌, ◌++◌, ◌∷◌, [], List, All, length, map, IfOk, if◌then◌else◌};
 ghost use Rattle.std.specs.List.{list_all};
-ghost use Rattle.ksql_statements.specs.declared.tree.SelectItem.{SelectItem as OneItem};
+ghost use Rattle.statement_trees.specs.declared.tree.SelectItem.{SelectItem as OneItem};
 ghost use Rattle.ksql_clauses.specs.Items as spec;
-ghost use Rattle.ksql_names.specs.Resolved as names;
+ghost use Rattle.ksql_scopes.specs.Resolved as names;
 ghost use Rattle.ksql_clauses.specs.Sources as sources;
 
 use crate::sources::Known;
-use ksql_expressions::Expr;
-use ksql_names::{Scope, resolved};
-use ksql_statements::{Select, SelectItem};
+use expression_trees::Expr;
+use ksql_scopes::{Scope, resolved};
+use statement_trees::{Select, SelectItem};
 use ksql_types::{Chars, Column, CopyOf};
 use std::alloc::{AllocError, Global};
 

@@ -2,16 +2,16 @@
 
 ghost use Rattle.std.specs.Prelude.{◌≡◌, ◌++◌, ◌∷◌, [], IfOk, None, Some, codes, map, option_and_then, option_copied, option_map, slice_get};
 ghost use Rattle.std.specs.List.{list_any};
-ghost use Rattle.ksql_names.specs.Resolved as names;
+ghost use Rattle.ksql_scopes.specs.Resolved as names;
 ghost use Rattle.ksql_clauses.specs.Sources as sources;
 ghost use Rattle.ksql_clauses.specs.Keys as spec;
 
 use crate::items::Named;
 use crate::left_names::{Sought, has_name};
 use crate::sources::{Known, is_stream};
-use ksql_expressions::{Expr, same_expr};
-use ksql_names::{Scope, resolved};
-use ksql_statements::{JoinWord, Select};
+use expression_trees::{Expr, same_expr};
+use ksql_scopes::{Scope, resolved};
+use statement_trees::{JoinWord, Select};
 use ksql_types::{BinaryOp, Boxed, Chars, Column, CopyOf};
 use std::alloc::{AllocError, Global};
 

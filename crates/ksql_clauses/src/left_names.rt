@@ -5,8 +5,8 @@ ghost use Rattle.ksql_clauses.specs.Keys as keys;
 ghost use Rattle.ksql_clauses.specs.Sought as spec;
 
 use crate::sources::Known;
-use ksql_expressions::{Decides, Expr, passes};
-use ksql_names::{Scope, first_known_as, is_row_time};
+use expression_trees::{Decides, Expr, passes};
+use ksql_scopes::{Scope, first_known_as, is_row_time};
 use ksql_types::Chars;
 
 /// Which names are looked for in an expression.

@@ -6,7 +6,7 @@ ghost use Rattle.std.specs.Str.{str_to_ascii_uppercase};
 ghost use Rattle.ksql_types.specs.Names as names;
 ghost use Rattle.ksql_clauses.specs.Properties as spec;
 
-use ksql_statements::{Property, PropertyValue};
+use statement_trees::{Property, PropertyValue};
 use ksql_types::{Chars, Format};
 
 const TEXT_PROPERTIES: [&str; 3] = ["KAFKA_TOPIC", "KEY_FORMAT", "VALUE_FORMAT"];

@@ -3,8 +3,8 @@
 ghost use Rattle.std.specs.Prelude.{◌≡◌, ◌==◌, ◌++◌, map, length, option_copied, option_to_list, take, IfOk};
 ghost use Rattle.ksql_clauses.specs.Sources as spec;
 
-use ksql_names::{Scope, ScopeColumn};
-use ksql_statements::{JoinText, JoinWord, Select, Source};
+use ksql_scopes::{Scope, ScopeColumn};
+use statement_trees::{JoinText, JoinWord, Select, Source};
 use ksql_types::{Catalog, Chars, Column, CopyOf, Items, Kind, Relation};
 use std::alloc::{AllocError, Global};
 

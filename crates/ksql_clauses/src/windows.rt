@@ -3,7 +3,7 @@
 ghost use Rattle.std.specs.Prelude.{◌≡◌, ◌<◌, ◌^◌, false};
 ghost use Rattle.ksql_clauses.specs.Windows as spec;
 
-use ksql_statements::{SpanText, Unit, WindowText};
+use statement_trees::{SpanText, Unit, WindowText};
 use ksql_types::Window;
 
 /// The longest span of a window, 2^53 milliseconds.

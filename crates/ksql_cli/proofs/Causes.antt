@@ -7,9 +7,9 @@ use Rattle.ksql_types.specs.Text.{longest_text}
 use Rattle.ksql_types.specs.declared.code.Code.{Code}
 use Rattle.ksql_types.specs.declared.relation.Relation.{Relation}
 use Rattle.ksql_outside.specs.Outside.{followed_by, read_bytes, JoinedLast, WrotePrefix}
-use Rattle.ksql_words.specs.Words.{command_of}
-use Rattle.ksql_words.specs.declared.asked.Command.{Command}
-use Rattle.ksql_words.specs.declared.asked.Command.TheVariants.{Run as run_words, Explain, Demo}
+use Rattle.command_line.specs.Words.{command_of}
+use Rattle.command_line.specs.declared.asked.Command.{Command}
+use Rattle.command_line.specs.declared.asked.Command.TheVariants.{Run as run_words, Explain, Demo}
 use Rattle.ksql_program.specs.declared.program.Program.{Program}
 use Rattle.ksql_script.specs.Script.{IsAccepted, IsRefused}
 use Rattle.ksql_script.proofs.OneScript.{one_program, one_refusal, not_both}
@@ -69,9 +69,9 @@ HereOrLater dir all room relation relations file topic line why =
 not_here_or_later : (dir : List ℕ) (all : Files) (room : Room) (relation : Relation) (relations : List Relation) (good bad topic : List ℕ) (line : ℕ) (why : LineWhy) →
     first_fault room good ≡ None → good ≡ bad → (IsFirstBad dir all (room_after room relation good) relations topic line why → ⊥) →
     HereOrLater dir all room relation relations bad topic line why → ⊥
-not_here_or_later dir all room relation relations good bad topic line why none same behind_good (inl here) = faultless room good bad (line, why) same none here.0
-not_here_or_later dir all room relation relations good bad topic line why none same behind_good (inr later) =
-    behind_good (same_rest dir all room relation relations bad good topic line why (sym same) later.1)
+not_here_or_later dir all room relation relations good bad topic line why none same after_good (inl here) = faultless room good bad (line, why) same none here.0
+not_here_or_later dir all room relation relations good bad topic line why none same after_good (inr later) =
+    after_good (same_rest dir all room relation relations bad good topic line why (sym same) later.1)
 
 -- topic files aren't both good and bad
 no_bad : (dir : List ℕ) (all : Files) (room : Room) (relations : List Relation) (files : List TopicLines) (topic : List ℕ) (line : ℕ) (why : LineWhy) →

@@ -4,9 +4,9 @@ use Rattle.std.specs.Prelude.{IfSome, Result, Ok, Err}
 use Rattle.ksql_types.specs.declared.code.Code.{Code}
 use Rattle.ksql_types.specs.declared.relation.Relation.{Relation}
 use Rattle.ksql_outside.specs.Outside.{read_bytes}
-use Rattle.ksql_words.specs.Words.{command_of}
-use Rattle.ksql_words.specs.declared.asked.Command.{Command}
-use Rattle.ksql_words.specs.declared.asked.Command.TheVariants.{Run as run_words, Explain, Demo}
+use Rattle.command_line.specs.Words.{command_of}
+use Rattle.command_line.specs.declared.asked.Command.{Command}
+use Rattle.command_line.specs.declared.asked.Command.TheVariants.{Run as run_words, Explain, Demo}
 use Rattle.ksql_program.specs.declared.program.Program.{Program}
 use Rattle.topic_files.specs.declared.topic.LineWhy.{LineWhy}
 use Rattle.topic_files.specs.declared.topic.Room.{Room}

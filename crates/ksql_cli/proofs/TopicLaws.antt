@@ -144,11 +144,11 @@ each_behind dir all room left relation rest one [] due = tt
 each_behind dir all room left relation rest one (name ∷ names) due =
     (due_behind dir all room left relation rest name one due.0, each_behind dir all room left relation rest one names due.1)
 
-behind_due : (dir : List ℕ) (all : Files) (room left : Room) (relation : Relation) (rest : List Relation) (old mid new : List (List ℕ)) → Leaves dir all room relation left →
+after_due : (dir : List ℕ) (all : Files) (room left : Room) (relation : Relation) (rest : List Relation) (old mid new : List (List ℕ)) → Leaves dir all room relation left →
     MayJoin old mid (topic_file dir relation) → AreTopicsDue dir all left rest mid new → AreTopicsDue dir all room (relation ∷ rest) old new
-behind_due dir all room left relation rest old mid new one (inl same) due =
+after_due dir all room left relation rest old mid new one (inl same) due =
     (due.0, due.1 ∙ ap (λ (names : List (List ℕ)). names ++ due.0) same, each_behind dir all room left relation rest one due.0 due.2)
-behind_due dir all room left relation rest old mid new one (inr is) due = (
+after_due dir all room left relation rest old mid new one (inr is) due = (
   topic_file dir relation ∷ due.0,
   due.1 ∙ ap (λ (names : List (List ℕ)). names ++ due.0) is ∙ append_assoc old (topic_file dir relation ∷ []) due.0,
   (inl refl, each_behind dir all room left relation rest one due.0 due.2),
@@ -161,7 +161,7 @@ pub all_due : (dir : List ℕ) (known later : Option Files) (room left : Room) (
 all_due dir None later room left relation rest relations before middle old mid new first same one grown due = tt
 all_due dir (Some all) later room left relation rest relations before middle old mid new first same one grown due =
     subst (λ (rs : List Relation). AreTopicsDue dir all room rs old new) (sym first)
-    (behind_due dir all room left relation rest old mid new (one.0, one.1, one.2) grown
+    (after_due dir all room left relation rest old mid new (one.0, one.1, one.2) grown
     (subst (λ (o : Option Files). IfSome o (λ files. AreTopicsDue dir files left rest mid new)) same due))
 
 -- ---- the room that all share

@@ -5,9 +5,9 @@ use Rattle.ksql_types.specs.declared.code.Code.{Code}
 use Rattle.ksql_types.specs.declared.relation.Relation.{Relation}
 use Rattle.demo_files.specs.Demo.{demo_schedule, demo_script, demo_topic_file}
 use Rattle.ksql_outside.specs.Outside.{read_bytes, JoinedLast}
-use Rattle.ksql_words.specs.Words.{command_of}
-use Rattle.ksql_words.specs.declared.asked.Command.{Command}
-use Rattle.ksql_words.specs.declared.asked.Command.TheVariants.{Run as run_words, Explain, Demo}
+use Rattle.command_line.specs.Words.{command_of}
+use Rattle.command_line.specs.declared.asked.Command.{Command}
+use Rattle.command_line.specs.declared.asked.Command.TheVariants.{Run as run_words, Explain, Demo}
 use Rattle.ksql_program.specs.declared.program.Program.{Program}
 use Rattle.ksql_script.specs.Script.{IsAccepted, IsRefused}
 use Rattle.topic_files.specs.declared.topic.Fed.{Fed}

@@ -3,9 +3,9 @@ use Rattle.std.specs.Prelude.{◌≡◌, ℕ, List, Option, None, Some}
 use Rattle.std.specs.Option.{IsSomeAnd}
 use Rattle.cluster_core.specs.Cluster.{HasCome}
 use Rattle.cluster_core.specs.declared.cluster.Cluster.{Cluster}
-use Rattle.ksql_words.specs.Words.{command_of}
-use Rattle.ksql_words.specs.declared.asked.Command.{Command}
-use Rattle.ksql_words.specs.declared.asked.Command.TheVariants.{Run as run_words, Demo}
+use Rattle.command_line.specs.Words.{command_of}
+use Rattle.command_line.specs.declared.asked.Command.{Command}
+use Rattle.command_line.specs.declared.asked.Command.TheVariants.{Run as run_words, Demo}
 use Rattle.ksql_cli.specs.declared.status.Status.{Status}
 use Rattle.ksql_cli.specs.declared.status.Status.TheVariants as ended
 use Rattle.ksql_cli.specs.Command.{Files, Runs, demo_asked, demo_files}

@@ -2,7 +2,7 @@
 use Rattle.std.specs.Prelude.{◌≡◌, ◌⊎◌, ◌≤◌, ℕ, All, List, [], ◌∷◌, ◌++◌, length, Option, None, Some, IfSome}
 use Rattle.std.specs.List.{AllByRecursion}
 use Rattle.ksql_outside.specs.Outside.{MayJoin}
-use Rattle.ksql_words.specs.Words.{command_of, longest_word}
+use Rattle.command_line.specs.Words.{command_of, longest_word}
 use Rattle.ksql_program.specs.Sound.{IsSound}
 use Rattle.ksql_program.specs.declared.program.Program.{Program}
 use Rattle.topic_files.specs.declared.topic.TopicLines.{TopicLines}

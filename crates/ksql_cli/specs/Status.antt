@@ -4,8 +4,8 @@ use Rattle.ksql_script.specs.declared.fault.ScriptFault.{ScriptFault}
 use Rattle.ksql_script.specs.declared.fault.ScriptFault.TheVariants as script
 use Rattle.schedule_text.specs.declared.fault.ScheduleFault.{ScheduleFault}
 use Rattle.schedule_text.specs.declared.fault.ScheduleFault.TheVariants as schedule
-use Rattle.ksql_words.specs.declared.fault.WordsFault.{WordsFault}
-use Rattle.ksql_words.specs.declared.fault.WordsFault.TheVariants as words
+use Rattle.command_line.specs.declared.fault.WordsFault.{WordsFault}
+use Rattle.command_line.specs.declared.fault.WordsFault.TheVariants as words
 use Rattle.ksql_cli.specs.declared.status.Status.{Status}
 use Rattle.ksql_cli.specs.declared.status.Status.TheVariants.{Done, Usage, Script, TopicFile, Schedule, ReadFault, WriteFault, OutOfMemory}
 

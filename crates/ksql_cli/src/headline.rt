@@ -1,6 +1,6 @@
 ghost use Rattle.std.specs.Prelude.{◌≡◌, ◌⊎◌, None, ℕ, List, IfOk, IfErr, IfSome};
 ghost use Rattle.ksql_outside.specs.Outside.{followed_by, JoinedLast, Rose, WrotePrefix};
-ghost use Rattle.ksql_words.specs.Words.{command_of};
+ghost use Rattle.command_line.specs.Words.{command_of};
 ghost use Rattle.ksql_cli.specs.declared.status.Status.{Status as OneStatus};
 ghost use Rattle.ksql_cli.specs.Command.{AreDue, HasAnswer, HasCause, HasText, IsDecided, IsRefusal, NoDueFails};
 ghost use Rattle.ksql_cli.specs.Fault.{fault_line};
@@ -15,7 +15,7 @@ use crate::texts::{Finished, demonstrated, explained, reported};
 use cluster_core::Cluster;
 use ksql_outside::{Failed, Folder, Gate, Sink, write_whole};
 use ksql_types::Words;
-use ksql_words::{Command, read_words};
+use command_line::{Command, read_words};
 use std::alloc::Global;
 
 /// Does what the words say: runs a script, that is, reads the script, its topic files and its schedule from the folder, runs a

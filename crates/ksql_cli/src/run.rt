@@ -1,6 +1,6 @@
 ghost use Rattle.std.specs.Prelude.{◌≡◌, ◌≤◌, All, IfErr, IfOk, IfSome, length};
 ghost use Rattle.ksql_outside.specs.Outside.{MayJoin};
-ghost use Rattle.ksql_words.specs.Words.{longest_word};
+ghost use Rattle.command_line.specs.Words.{longest_word};
 ghost use Rattle.ksql_program.specs.Sound.{IsSound};
 ghost use Rattle.cluster_core.specs.Cluster.{HasCome, IsBuilt};
 ghost use Rattle.ksql_cli.specs.Command.{IsProgramRead, IsScheduled, RunCause, fed_once};

@@ -3,7 +3,7 @@ ghost use Rattle.ksql_cli.specs.Status.{exit_code};
 
 use ksql_script::ScriptFault;
 use ksql_types::{Chars, Code};
-use ksql_words::WordsFault;
+use command_line::WordsFault;
 use schedule_text::{ScheduleFault, StepWhy};
 use std::alloc::{AllocError, AllocFailed};
 use topic_files::LineWhy;

@@ -3,7 +3,7 @@ ghost use Rattle.std.specs.Prelude.{◌≡◌, ◌≤◌, IfErr, IfOk, IfSome, N
 ghost use Rattle.ksql_types.specs.Text.{longest_text};
 ghost use Rattle.std.specs.Option.{IsSomeAnd};
 ghost use Rattle.ksql_outside.specs.Outside.{MayJoin};
-ghost use Rattle.ksql_words.specs.Words.{longest_word};
+ghost use Rattle.command_line.specs.Words.{longest_word};
 ghost use Rattle.ksql_program.specs.Sound.{IsSound};
 ghost use Rattle.ksql_program.specs.declared.program.Program.{Program as OneProgram};
 ghost use Rattle.topology.specs.Topologies.{topology_of};

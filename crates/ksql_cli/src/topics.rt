@@ -9,7 +9,7 @@ ghost use Rattle.feed_laws.specs.Fitting.{AreFilesOf, IsFedOf};
 ghost use Rattle.ksql_cli.specs.Command.{AreFed, room_after, IsGood, topic_file};
 ghost use Rattle.ksql_cli.specs.Run.{declared_of};
 ghost use Rattle.ksql_cli.specs.Command as spec;
-ghost use Rattle.ksql_words.specs.Words.{longest_word};
+ghost use Rattle.command_line.specs.Words.{longest_word};
 ghost use Rattle.ksql_cli.specs.Steps.{AreTopicsDue, HasGrown, IsFeedable, IsFileFailure, IsJoined, IsReadFailure, IsTopicFailure, IsTopicRefusal};
 
 use crate::status::Status;

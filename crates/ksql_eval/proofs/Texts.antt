@@ -15,7 +15,7 @@ use Rattle.std.proofs.lemmas.Str.Parse.{digit_from_value}
 use Rattle.ksql_types.specs.declared.value.SqlType.{SqlType}
 use Rattle.ksql_types.specs.declared.value.SqlType.TheVariants as sql
 use Rattle.ksql_types.specs.declared.value.Value.TheVariants.{Null, Int, Big}
-use Rattle.ksql_expr.specs.Value.{fitting, are_digits, behind_spaces, trimmed}
+use Rattle.ksql_expr.specs.Value.{fitting, are_digits, after_spaces, trimmed}
 
 -- ---- characters
 
@@ -110,21 +110,21 @@ read_wrong ds z to wrong =
 
 -- ---- spaces
 
-pub no_space_first : (t : List ℕ) → ((rest : List ℕ) → t ≢ 32 ∷ rest) → behind_spaces t ≡ t
+pub no_space_first : (t : List ℕ) → ((rest : List ℕ) → t ≢ 32 ∷ rest) → after_spaces t ≡ t
 no_space_first [] h = refl
-no_space_first (c ∷ cs) h = cond-false (c == 32) (behind_spaces cs) (c ∷ cs) (ne_eqb c 32 (λ e. h cs (ap (λ x. x ∷ cs) e)))
+no_space_first (c ∷ cs) h = cond-false (c == 32) (after_spaces cs) (c ∷ cs) (ne_eqb c 32 (λ e. h cs (ap (λ x. x ∷ cs) e)))
 
-pub space_last : (t before : List ℕ) → t ≡ before ++ 32 ∷ [] → behind_spaces (reverse before) ≡ behind_spaces (reverse t)
-space_last t before is = sym (ap (λ l. behind_spaces (reverse l)) is ∙ ap behind_spaces (reverse-append before (32 ∷ [])))
+pub space_last : (t before : List ℕ) → t ≡ before ++ 32 ∷ [] → after_spaces (reverse before) ≡ after_spaces (reverse t)
+space_last t before is = sym (ap (λ l. after_spaces (reverse l)) is ∙ ap after_spaces (reverse-append before (32 ∷ [])))
 
-pub no_space_last : (t : List ℕ) → ((front : List ℕ) → t ≢ front ++ 32 ∷ []) → t ≡ reverse (behind_spaces (reverse t))
+pub no_space_last : (t : List ℕ) → ((front : List ℕ) → t ≢ front ++ 32 ∷ []) → t ≡ reverse (after_spaces (reverse t))
 no_space_last t h =
     let none : (rest : List ℕ) → reverse t ≢ 32 ∷ rest = λ rest e. h (reverse rest) (sym (reverse-reverse t) ∙ ap reverse e ∙ reverse-append (32 ∷ []) rest) in
     sym (ap reverse (no_space_first (reverse t) none) ∙ reverse-reverse t)
 
-pub behind_shorter : (t : List ℕ) → length (behind_spaces t) ≤ length t
-behind_shorter [] = omega arith
-behind_shorter (c ∷ cs) = cond_both (c == 32) (behind_spaces cs) (c ∷ cs) (λ l. length l ≤ length (c ∷ cs)) (λ is. let h = behind_shorter cs in omega arith) (λ other. omega arith)
+pub after_shorter : (t : List ℕ) → length (after_spaces t) ≤ length t
+after_shorter [] = omega arith
+after_shorter (c ∷ cs) = cond_both (c == 32) (after_spaces cs) (c ∷ cs) (λ l. length l ≤ length (c ∷ cs)) (λ is. let h = after_shorter cs in omega arith) (λ other. omega arith)
 
 pub trimmed_shorter : (t : List ℕ) → length (trimmed t) ≤ length t
-trimmed_shorter t = omega (arith, length-reverse (behind_spaces (reverse (behind_spaces t))), behind_shorter (reverse (behind_spaces t)), length-reverse (behind_spaces t), behind_shorter t)
+trimmed_shorter t = omega (arith, length-reverse (after_spaces (reverse (after_spaces t))), after_shorter (reverse (after_spaces t)), length-reverse (after_spaces t), after_shorter t)

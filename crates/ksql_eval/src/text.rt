@@ -2,7 +2,7 @@ ghost use Rattle.std.specs.Prelude.{◌≡◌, ◌≤◌, ◌++◌, if◌then◌
 ghost use Rattle.std.specs.Fmt.{signed_decimal};
 ghost use Rattle.std.specs.Str.{chars, encode_utf8_all};
 ghost use Rattle.std.specs.Str.Parse.{signed_digits_value, without_leading_sign};
-ghost use Rattle.ksql_expr.specs.Value.{joined, bytes_of, index_of, at_most, part_of, tail_of, middle_of, behind_spaces, trimmed, length_of, without_spaces, in_capitals, in_small_letters, are_digits, fitting, cast_number, cast_text, cast_truth, truth_text};
+ghost use Rattle.ksql_expr.specs.Value.{joined, bytes_of, index_of, at_most, part_of, tail_of, middle_of, after_spaces, trimmed, length_of, without_spaces, in_capitals, in_small_letters, are_digits, fitting, cast_number, cast_text, cast_truth, truth_text};
 ghost use Rattle.ksql_types.specs.Text.{longest_value};
 
 use crate::number::{fitting, whole};
@@ -66,7 +66,7 @@ pub fn length_of(value: &Value) -> Value
 }
 
 /// The text after so many characters.
-fn behind(text: &str, count: usize) -> &str
+fn after(text: &str, count: usize) -> &str
     ensures value { result.now ≡ encode_utf8_all (drop count (chars text.now)) }
     ensures bound { length result.now ≤ length text.now }
 {
@@ -84,7 +84,7 @@ fn front(text: &str, count: usize) -> &str
     ensures value { result.now ≡ encode_utf8_all (take count (chars text.now)) }
     ensures bound { length result.now ≤ length text.now }
 {
-    let rest = behind(text, count);
+    let rest = after(text, count);
     &text[..text.len() - rest.len()]
 }
 
@@ -119,7 +119,7 @@ fn part_of(text: &str, at: i64, len: Option<i64>) -> &str
     ensures value { result.now ≡ part_of text.now at len }
     ensures bound { length result.now ≤ length text.now }
 {
-    at_most(behind(text, index_of(count_of(text), at)), len)
+    at_most(after(text, index_of(count_of(text), at)), len)
 }
 
 /// SUBSTRING without a length: the text from a position on.
@@ -151,8 +151,8 @@ pub fn middle_of(alloc: Global, text: &Value, at: &Value, len: &Value) -> Result
 }
 
 /// A text without the spaces in front, lent.
-fn behind_spaces(text: &str) -> &str
-    ensures value { result.now ≡ behind_spaces text.now }
+fn after_spaces(text: &str) -> &str
+    ensures value { result.now ≡ after_spaces text.now }
     ensures bound { length result.now ≤ length text.now }
 {
     let mut rest = text;
@@ -164,7 +164,7 @@ fn behind_spaces(text: &str) -> &str
 
 /// A text without the spaces at its end, lent.
 fn before_spaces(text: &str) -> &str
-    ensures value { result.now ≡ reverse (behind_spaces (reverse text.now)) }
+    ensures value { result.now ≡ reverse (after_spaces (reverse text.now)) }
     ensures bound { length result.now ≤ length text.now }
 {
     let mut rest = text;
@@ -181,7 +181,7 @@ pub fn without_spaces(alloc: Global, value: &Value) -> Result<Value, AllocError>
 {
     match value {
         Value::Txt(text) => {
-            let kept = String::from_str(alloc, before_spaces(behind_spaces(text.items())))?;
+            let kept = String::from_str(alloc, before_spaces(after_spaces(text.items())))?;
             Ok(Value::Txt(Chars::of(kept)?))
         }
         _ => Ok(Value::Null),

@@ -113,13 +113,13 @@ middle_of (Txt t) at len = unwrap_or (option_and_then (λ p. option_map (λ n. T
 middle_of _ at len = Null
 
 -- without the spaces in front
-abbrev pub behind_spaces : List ℕ → List ℕ
-behind_spaces [] = []
-behind_spaces (c ∷ cs) = if c == 32 then behind_spaces cs else c ∷ cs
+abbrev pub after_spaces : List ℕ → List ℕ
+after_spaces [] = []
+after_spaces (c ∷ cs) = if c == 32 then after_spaces cs else c ∷ cs
 
 -- without the spaces at both ends
 abbrev pub trimmed : List ℕ → List ℕ
-trimmed t = reverse (behind_spaces (reverse (behind_spaces t)))
+trimmed t = reverse (after_spaces (reverse (after_spaces t)))
 
 -- LEN: the number of characters
 abbrev pub length_of : Value → Value

@@ -4,10 +4,10 @@ use Rattle.std.specs.List.{prefix_len}
 use Rattle.std.proofs.lemmas.Option.{none-some, same_Some}
 use Rattle.ksql_types.specs.declared.operator.BinaryOp.{BinaryOp}
 use Rattle.ksql_grammar.specs.declared.symbol.Symbol.{Symbol}
-use Rattle.ksql_expressions.specs.declared.tree.Expr.{Expr}
-use Rattle.ksql_expressions.specs.declared.tree.Expr.TheVariants as e
-use Rattle.ksql_grammar.specs.Expressions.{Reader, first, list_end, list_of, chain_step, chain_with, chain, behind_prefix, behind_prefixes, prefixed}
-use Rattle.ksql_expressions.specs.Options.{◌>>=◌}
+use Rattle.expression_trees.specs.declared.tree.Expr.{Expr}
+use Rattle.expression_trees.specs.declared.tree.Expr.TheVariants as e
+use Rattle.ksql_grammar.specs.Expressions.{Reader, first, list_end, list_of, chain_step, chain_with, chain, after_prefix, after_prefixes, prefixed}
+use Rattle.expression_trees.specs.Options.{◌>>=◌}
 use Rattle.ksql_grammar.proofs.Steps.{if_some, first_found, first_there}
 use Rattle.ksql_grammar.proofs.Ends.{Rest}
 use Rattle.ksql_grammar.proofs.Found.{prefix_len-true, prefix_len-false}
@@ -94,41 +94,41 @@ end_more (Some us) x others xs rest h = then (others us) _ (xs, rest) _ h refl
 
 -- prefixes
 abbrev pub under_one : Symbol → Expr × List Symbol → Option (Expr × List Symbol)
-under_one s a = Some (behind_prefix s a.0, a.1)
+under_one s a = Some (after_prefix s a.0, a.1)
 
 abbrev under : List Symbol → Expr × List Symbol → Option (Expr × List Symbol)
-under ps a = Some (behind_prefixes ps a.0, a.1)
+under ps a = Some (after_prefixes ps a.0, a.1)
 
 module _ (test : Symbol → Bool) (operand : Reader Expr) where
   assoc : (s : Symbol) (ps : List Symbol) (o : Option (Expr × List Symbol)) → (o >>= under (s ∷ ps)) ≡ ((o >>= under ps) >>= under_one s)
-  unfolding behind_prefixes
+  unfolding after_prefixes
   assoc s ps None = refl
   assoc s ps (Some a) = refl
 
   -- with one more at the front
   pub prefixed_more : (s : Symbol) (ts : List Symbol) → test s ≡ true → prefixed test operand (s ∷ ts) ≡ (prefixed test operand ts >>= under_one s)
-  unfolding prefixed behind_prefixes
+  unfolding prefixed after_prefixes
   prefixed_more s ts h =
       ap (λ n. operand (drop n (s ∷ ts)) >>= under (take n (s ∷ ts))) (prefix_len-true test s ts h)
       ∙ assoc s (take (prefix_len test ts) ts) (operand (drop (prefix_len test ts) ts))
 
   eta : (o : Option (Expr × List Symbol)) → (o >>= under []) ≡ o
-  unfolding behind_prefixes
+  unfolding after_prefixes
   eta None = refl
   eta (Some a) = refl
 
   -- with none
   pub prefixed_none : (ts : List Symbol) → Rest (λ s. test s ≡ false) ts → prefixed test operand ts ≡ operand ts
-  unfolding prefixed behind_prefixes
+  unfolding prefixed after_prefixes
   prefixed_none [] r = eta (operand [])
   prefixed_none (s ∷ ts) r =
       ap (λ n. operand (drop n (s ∷ ts)) >>= under (take n (s ∷ ts))) (prefix_len-false test s ts r) ∙ eta (operand (s ∷ ts))
 
 -- prefixes from the last one on
-pub behind_prefixes-push : (ps : List Symbol) (s : Symbol) (a : Expr) → behind_prefixes (ps ++ s ∷ []) a ≡ behind_prefixes ps (behind_prefix s a)
-unfolding behind_prefixes
-behind_prefixes-push [] s a = refl
-behind_prefixes-push (p ∷ ps) s a = ap (behind_prefix p) (behind_prefixes-push ps s a)
+pub after_prefixes-push : (ps : List Symbol) (s : Symbol) (a : Expr) → after_prefixes (ps ++ s ∷ []) a ≡ after_prefixes ps (after_prefix s a)
+unfolding after_prefixes
+after_prefixes-push [] s a = refl
+after_prefixes-push (p ∷ ps) s a = ap (after_prefix p) (after_prefixes-push ps s a)
 
 -- lists
 module _ {A : Type 0} (item : Reader A) (more : List Symbol → Option (List Symbol)) where

@@ -11,14 +11,14 @@ use Rattle.ksql_grammar.specs.declared.symbol.Keyword.{Keyword}
 use Rattle.ksql_grammar.specs.declared.symbol.Keyword.TheVariants as key
 use Rattle.ksql_grammar.specs.declared.symbol.Symbol.{Symbol}
 use Rattle.ksql_grammar.specs.declared.symbol.Symbol.TheVariants.{Key, Word, Quoted, Text, Number, Sign}
-use Rattle.ksql_expressions.specs.declared.tree.Expr.{Expr}
-use Rattle.ksql_expressions.specs.declared.tree.Expr.TheVariants as e
-use Rattle.ksql_expressions.specs.declared.tree.WhenText.{WhenText}
+use Rattle.expression_trees.specs.declared.tree.Expr.{Expr}
+use Rattle.expression_trees.specs.declared.tree.Expr.TheVariants as e
+use Rattle.expression_trees.specs.declared.tree.WhenText.{WhenText}
 use Rattle.ksql_grammar.specs.Symbols.{name_of, type_of, or_of, and_of, comparison_of, sum_of, product_of}
 use Rattle.ksql_grammar.specs.Grammar.{Level, Phrase, Spells, at, exprs, whens, operand, otherwise, arguments, negation, when_then, minus_of, truth_of, expr, conj, neg, pred, sum, prod, unary, primary}
 use Rattle.ksql_grammar.specs.Grammar as g
-use Rattle.ksql_grammar.specs.Expressions.{Reader, behind_key, behind_sign, first, list_end, list_of, chain_step, chain_with, chain, behind_prefix, behind_prefixes, prefixed, is_not, is_sign, negation_of, negation_at}
-use Rattle.ksql_expressions.specs.Options.{◌>>=◌}
+use Rattle.ksql_grammar.specs.Expressions.{Reader, after_key, after_sign, first, list_end, list_of, chain_step, chain_with, chain, after_prefix, after_prefixes, prefixed, is_not, is_sign, negation_of, negation_at}
+use Rattle.expression_trees.specs.Options.{◌>>=◌}
 use Rattle.ksql_grammar.specs.Expressions as r
 use Rattle.ksql_grammar.proofs.Steps.{If, if_bind, if_some, if_weaker, if_from, key_found, sign_found, first_found}
 
@@ -58,19 +58,19 @@ prefix_len-true test s ts h = ap (λ b. cond b (1 + prefix_len test ts) 0) h ∙
 pub prefix_len-false : (test : Symbol → Bool) (s : Symbol) (ts : List Symbol) → test s ≡ false → prefix_len test (s ∷ ts) ≡ 0
 prefix_len-false test s ts h = ap (λ b. cond b (1 + prefix_len test ts) 0) h
 
-module _ (test : Symbol → Bool) (l : Level) (step : (s : Symbol) → test s ≡ true → (a : Expr) (ts us : List Symbol) → Spells (at l a) ts us → Spells (at l (behind_prefix s a)) (s ∷ ts) us) where
-  one_prefix : (s : Symbol) (ts : List Symbol) (a : Expr) (us : List Symbol) → (Spells (at l a) (drop (prefix_len test ts) ts) us → Spells (at l (behind_prefixes (take (prefix_len test ts) ts) a)) ts us)
-      → (b : Bool) → test s ≡ b → Spells (at l a) (drop (prefix_len test (s ∷ ts)) (s ∷ ts)) us → Spells (at l (behind_prefixes (take (prefix_len test (s ∷ ts)) (s ∷ ts)) a)) (s ∷ ts) us
-  unfolding behind_prefixes
+module _ (test : Symbol → Bool) (l : Level) (step : (s : Symbol) → test s ≡ true → (a : Expr) (ts us : List Symbol) → Spells (at l a) ts us → Spells (at l (after_prefix s a)) (s ∷ ts) us) where
+  one_prefix : (s : Symbol) (ts : List Symbol) (a : Expr) (us : List Symbol) → (Spells (at l a) (drop (prefix_len test ts) ts) us → Spells (at l (after_prefixes (take (prefix_len test ts) ts) a)) ts us)
+      → (b : Bool) → test s ≡ b → Spells (at l a) (drop (prefix_len test (s ∷ ts)) (s ∷ ts)) us → Spells (at l (after_prefixes (take (prefix_len test (s ∷ ts)) (s ∷ ts)) a)) (s ∷ ts) us
+  unfolding after_prefixes
   one_prefix s ts a us rec true h d =
-      subst (λ k. Spells (at l a) (drop k (s ∷ ts)) us → Spells (at l (behind_prefixes (take k (s ∷ ts)) a)) (s ∷ ts) us)
-      (sym (prefix_len-true test s ts h)) (λ f. step s h (behind_prefixes (take (prefix_len test ts) ts) a) ts us (rec f)) d
+      subst (λ k. Spells (at l a) (drop k (s ∷ ts)) us → Spells (at l (after_prefixes (take k (s ∷ ts)) a)) (s ∷ ts) us)
+      (sym (prefix_len-true test s ts h)) (λ f. step s h (after_prefixes (take (prefix_len test ts) ts) a) ts us (rec f)) d
   one_prefix s ts a us rec false h d =
-      subst (λ k. Spells (at l a) (drop k (s ∷ ts)) us → Spells (at l (behind_prefixes (take k (s ∷ ts)) a)) (s ∷ ts) us)
+      subst (λ k. Spells (at l a) (drop k (s ∷ ts)) us → Spells (at l (after_prefixes (take k (s ∷ ts)) a)) (s ∷ ts) us)
       (sym (prefix_len-false test s ts h)) (λ f. f) d
 
-  prefixes_found : (ts : List Symbol) (a : Expr) (us : List Symbol) → Spells (at l a) (drop (prefix_len test ts) ts) us → Spells (at l (behind_prefixes (take (prefix_len test ts) ts) a)) ts us
-  unfolding behind_prefixes
+  prefixes_found : (ts : List Symbol) (a : Expr) (us : List Symbol) → Spells (at l a) (drop (prefix_len test ts) ts) us → Spells (at l (after_prefixes (take (prefix_len test ts) ts) a)) ts us
+  unfolding after_prefixes
   prefixes_found [] a us d = d
   prefixes_found (s ∷ ts) a us d = one_prefix s ts a us (prefixes_found ts a us) (test s) refl d
 
@@ -80,11 +80,11 @@ module _ (test : Symbol → Bool) (l : Level) (step : (s : Symbol) → test s �
       if_bind (inner (drop (prefix_len test ts) ts)) _ (Reads l (drop (prefix_len test ts) ts)) (Reads l ts) (h (drop (prefix_len test ts) ts))
       (λ a d. prefixes_found ts a.0 a.1 d)
 
-not_found : (s : Symbol) → is_not s ≡ true → (a : Expr) (ts us : List Symbol) → Spells (at neg a) ts us → Spells (at neg (behind_prefix s a)) (s ∷ ts) us
+not_found : (s : Symbol) → is_not s ≡ true → (a : Expr) (ts us : List Symbol) → Spells (at neg a) ts us → Spells (at neg (after_prefix s a)) (s ∷ ts) us
 not_found (Key key.Not) h a ts us d = g.not d
 not_found _ h a ts us d = absurd (false≢true h)
 
-signed_found : (s : Symbol) → is_sign s ≡ true → (a : Expr) (ts us : List Symbol) → Spells (at unary a) ts us → Spells (at unary (behind_prefix s a)) (s ∷ ts) us
+signed_found : (s : Symbol) → is_sign s ≡ true → (a : Expr) (ts us : List Symbol) → Spells (at unary a) ts us → Spells (at unary (after_prefix s a)) (s ∷ ts) us
 signed_found (Sign mark.Minus) h a ts us d = g.signed refl d
 signed_found (Sign mark.Plus) h a ts us d = g.signed refl d
 signed_found _ h a ts us d = absurd (false≢true h)
@@ -96,13 +96,13 @@ negation_found_at ts (Some us) h = behind h g.negated
 
 negation_found : (ts : List Symbol) → Spells (negation (negation_at ts).0) ts (negation_at ts).1
 unfolding negation_at
-negation_found ts = negation_found_at ts (behind_key key.Not ts) (key_found key.Not ts)
+negation_found ts = negation_found_at ts (after_key key.Not ts) (key_found key.Not ts)
 
 is_null_found : (a : Expr) (ts us : List Symbol) → Spells (at sum a) ts (Key key.Is ∷ us) → If (r.is_null a us) (Reads pred ts)
 unfolding r.is_null
 is_null_found a ts us d =
     let n = negation_at us in
-    if_bind (behind_key key.Null n.1) _ (λ vs. n.1 ≡ Key key.Null ∷ vs) (Reads pred ts) (key_found key.Null n.1)
+    if_bind (after_key key.Null n.1) _ (λ vs. n.1 ≡ Key key.Null ∷ vs) (Reads pred ts) (key_found key.Null n.1)
     (λ vs h. g.is_null d (along (negation_found us) h))
 
 text_of_text : (s : Symbol) (content : List ℕ) → r.text_of s ≡ Some content → s ≡ Text content
@@ -133,12 +133,12 @@ end_found (Some us) x others P Q h last more = if_bind (others us) _ (λ xs. Q (
 
 -- where nested expressions that are read are spelled
 module _ (inner : Reader Expr) (inner_found : (ts : List Symbol) → If (inner ts) (Reads expr ts)) where
-  exprs_within : (n : ℕ) (ts : List Symbol) → If (list_of inner (behind_sign mark.Comma) n ts) (λ x. Spells (exprs x.0) ts x.1)
+  exprs_within : (n : ℕ) (ts : List Symbol) → If (list_of inner (after_sign mark.Comma) n ts) (λ x. Spells (exprs x.0) ts x.1)
   unfolding list_of
   exprs_within zero ts = tt
   exprs_within (suc n) ts =
       if_bind (inner ts) _ (Reads expr ts) (λ x. Spells (exprs x.0) ts x.1) (inner_found ts)
-      (λ a d. end_found (behind_sign mark.Comma a.1) a (list_of inner (behind_sign mark.Comma) n) (λ us. a.1 ≡ Sign mark.Comma ∷ us)
+      (λ a d. end_found (after_sign mark.Comma a.1) a (list_of inner (after_sign mark.Comma) n) (λ us. a.1 ≡ Sign mark.Comma ∷ us)
       (λ x. Spells (exprs x.0) ts x.1) (sign_found mark.Comma a.1) (g.last_expr d)
       (λ us h. if_weaker _ (λ x. Spells (exprs x.0) us x.1) _ (exprs_within n us) (λ xs f. g.more_exprs (along d h) f)))
 
@@ -150,25 +150,25 @@ module _ (inner : Reader Expr) (inner_found : (ts : List Symbol) → If (inner t
   unfolding r.parens
   parens_found ts =
       if_bind (inner ts) _ (Reads expr ts) (Reads primary (Sign mark.Open ∷ ts)) (inner_found ts) (λ a d.
-      if_bind (behind_sign mark.Close a.1) _ (λ us. a.1 ≡ Sign mark.Close ∷ us) (Reads primary (Sign mark.Open ∷ ts)) (sign_found mark.Close a.1) (λ us h.
+      if_bind (after_sign mark.Close a.1) _ (λ us. a.1 ≡ Sign mark.Close ∷ us) (Reads primary (Sign mark.Open ∷ ts)) (sign_found mark.Close a.1) (λ us h.
       g.parens (along d h)))
 
   cast_found : (ts : List Symbol) → If (r.cast inner ts) (Reads primary (Key key.Cast ∷ ts))
   unfolding r.cast
   cast_found ts =
       let Q = Reads primary (Key key.Cast ∷ ts) in
-      if_bind (behind_sign mark.Open ts) _ (λ us. ts ≡ Sign mark.Open ∷ us) Q (sign_found mark.Open ts) (λ us h.
+      if_bind (after_sign mark.Open ts) _ (λ us. ts ≡ Sign mark.Open ∷ us) Q (sign_found mark.Open ts) (λ us h.
       if_bind (inner us) _ (Reads expr us) Q (inner_found us) (λ a d.
-      if_bind (behind_key key.As a.1) _ (λ vs. a.1 ≡ Key key.As ∷ vs) Q (key_found key.As a.1) (λ vs k.
+      if_bind (after_key key.As a.1) _ (λ vs. a.1 ≡ Key key.As ∷ vs) Q (key_found key.As a.1) (λ vs k.
       if_bind (first type_of vs) _ _ Q (first_found type_of vs) (λ t f.
-      if_bind (behind_sign mark.Close t.1) _ (λ ws. t.1 ≡ Sign mark.Close ∷ ws) Q (sign_found mark.Close t.1) (λ ws c.
+      if_bind (after_sign mark.Close t.1) _ (λ ws. t.1 ≡ Sign mark.Close ∷ ws) Q (sign_found mark.Close t.1) (λ ws c.
       behind (ap (λ x. Key key.Cast ∷ x) h) (g.cast (along d (k ∙ ap (λ x. Key key.As ∷ x) (f.1 ∙ ap (λ x. f.0 ∷ x) c))) f.2))))))
 
   pub when_found : (ts : List Symbol) → If (r.when inner ts) (AWhen ts)
   unfolding r.when
   when_found ts =
       if_bind (inner ts) _ (Reads expr ts) (AWhen ts) (inner_found ts) (λ a d.
-      if_bind (behind_key key.Then a.1) _ (λ us. a.1 ≡ Key key.Then ∷ us) (AWhen ts) (key_found key.Then a.1) (λ us h.
+      if_bind (after_key key.Then a.1) _ (λ us. a.1 ≡ Key key.Then ∷ us) (AWhen ts) (key_found key.Then a.1) (λ us h.
       if_bind (inner us) _ (Reads expr us) (AWhen ts) (inner_found us) (λ b f.
       (a.0, b.0, us, refl, along d h, f))))
 
@@ -178,19 +178,19 @@ module _ (inner : Reader Expr) (inner_found : (ts : List Symbol) → If (inner t
   more_found : (ts : List Symbol) (x : WhenText × List Symbol) (ws : List WhenText) (us : List Symbol) → AWhen ts x → Spells (whens ws) x.1 us → Spells (whens (x.0 ∷ ws)) (Key key.When ∷ ts) us
   more_found ts x ws us w f = subst (λ y. Spells (whens (y ∷ ws)) (Key key.When ∷ ts) us) (sym w.3) (g.more_whens w.4 w.5 f)
 
-  whens_within : (n : ℕ) (ts : List Symbol) → If (list_of (r.when inner) (behind_key key.When) n ts) (λ x. Spells (whens x.0) (Key key.When ∷ ts) x.1)
+  whens_within : (n : ℕ) (ts : List Symbol) → If (list_of (r.when inner) (after_key key.When) n ts) (λ x. Spells (whens x.0) (Key key.When ∷ ts) x.1)
   unfolding list_of
   whens_within zero ts = tt
   whens_within (suc n) ts =
       if_bind (r.when inner ts) _ (AWhen ts) (λ x. Spells (whens x.0) (Key key.When ∷ ts) x.1) (when_found ts)
-      (λ a w. end_found (behind_key key.When a.1) a (list_of (r.when inner) (behind_key key.When) n) (λ us. a.1 ≡ Key key.When ∷ us)
+      (λ a w. end_found (after_key key.When a.1) a (list_of (r.when inner) (after_key key.When) n) (λ us. a.1 ≡ Key key.When ∷ us)
       (λ x. Spells (whens x.0) (Key key.When ∷ ts) x.1) (key_found key.When a.1) (last_found ts a w)
       (λ us h. if_weaker _ (λ x. Spells (whens x.0) (Key key.When ∷ us) x.1) _ (whens_within n us) (λ xs f. more_found ts a xs.0 xs.1 w (behind h f))))
 
   whens_found : (ts : List Symbol) → If (r.whens inner ts) (λ x. Spells (whens x.0) ts x.1)
   unfolding r.whens
   whens_found ts =
-      if_bind (behind_key key.When ts) _ (λ us. ts ≡ Key key.When ∷ us) (λ x. Spells (whens x.0) ts x.1) (key_found key.When ts)
+      if_bind (after_key key.When ts) _ (λ us. ts ≡ Key key.When ∷ us) (λ x. Spells (whens x.0) ts x.1) (key_found key.When ts)
       (λ us h. if_weaker _ (λ x. Spells (whens x.0) (Key key.When ∷ us) x.1) _ (whens_within (length ts) us) (λ x f. behind h f))
 
   operand_found_at : (ts : List Symbol) (o : Option (List Symbol)) → If (r.operand_at inner ts o) (λ x. Spells (operand x.0) ts x.1)
@@ -199,7 +199,7 @@ module _ (inner : Reader Expr) (inner_found : (ts : List Symbol) → If (inner t
 
   case_operand_found : (ts : List Symbol) → If (r.operand inner ts) (λ x. Spells (operand x.0) ts x.1)
   unfolding r.operand
-  case_operand_found ts = operand_found_at ts (behind_key key.When ts)
+  case_operand_found ts = operand_found_at ts (after_key key.When ts)
 
   otherwise_found_at : (ts : List Symbol) (o : Option (List Symbol)) → If o (λ us. ts ≡ Key key.Else ∷ us) → If (r.otherwise_at inner ts o) (λ x. Spells (otherwise x.0) ts x.1)
   otherwise_found_at ts None h = g.no_else
@@ -207,7 +207,7 @@ module _ (inner : Reader Expr) (inner_found : (ts : List Symbol) → If (inner t
 
   otherwise_found : (ts : List Symbol) → If (r.otherwise inner ts) (λ x. Spells (otherwise x.0) ts x.1)
   unfolding r.otherwise
-  otherwise_found ts = otherwise_found_at ts (behind_key key.Else ts) (key_found key.Else ts)
+  otherwise_found ts = otherwise_found_at ts (after_key key.Else ts) (key_found key.Else ts)
 
   case_found : (ts : List Symbol) → If (r.case inner ts) (Reads primary (Key key.Case ∷ ts))
   unfolding r.case
@@ -216,7 +216,7 @@ module _ (inner : Reader Expr) (inner_found : (ts : List Symbol) → If (inner t
       if_bind (r.operand inner ts) _ (λ x. Spells (operand x.0) ts x.1) Q (case_operand_found ts) (λ x d.
       if_bind (r.whens inner x.1) _ (λ w. Spells (whens w.0) x.1 w.1) Q (whens_found x.1) (λ w f.
       if_bind (r.otherwise inner w.1) _ (λ y. Spells (otherwise y.0) w.1 y.1) Q (otherwise_found w.1) (λ y k.
-      if_bind (behind_key key.End y.1) _ (λ us. y.1 ≡ Key key.End ∷ us) Q (key_found key.End y.1) (λ us h.
+      if_bind (after_key key.End y.1) _ (λ us. y.1 ≡ Key key.End ∷ us) Q (key_found key.End y.1) (λ us h.
       g.case d f (along k h)))))
 
   keyed_found : (k : Keyword) (ts : List Symbol) → If (r.keyed inner k ts) (Reads primary (Key k ∷ ts))
@@ -234,14 +234,14 @@ module _ (inner : Reader Expr) (inner_found : (ts : List Symbol) → If (inner t
 
   arguments_found : (ts : List Symbol) → If (r.arguments inner ts) (λ x. Spells (arguments x.0.0 x.0.1) ts x.1)
   unfolding r.arguments
-  arguments_found ts = arguments_found_at ts (behind_sign mark.Close ts) (behind_sign mark.Star ts) (sign_found mark.Star ts)
+  arguments_found ts = arguments_found_at ts (after_sign mark.Close ts) (after_sign mark.Star ts) (sign_found mark.Star ts)
 
   call_found : (s : Symbol) (name : List ℕ) (ts : List Symbol) → name_of s ≡ Some name → If (r.call inner name ts) (Reads primary (s ∷ Sign mark.Open ∷ ts))
   unfolding r.call
   call_found s name ts n =
       let Q = Reads primary (s ∷ Sign mark.Open ∷ ts) in
       if_bind (r.arguments inner ts) _ (λ x. Spells (arguments x.0.0 x.0.1) ts x.1) Q (arguments_found ts) (λ x d.
-      if_bind (behind_sign mark.Close x.1) _ (λ us. x.1 ≡ Sign mark.Close ∷ us) Q (sign_found mark.Close x.1) (λ us h.
+      if_bind (after_sign mark.Close x.1) _ (λ us. x.1 ≡ Sign mark.Close ∷ us) Q (sign_found mark.Close x.1) (λ us h.
       g.call n (along d h)))
 
   named_found_at : (s : Symbol) (name : List ℕ) (ts : List Symbol) → name_of s ≡ Some name → (o p : Option (List Symbol))
@@ -252,7 +252,7 @@ module _ (inner : Reader Expr) (inner_found : (ts : List Symbol) → If (inner t
 
   named_found : (s : Symbol) (name : List ℕ) (ts : List Symbol) → name_of s ≡ Some name → If (r.named inner name ts) (Reads primary (s ∷ ts))
   unfolding r.named
-  named_found s name ts n = named_found_at s name ts n (behind_sign mark.Open ts) (behind_sign mark.Dot ts) (sign_found mark.Open ts) (sign_found mark.Dot ts)
+  named_found s name ts n = named_found_at s name ts n (after_sign mark.Open ts) (after_sign mark.Dot ts) (sign_found mark.Open ts) (sign_found mark.Dot ts)
 
   primary_found_at : (s : Symbol) (ts : List Symbol) → If (r.primary_at inner s ts) (Reads primary (s ∷ ts))
   primary_found_at (Key k) ts = keyed_found k ts
@@ -284,16 +284,16 @@ module _ (inner : Reader Expr) (inner_found : (ts : List Symbol) → If (inner t
   unfolding r.between
   between_found n a ts us vs d m =
       if_bind (r.sum inner vs) _ (Reads sum vs) (Reads pred ts) (sum_found vs) (λ low f.
-      if_bind (behind_key key.And low.1) _ (λ ws. low.1 ≡ Key key.And ∷ ws) (Reads pred ts) (key_found key.And low.1) (λ ws h.
+      if_bind (after_key key.And low.1) _ (λ ws. low.1 ≡ Key key.And ∷ ws) (Reads pred ts) (key_found key.And low.1) (λ ws h.
       if_bind (r.sum inner ws) _ (Reads sum ws) (Reads pred ts) (sum_found ws) (λ high k.
       g.between d m (along f h) k)))
 
   one_of_found : (n : Bool) (a : Expr) (ts us vs : List Symbol) → Spells (at sum a) ts us → Spells (negation n) us (Key key.In ∷ vs) → If (r.one_of inner n a vs) (Reads pred ts)
   unfolding r.one_of
   one_of_found n a ts us vs d m =
-      if_bind (behind_sign mark.Open vs) _ (λ ws. vs ≡ Sign mark.Open ∷ ws) (Reads pred ts) (sign_found mark.Open vs) (λ ws h.
+      if_bind (after_sign mark.Open vs) _ (λ ws. vs ≡ Sign mark.Open ∷ ws) (Reads pred ts) (sign_found mark.Open vs) (λ ws h.
       if_bind (r.exprs inner ws) _ (λ x. Spells (exprs x.0) ws x.1) (Reads pred ts) (exprs_found ws) (λ x f.
-      if_bind (behind_sign mark.Close x.1) _ (λ ys. x.1 ≡ Sign mark.Close ∷ ys) (Reads pred ts) (sign_found mark.Close x.1) (λ ys k.
+      if_bind (after_sign mark.Close x.1) _ (λ ys. x.1 ≡ Sign mark.Close ∷ ys) (Reads pred ts) (sign_found mark.Close x.1) (λ ys k.
       g.one_of d (along m (ap (λ y. Key key.In ∷ y) h)) (along f k))))
 
   ranged_found : (n : Bool) (a : Expr) (ts us vs : List Symbol) → Spells (at sum a) ts us → Spells (negation n) us vs → (n ≡ false → us ≡ vs) → If (r.ranged inner n a vs) (Reads pred ts)
@@ -312,7 +312,7 @@ module _ (inner : Reader Expr) (inner_found : (ts : List Symbol) → If (inner t
   unfolding negation_at
   tested_found_at a ts us d (Some o) p h k = compared_found a o.0 h.0 ts o.1 (along d h.1) h.2
   tested_found_at a ts us d None (Some vs) h k = is_null_found a ts vs (along d k)
-  tested_found_at a ts us d None None h k = ranged_found (negation_at us).0 a ts us (negation_at us).1 d (negation_found us) (plain us (behind_key key.Not us))
+  tested_found_at a ts us d None None h k = ranged_found (negation_at us).0 a ts us (negation_at us).1 d (negation_found us) (plain us (after_key key.Not us))
     where
       plain : (us : List Symbol) (o : Option (List Symbol)) → (negation_of us o).0 ≡ false → us ≡ (negation_of us o).1
       plain us None h = refl
@@ -320,7 +320,7 @@ module _ (inner : Reader Expr) (inner_found : (ts : List Symbol) → If (inner t
 
   tested_found : (a : Expr) (ts us : List Symbol) → Spells (at sum a) ts us → If (r.tested inner a us) (Reads pred ts)
   unfolding r.tested
-  tested_found a ts us d = tested_found_at a ts us d (first comparison_of us) (behind_key key.Is us) (first_found comparison_of us) (key_found key.Is us)
+  tested_found a ts us d = tested_found_at a ts us d (first comparison_of us) (after_key key.Is us) (first_found comparison_of us) (key_found key.Is us)
 
   predicate_found : (ts : List Symbol) → If (r.predicate inner ts) (Reads pred ts)
   unfolding r.predicate

@@ -10,17 +10,17 @@ use Rattle.ksql_grammar.specs.declared.symbol.Keyword.{Keyword}
 use Rattle.ksql_grammar.specs.declared.symbol.Keyword.TheVariants as key
 use Rattle.ksql_grammar.specs.declared.symbol.Symbol.{Symbol}
 use Rattle.ksql_grammar.specs.declared.symbol.Symbol.TheVariants.{Key, Word, Quoted, Text, Number, Sign}
-use Rattle.ksql_expressions.specs.declared.tree.Expr.{Expr}
-use Rattle.ksql_expressions.specs.declared.tree.Expr.TheVariants as e
-use Rattle.ksql_expressions.specs.declared.tree.WhenText.{WhenText}
+use Rattle.expression_trees.specs.declared.tree.Expr.{Expr}
+use Rattle.expression_trees.specs.declared.tree.Expr.TheVariants as e
+use Rattle.expression_trees.specs.declared.tree.WhenText.{WhenText}
 use Rattle.ksql_grammar.specs.declared.expression.Level.{Level as Operators}
 use Rattle.ksql_grammar.specs.declared.expression.Level.TheVariants as level
 use Rattle.ksql_grammar.specs.Symbols.{name_of, type_of, or_of, and_of, comparison_of, sum_of, product_of}
 use Rattle.ksql_grammar.specs.Grammar.{Level, Phrase, Spells, at, exprs, whens, operand, otherwise, arguments, negation, when_then, minus_of, truth_of, expr, conj, neg, pred, sum, prod, unary, primary}
 use Rattle.ksql_grammar.specs.Grammar as g
 use Rattle.ksql_grammar.specs.Reading.{is_comma}
-use Rattle.ksql_grammar.specs.Expressions.{Reader, behind_key, behind_sign, first, list_end, list_of, chain_step, chain_with, chain, behind_prefix, behind_prefixes, prefixed, is_not, is_sign, negation_of, negation_at}
-use Rattle.ksql_expressions.specs.Options.{◌>>=◌}
+use Rattle.ksql_grammar.specs.Expressions.{Reader, after_key, after_sign, first, list_end, list_of, chain_step, chain_with, chain, after_prefix, after_prefixes, prefixed, is_not, is_sign, negation_of, negation_at}
+use Rattle.expression_trees.specs.Options.{◌>>=◌}
 use Rattle.ksql_grammar.specs.Expressions as r
 use Rattle.ksql_grammar.proofs.Steps.{If, if_some, key_found, sign_found, key_there, sign_there, first_there}
 use Rattle.ksql_grammar.proofs.Takes.{takes}
@@ -35,16 +35,16 @@ if_none : {A : Type 0} (o : Option A) (P : A → Type 0) → If o P → ((x : A)
 if_none None P h k = refl
 if_none (Some x) P h k = absurd (k x h)
 
-key_absent : (k : Keyword) (ts : List Symbol) → ((us : List Symbol) → ts ≡ Key k ∷ us → ⊥) → behind_key k ts ≡ None
-key_absent k ts h = if_none (behind_key k ts) (λ us. ts ≡ Key k ∷ us) (key_found k ts) h
+key_absent : (k : Keyword) (ts : List Symbol) → ((us : List Symbol) → ts ≡ Key k ∷ us → ⊥) → after_key k ts ≡ None
+key_absent k ts h = if_none (after_key k ts) (λ us. ts ≡ Key k ∷ us) (key_found k ts) h
 
-sign_absent : (m : Mark) (ts : List Symbol) → ((us : List Symbol) → ts ≡ Sign m ∷ us → ⊥) → behind_sign m ts ≡ None
-sign_absent m ts h = if_none (behind_sign m ts) (λ us. ts ≡ Sign m ∷ us) (sign_found m ts) h
+sign_absent : (m : Mark) (ts : List Symbol) → ((us : List Symbol) → ts ≡ Sign m ∷ us → ⊥) → after_sign m ts ≡ None
+sign_absent m ts h = if_none (after_sign m ts) (λ us. ts ≡ Sign m ∷ us) (sign_found m ts) h
 
-pub key_out : (k : Keyword) (P : Symbol → Type 0) (ts : List Symbol) → Rest P ts → (P (Key k) → ⊥) → behind_key k ts ≡ None
+pub key_out : (k : Keyword) (P : Symbol → Type 0) (ts : List Symbol) → Rest P ts → (P (Key k) → ⊥) → after_key k ts ≡ None
 key_out k P ts h out = key_absent k ts (λ us same. out (subst (Rest P) same h))
 
-pub sign_out : (m : Mark) (P : Symbol → Type 0) (ts : List Symbol) → Rest P ts → (P (Sign m) → ⊥) → behind_sign m ts ≡ None
+pub sign_out : (m : Mark) (P : Symbol → Type 0) (ts : List Symbol) → Rest P ts → (P (Sign m) → ⊥) → after_sign m ts ≡ None
 sign_out m P ts h out = sign_absent m ts (λ us same. out (subst (Rest P) same h))
 
 pub first_out : {A : Type 0} (of : Symbol → Option A) (ts : List Symbol) → Rest (λ s. of s ≡ None) ts → first of ts ≡ None
@@ -83,9 +83,9 @@ IsWhen s = s ≡ Key key.When
 
 abbrev pub Goal : Phrase → List Symbol → List Symbol → Type 0
 Goal (at l a) ts us = (n : ℕ) → length ts ≤ n → AtGoal l a ts us n
-Goal (exprs es) ts us = (n : ℕ) → length ts ≤ n → Rest EndsListed us → (k : ℕ) → length ts < k → list_of (r.within (suc n)) (behind_sign mark.Comma) k ts ≡ Some (es, us)
+Goal (exprs es) ts us = (n : ℕ) → length ts ≤ n → Rest EndsListed us → (k : ℕ) → length ts < k → list_of (r.within (suc n)) (after_sign mark.Comma) k ts ≡ Some (es, us)
 Goal (operand x) ts us = (n : ℕ) → length ts ≤ n → First IsWhen us → r.operand (r.within (suc n)) ts ≡ Some (x, us)
-Goal (whens ws) ts us = (n : ℕ) → length ts ≤ n → Rest EndsWhens us → (k : ℕ) → length ts ≤ k → (behind_key key.When ts >>= list_of (r.when (r.within (suc n))) (behind_key key.When) k) ≡ Some (ws, us)
+Goal (whens ws) ts us = (n : ℕ) → length ts ≤ n → Rest EndsWhens us → (k : ℕ) → length ts ≤ k → (after_key key.When ts >>= list_of (r.when (r.within (suc n))) (after_key key.When) k) ≡ Some (ws, us)
 Goal (otherwise y) ts us = (n : ℕ) → length ts ≤ n → (vs : List Symbol) → us ≡ Key key.End ∷ vs → r.otherwise (r.within (suc n)) ts ≡ Some (y, us)
 Goal (arguments s es) ts us = (n : ℕ) → length ts ≤ n → (vs : List Symbol) → us ≡ Sign mark.Close ∷ vs → r.arguments (r.within (suc n)) ts ≡ Some ((s, es), us)
 Goal _ ts us = Unit {0}
@@ -162,7 +162,7 @@ module _ (n : ℕ) where
 
 -- ---- prefixes
 
-signed_prefix : (s : Symbol) (m : Bool) (a : Expr) → minus_of s ≡ Some m → behind_prefix s a ≡ e.Sign m a
+signed_prefix : (s : Symbol) (m : Bool) (a : Expr) → minus_of s ≡ Some m → after_prefix s a ≡ e.Sign m a
 signed_prefix (Sign mark.Minus) m a h = ap (λ b. e.Sign b a) (same_Some true m h)
 signed_prefix (Sign mark.Plus) m a h = ap (λ b. e.Sign b a) (same_Some false m h)
 signed_prefix _ m a h = absurd (none-some m h)
@@ -251,7 +251,7 @@ module _ (n : ℕ) where
   unfolding r.predicate r.tested r.compared
   compared_only s o a b ts us vs h k f ends =
       then (r.sum (r.within n) ts) _ (a, s ∷ us) _ (sum_whole n a ts (s ∷ us) h (comparison_ends s o k))
-      (ap (λ x. r.tested_at (r.within n) a (s ∷ us) x (behind_key key.Is (s ∷ us))) (first_there comparison_of s us o k)
+      (ap (λ x. r.tested_at (r.within n) a (s ∷ us) x (after_key key.Is (s ∷ us))) (first_there comparison_of s us o k)
       ∙ then (r.sum (r.within n) us) _ (b, vs) _ (sum_whole n b us vs f (pred_ends_sum vs ends)) refl)
 
   is_null_only : (b : Bool) (a : Expr) (ts us vs : List Symbol) → AtGoal sum a ts (Key key.Is ∷ us) n → Spells (negation b) us (Key key.Null ∷ vs) → AtGoal pred (e.IsNull b a) ts vs n
@@ -259,8 +259,8 @@ module _ (n : ℕ) where
   is_null_only b a ts us vs h m ends =
       then (r.sum (r.within n) ts) _ (a, Key key.Is ∷ us) _ (sum_whole n a ts (Key key.Is ∷ us) h ((refl, refl), refl))
       (ap₂ (r.tested_at (r.within n) a (Key key.Is ∷ us)) (first_out comparison_of (Key key.Is ∷ us) refl) (key_there key.Is us)
-      ∙ ap (λ x. behind_key key.Null x.1 >>= λ ws. Some (e.IsNull x.0 a, ws)) (negation_only m refl)
-      ∙ then (behind_key key.Null (Key key.Null ∷ vs)) _ vs _ (key_there key.Null vs) refl)
+      ∙ ap (λ x. after_key key.Null x.1 >>= λ ws. Some (e.IsNull x.0 a, ws)) (negation_only m refl)
+      ∙ then (after_key key.Null (Key key.Null ∷ vs)) _ vs _ (key_there key.Null vs) refl)
 
   between_only : (b : Bool) (a low high : Expr) (ts us vs ws xs : List Symbol) → AtGoal sum a ts us n → Spells (negation b) us (Key key.Between ∷ vs)
       → AtGoal sum low vs (Key key.And ∷ ws) n → AtGoal sum high ws xs n → AtGoal pred (e.Between b a low high) ts xs n
@@ -269,7 +269,7 @@ module _ (n : ℕ) where
       then (r.sum (r.within n) ts) _ (a, us) _ (sum_whole n a ts us h (negation_rest m EndsSum ((refl, refl), refl) ((refl, refl), refl)))
       (range_of b a us vs key.Between m refl refl refl
       ∙ then (r.sum (r.within n) vs) _ (low, Key key.And ∷ ws) _ (sum_whole n low vs (Key key.And ∷ ws) f ((refl, refl), refl))
-      (then (behind_key key.And (Key key.And ∷ ws)) _ ws _ (key_there key.And ws)
+      (then (after_key key.And (Key key.And ∷ ws)) _ ws _ (key_there key.And ws)
       (then (r.sum (r.within n) ws) _ (high, xs) _ (sum_whole n high ws xs k (pred_ends_sum xs ends)) refl)))
 
   one_of_only : (b : Bool) (a : Expr) (es : List Expr) (ts us vs ws : List Symbol) → AtGoal sum a ts us n → Spells (negation b) us (Key key.In ∷ Sign mark.Open ∷ vs)
@@ -278,9 +278,9 @@ module _ (n : ℕ) where
   one_of_only b a es ts us vs ws h m q ends =
       then (r.sum (r.within n) ts) _ (a, us) _ (sum_whole n a ts us h (negation_rest m EndsSum ((refl, refl), refl) ((refl, refl), refl)))
       (range_of b a us (Sign mark.Open ∷ vs) key.In m refl refl refl
-      ∙ then (behind_sign mark.Open (Sign mark.Open ∷ vs)) _ vs _ (sign_there mark.Open vs)
+      ∙ then (after_sign mark.Open (Sign mark.Open ∷ vs)) _ vs _ (sign_there mark.Open vs)
       (then (r.exprs (r.within n) vs) _ (es, Sign mark.Close ∷ ws) _ q
-      (then (behind_sign mark.Close (Sign mark.Close ∷ ws)) _ ws _ (sign_there mark.Close ws) refl)))
+      (then (after_sign mark.Close (Sign mark.Close ∷ ws)) _ ws _ (sign_there mark.Close ws) refl)))
 
   like_only : (b : Bool) (a : Expr) (pattern : List ℕ) (ts us vs : List Symbol) → AtGoal sum a ts us n → Spells (negation b) us (Key key.Like ∷ Text pattern ∷ vs) → AtGoal pred (e.Like b a pattern) ts vs n
   unfolding r.predicate r.like is_is
@@ -302,11 +302,11 @@ module _ (inner : Reader Expr) where
       → r.primary inner (Key key.Cast ∷ Sign mark.Open ∷ ts) ≡ Some (e.Cast a ty, us)
   unfolding r.primary r.cast
   cast_only a t ty ts us q h =
-      then (behind_sign mark.Open (Sign mark.Open ∷ ts)) _ ts _ (sign_there mark.Open ts)
+      then (after_sign mark.Open (Sign mark.Open ∷ ts)) _ ts _ (sign_there mark.Open ts)
       (then (inner ts) _ (a, Key key.As ∷ t ∷ Sign mark.Close ∷ us) _ q
-      (then (behind_key key.As (Key key.As ∷ t ∷ Sign mark.Close ∷ us)) _ (t ∷ Sign mark.Close ∷ us) _ (key_there key.As (t ∷ Sign mark.Close ∷ us))
+      (then (after_key key.As (Key key.As ∷ t ∷ Sign mark.Close ∷ us)) _ (t ∷ Sign mark.Close ∷ us) _ (key_there key.As (t ∷ Sign mark.Close ∷ us))
       (then (first type_of (t ∷ Sign mark.Close ∷ us)) _ (ty, Sign mark.Close ∷ us) _ (first_there type_of t (Sign mark.Close ∷ us) ty h)
-      (then (behind_sign mark.Close (Sign mark.Close ∷ us)) _ us _ (sign_there mark.Close us) refl))))
+      (then (after_sign mark.Close (Sign mark.Close ∷ us)) _ us _ (sign_there mark.Close us) refl))))
 
   case_only : (x y : Option Expr) (ws : List WhenText) (ts us vs rest : List Symbol) → r.operand inner ts ≡ Some (x, us) → r.whens inner us ≡ Some (ws, vs) → r.otherwise inner vs ≡ Some (y, Key key.End ∷ rest)
       → r.primary inner (Key key.Case ∷ ts) ≡ Some (e.Case x ws y, rest)
@@ -315,7 +315,7 @@ module _ (inner : Reader Expr) where
       then (r.operand inner ts) _ (x, us) _ p
       (then (r.whens inner us) _ (ws, vs) _ q
       (then (r.otherwise inner vs) _ (y, Key key.End ∷ rest) _ o
-      (then (behind_key key.End (Key key.End ∷ rest)) _ rest _ (key_there key.End rest) refl)))
+      (then (after_key key.End (Key key.End ∷ rest)) _ rest _ (key_there key.End rest) refl)))
 
   named_only : (s : Symbol) (name : List ℕ) (ts : List Symbol) → name_of s ≡ Some name → r.primary inner (s ∷ ts) ≡ r.named inner name ts
   unfolding r.primary
@@ -328,9 +328,9 @@ module _ (inner : Reader Expr) where
   unfolding r.named r.call
   call_only s name is_star es ts us h q =
       named_only s name (Sign mark.Open ∷ ts) h
-      ∙ ap (λ o. r.named_at inner name (Sign mark.Open ∷ ts) o (behind_sign mark.Dot (Sign mark.Open ∷ ts))) (sign_there mark.Open ts)
+      ∙ ap (λ o. r.named_at inner name (Sign mark.Open ∷ ts) o (after_sign mark.Dot (Sign mark.Open ∷ ts))) (sign_there mark.Open ts)
       ∙ then (r.arguments inner ts) _ ((is_star, es), Sign mark.Close ∷ us) _ q
-      (then (behind_sign mark.Close (Sign mark.Close ∷ us)) _ us _ (sign_there mark.Close us) refl)
+      (then (after_sign mark.Close (Sign mark.Close ∷ us)) _ us _ (sign_there mark.Close us) refl)
 
   name_only : (s : Symbol) (name : List ℕ) (ts : List Symbol) → name_of s ≡ Some name → Rest EndsUnary ts → r.primary inner (s ∷ ts) ≡ Some (e.Name None name, ts)
   unfolding r.named
@@ -350,50 +350,50 @@ module _ (inner : Reader Expr) where
   unfolding r.primary r.parens
   parens_only a ts us q =
       then (inner ts) _ (a, Sign mark.Close ∷ us) _ q
-      (then (behind_sign mark.Close (Sign mark.Close ∷ us)) _ us _ (sign_there mark.Close us) refl)
+      (then (after_sign mark.Close (Sign mark.Close ∷ us)) _ us _ (sign_there mark.Close us) refl)
 
   -- ---- lists, and the parts of CASE and of a call
 
-  last_expr_only : (a : Expr) (ts us : List Symbol) (k : ℕ) → inner ts ≡ Some (a, us) → behind_sign mark.Comma us ≡ None → list_of inner (behind_sign mark.Comma) (suc k) ts ≡ Some (a ∷ [], us)
+  last_expr_only : (a : Expr) (ts us : List Symbol) (k : ℕ) → inner ts ≡ Some (a, us) → after_sign mark.Comma us ≡ None → list_of inner (after_sign mark.Comma) (suc k) ts ≡ Some (a ∷ [], us)
   unfolding list_of
-  last_expr_only a ts us k q none = then (inner ts) _ (a, us) _ q (ap (list_end (a, us) (list_of inner (behind_sign mark.Comma) k)) none)
+  last_expr_only a ts us k q none = then (inner ts) _ (a, us) _ q (ap (list_end (a, us) (list_of inner (after_sign mark.Comma) k)) none)
 
-  more_exprs_only : (a : Expr) (es : List Expr) (ts us vs : List Symbol) (k : ℕ) → inner ts ≡ Some (a, Sign mark.Comma ∷ us) → list_of inner (behind_sign mark.Comma) k us ≡ Some (es, vs)
-      → list_of inner (behind_sign mark.Comma) (suc k) ts ≡ Some (a ∷ es, vs)
+  more_exprs_only : (a : Expr) (es : List Expr) (ts us vs : List Symbol) (k : ℕ) → inner ts ≡ Some (a, Sign mark.Comma ∷ us) → list_of inner (after_sign mark.Comma) k us ≡ Some (es, vs)
+      → list_of inner (after_sign mark.Comma) (suc k) ts ≡ Some (a ∷ es, vs)
   unfolding list_of
   more_exprs_only a es ts us vs k q f =
       then (inner ts) _ (a, Sign mark.Comma ∷ us) _ q
-      (ap (list_end (a, Sign mark.Comma ∷ us) (list_of inner (behind_sign mark.Comma) k)) (sign_there mark.Comma us)
-      ∙ end_more (Some us) (a, Sign mark.Comma ∷ us) (list_of inner (behind_sign mark.Comma) k) es vs f)
+      (ap (list_end (a, Sign mark.Comma ∷ us) (list_of inner (after_sign mark.Comma) k)) (sign_there mark.Comma us)
+      ∙ end_more (Some us) (a, Sign mark.Comma ∷ us) (list_of inner (after_sign mark.Comma) k) es vs f)
 
   when_only : (c x : Expr) (ts us vs : List Symbol) → inner ts ≡ Some (c, Key key.Then ∷ us) → inner us ≡ Some (x, vs) → r.when inner ts ≡ Some (when_then c x, vs)
   unfolding r.when
   when_only c x ts us vs q p =
       then (inner ts) _ (c, Key key.Then ∷ us) _ q
-      (then (behind_key key.Then (Key key.Then ∷ us)) _ us _ (key_there key.Then us)
+      (then (after_key key.Then (Key key.Then ∷ us)) _ us _ (key_there key.Then us)
       (then (inner us) _ (x, vs) _ p refl))
 
-  last_when_only : (c x : Expr) (ts us vs : List Symbol) (k : ℕ) → inner ts ≡ Some (c, Key key.Then ∷ us) → inner us ≡ Some (x, vs) → behind_key key.When vs ≡ None
-      → (behind_key key.When (Key key.When ∷ ts) >>= list_of (r.when inner) (behind_key key.When) (suc k)) ≡ Some (when_then c x ∷ [], vs)
+  last_when_only : (c x : Expr) (ts us vs : List Symbol) (k : ℕ) → inner ts ≡ Some (c, Key key.Then ∷ us) → inner us ≡ Some (x, vs) → after_key key.When vs ≡ None
+      → (after_key key.When (Key key.When ∷ ts) >>= list_of (r.when inner) (after_key key.When) (suc k)) ≡ Some (when_then c x ∷ [], vs)
   unfolding list_of
   last_when_only c x ts us vs k q p none =
-      then (behind_key key.When (Key key.When ∷ ts)) (list_of (r.when inner) (behind_key key.When) (suc k)) ts _ (key_there key.When ts)
-      (then (r.when inner ts) _ (when_then c x, vs) _ (when_only c x ts us vs q p) (ap (list_end (when_then c x, vs) (list_of (r.when inner) (behind_key key.When) k)) none))
+      then (after_key key.When (Key key.When ∷ ts)) (list_of (r.when inner) (after_key key.When) (suc k)) ts _ (key_there key.When ts)
+      (then (r.when inner ts) _ (when_then c x, vs) _ (when_only c x ts us vs q p) (ap (list_end (when_then c x, vs) (list_of (r.when inner) (after_key key.When) k)) none))
 
   more_whens_only : (c x : Expr) (ws : List WhenText) (ts us vs rest : List Symbol) (k : ℕ) → inner ts ≡ Some (c, Key key.Then ∷ us) → inner us ≡ Some (x, vs)
-      → (behind_key key.When vs >>= list_of (r.when inner) (behind_key key.When) k) ≡ Some (ws, rest)
-      → (behind_key key.When (Key key.When ∷ ts) >>= list_of (r.when inner) (behind_key key.When) (suc k)) ≡ Some (when_then c x ∷ ws, rest)
+      → (after_key key.When vs >>= list_of (r.when inner) (after_key key.When) k) ≡ Some (ws, rest)
+      → (after_key key.When (Key key.When ∷ ts) >>= list_of (r.when inner) (after_key key.When) (suc k)) ≡ Some (when_then c x ∷ ws, rest)
   unfolding list_of
   more_whens_only c x ws ts us vs rest k q p f =
-      then (behind_key key.When (Key key.When ∷ ts)) (list_of (r.when inner) (behind_key key.When) (suc k)) ts _ (key_there key.When ts)
+      then (after_key key.When (Key key.When ∷ ts)) (list_of (r.when inner) (after_key key.When) (suc k)) ts _ (key_there key.When ts)
       (then (r.when inner ts) _ (when_then c x, vs) _ (when_only c x ts us vs q p)
-      (end_more (behind_key key.When vs) (when_then c x, vs) (list_of (r.when inner) (behind_key key.When) k) ws rest f))
+      (end_more (after_key key.When vs) (when_then c x, vs) (list_of (r.when inner) (after_key key.When) k) ws rest f))
 
   no_operand_only : (ts : List Symbol) → First IsWhen ts → r.operand inner ts ≡ Some (None, ts)
   unfolding r.operand
   no_operand_only [] h = absurd h
   no_operand_only (s ∷ ts) h =
-      ap (r.operand_at inner (s ∷ ts)) (ap (λ x. behind_key key.When (x ∷ ts)) h ∙ key_there key.When ts)
+      ap (r.operand_at inner (s ∷ ts)) (ap (λ x. after_key key.When (x ∷ ts)) h ∙ key_there key.When ts)
 
   operand_only : (a : Expr) (ts us : List Symbol) → First BeginsExpr ts → inner ts ≡ Some (a, us) → r.operand inner ts ≡ Some (Some a, us)
   unfolding r.operand
@@ -412,7 +412,7 @@ module _ (inner : Reader Expr) where
   no_arguments_only : (ts vs : List Symbol) → ts ≡ Sign mark.Close ∷ vs → r.arguments inner ts ≡ Some ((false, []), ts)
   unfolding r.arguments
   no_arguments_only ts vs h =
-      ap (λ o. r.arguments_at inner ts o (behind_sign mark.Star ts)) (ap (behind_sign mark.Close) h ∙ sign_there mark.Close vs)
+      ap (λ o. r.arguments_at inner ts o (after_sign mark.Star ts)) (ap (after_sign mark.Close) h ∙ sign_there mark.Close vs)
 
   star_only : (ts : List Symbol) → r.arguments inner (Sign mark.Star ∷ ts) ≡ Some ((true, []), ts)
   unfolding r.arguments
@@ -446,7 +446,7 @@ expr_nested n a ts us le h ends = nest (λ n. r.within n ts ≡ Some (a, us)) n 
 
 exprs_nested : (n : ℕ) (es : List Expr) (ts us : List Symbol) → suc (length ts) ≤ n → Goal (exprs es) ts us → Rest EndsListed us → r.exprs (r.within n) ts ≡ Some (es, us)
 unfolding r.exprs
-exprs_nested n es ts us le h ends = nest (λ n. list_of (r.within n) (behind_sign mark.Comma) (suc (length ts)) ts ≡ Some (es, us)) n (length ts) le (λ m lm. h m lm ends (suc (length ts)) (omega arith))
+exprs_nested n es ts us le h ends = nest (λ n. list_of (r.within n) (after_sign mark.Comma) (suc (length ts)) ts ≡ Some (es, us)) n (length ts) le (λ m lm. h m lm ends (suc (length ts)) (omega arith))
 
 pub exprs_whole : (n : ℕ) (es : List Expr) (ts us : List Symbol) → length ts ≤ n → Goal (exprs es) ts us → Rest EndsListed us → r.exprs (r.within (suc n)) ts ≡ Some (es, us)
 unfolding r.exprs
@@ -455,7 +455,7 @@ exprs_whole n es ts us le h ends = h n le ends (suc (length ts)) (omega arith)
 whens_nested : (n : ℕ) (ws : List WhenText) (ts us : List Symbol) → suc (length ts) ≤ n → Goal (whens ws) ts us → Rest EndsWhens us → r.whens (r.within n) ts ≡ Some (ws, us)
 unfolding r.whens
 whens_nested n ws ts us le h ends =
-    nest (λ n. (behind_key key.When ts >>= list_of (r.when (r.within n)) (behind_key key.When) (length ts)) ≡ Some (ws, us)) n (length ts) le (λ m lm. h m lm ends (length ts) (omega arith))
+    nest (λ n. (after_key key.When ts >>= list_of (r.when (r.within n)) (after_key key.When) (length ts)) ≡ Some (ws, us)) n (length ts) le (λ m lm. h m lm ends (length ts) (omega arith))
 
 else_rest : {y : Option Expr} {ts us : List Symbol} → Spells (otherwise y) ts us → (P : Symbol → Type 0) → P (Key key.Else) → Rest P us → Rest P ts
 else_rest g.no_else P p h = h
@@ -512,12 +512,12 @@ only (g.no_operand {ts}) = λ n le b. no_operand_only (r.within (suc n)) ts b
 only (g.an_operand {a} {ts} {us} d) = λ n le b. operand_only (r.within (suc n)) a ts us (begins d) (expr_whole n a ts us (only d n le) (when_ends us b))
 only (g.last_when {c} {r = x} {ts} {us} {vs} d f) = λ n le ends k lk.
     let t = takes d in
-    nest (λ k. (behind_key key.When (Key key.When ∷ ts) >>= list_of (r.when (r.within (suc n))) (behind_key key.When) k) ≡ Some (when_then c x ∷ [], vs)) k (length ts) lk (λ i li.
+    nest (λ k. (after_key key.When (Key key.When ∷ ts) >>= list_of (r.when (r.within (suc n))) (after_key key.When) k) ≡ Some (when_then c x ∷ [], vs)) k (length ts) lk (λ i li.
     last_when_only (r.within (suc n)) c x ts us vs i (expr_whole n c ts (Key key.Then ∷ us) (only d n (omega arith)) (((((refl, refl), refl), refl, refl), refl), refl))
     (expr_whole n x us vs (only f n (omega arith)) (whens_end vs ends)) (key_out key.When EndsWhens vs ends (λ p. false≢true (sym p.1))))
 only (g.more_whens {c} {r = x} {ws} {ts} {us} {vs} {rest} d f w) = λ n le ends k lk.
     let t = takes d in let u = takes f in
-    nest (λ k. (behind_key key.When (Key key.When ∷ ts) >>= list_of (r.when (r.within (suc n))) (behind_key key.When) k) ≡ Some (when_then c x ∷ ws, rest)) k (length ts) lk (λ i li.
+    nest (λ k. (after_key key.When (Key key.When ∷ ts) >>= list_of (r.when (r.within (suc n))) (after_key key.When) k) ≡ Some (when_then c x ∷ ws, rest)) k (length ts) lk (λ i li.
     more_whens_only (r.within (suc n)) c x ws ts us vs rest i (expr_whole n c ts (Key key.Then ∷ us) (only d n (omega arith)) (((((refl, refl), refl), refl, refl), refl), refl))
     (expr_whole n x us vs (only f n (omega arith)) (when_ends vs (begins w))) (only w n (omega arith) ends i (omega arith)))
 only (g.no_else {ts}) = λ n le vs h. no_else_only (r.within (suc n)) ts vs h
@@ -534,10 +534,10 @@ only (g.name_in {q = s} {n = t} {qualifier} {name} {ts} h k) = λ n le ends. nam
 only (g.parens {a} {ts} {us} d) = λ n le ends.
     parens_only (r.within n) a ts us (expr_nested n a ts (Sign mark.Close ∷ us) (omega arith) (only d) (((((refl, refl), refl), refl, refl), refl), refl))
 only (g.last_expr {a} {ts} {us} d) = λ n le ends k lk.
-    nest (λ k. list_of (r.within (suc n)) (behind_sign mark.Comma) k ts ≡ Some (a ∷ [], us)) k (length ts) lk (λ i li.
+    nest (λ k. list_of (r.within (suc n)) (after_sign mark.Comma) k ts ≡ Some (a ∷ [], us)) k (length ts) lk (λ i li.
     last_expr_only (r.within (suc n)) a ts us i (expr_whole n a ts us (only d n le) (listed_ends us ends)) (sign_out mark.Comma EndsListed us ends (λ p. false≢true (sym p.1))))
 only (g.more_exprs {a} {es} {ts} {us} {vs} d f) = λ n le ends k lk.
     let t = takes d in
-    nest (λ k. list_of (r.within (suc n)) (behind_sign mark.Comma) k ts ≡ Some (a ∷ es, vs)) k (length ts) lk (λ i li.
+    nest (λ k. list_of (r.within (suc n)) (after_sign mark.Comma) k ts ≡ Some (a ∷ es, vs)) k (length ts) lk (λ i li.
     more_exprs_only (r.within (suc n)) a es ts us vs i (expr_whole n a ts (Sign mark.Comma ∷ us) (only d n le) (((((refl, refl), refl), refl, refl), refl), refl)) (only f n (omega arith) ends i (omega arith)))
 only _ = tt

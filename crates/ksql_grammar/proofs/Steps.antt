@@ -8,8 +8,8 @@ use Rattle.ksql_grammar.specs.declared.symbol.Keyword.{Keyword}
 use Rattle.ksql_grammar.specs.contracts.symbol.Keyword.{the_type as the_keyword}
 use Rattle.ksql_grammar.specs.declared.symbol.Symbol.{Symbol}
 use Rattle.ksql_grammar.specs.declared.symbol.Symbol.TheVariants.{Key, Word, Quoted, Text, Number, Sign}
-use Rattle.ksql_grammar.specs.Expressions.{behind_key, behind_sign, first}
-use Rattle.ksql_expressions.specs.Options.{◌>>=◌}
+use Rattle.ksql_grammar.specs.Expressions.{after_key, after_sign, first}
+use Rattle.expression_trees.specs.Options.{◌>>=◌}
 
 -- what is read, if anything is
 abbrev pub If : {A : Type 0} → Option A → (A → Type 0) → Type 0
@@ -37,24 +37,24 @@ pub if_cond : {A : Type 0} (b : Bool) (x : A) (P : A → Type 0) → (b ≡ true
 if_cond true x P k = k refl
 if_cond false x P k = tt
 
-pub key_found : (k : Keyword) (ts : List Symbol) → If (behind_key k ts) (λ us. ts ≡ Key k ∷ us)
-unfolding behind_key
+pub key_found : (k : Keyword) (ts : List Symbol) → If (after_key k ts) (λ us. ts ≡ Key k ∷ us)
+unfolding after_key
 key_found k [] = tt
 key_found k (Key found ∷ ts) = if_cond (sameb the_keyword found k) ts _ (λ e. ap (λ x. Key x ∷ ts) (same_true the_keyword tt found k e))
 key_found k (_ ∷ ts) = tt
 
-pub sign_found : (m : Mark) (ts : List Symbol) → If (behind_sign m ts) (λ us. ts ≡ Sign m ∷ us)
-unfolding behind_sign
+pub sign_found : (m : Mark) (ts : List Symbol) → If (after_sign m ts) (λ us. ts ≡ Sign m ∷ us)
+unfolding after_sign
 sign_found m [] = tt
 sign_found m (Sign found ∷ ts) = if_cond (sameb the_mark found m) ts _ (λ e. ap (λ x. Sign x ∷ ts) (same_true the_mark tt found m e))
 sign_found m (_ ∷ ts) = tt
 
-pub key_there : (k : Keyword) (ts : List Symbol) → behind_key k (Key k ∷ ts) ≡ Some ts
-unfolding behind_key
+pub key_there : (k : Keyword) (ts : List Symbol) → after_key k (Key k ∷ ts) ≡ Some ts
+unfolding after_key
 key_there k ts = ap (λ b. cond b (Some ts) None) (true_same the_keyword k k refl)
 
-pub sign_there : (m : Mark) (ts : List Symbol) → behind_sign m (Sign m ∷ ts) ≡ Some ts
-unfolding behind_sign
+pub sign_there : (m : Mark) (ts : List Symbol) → after_sign m (Sign m ∷ ts) ≡ Some ts
+unfolding after_sign
 sign_there m ts = ap (λ b. cond b (Some ts) None) (true_same the_mark m m refl)
 
 -- the first symbol, and its value

@@ -4,7 +4,7 @@ use Rattle.std.specs.List.{prefix_len}
 use Rattle.std.specs.Global.{Vec}
 use Rattle.std.specs.Borrow.{Bor}
 use denote.Enum.Bare.{sameb}
-use Rattle.ksql_expressions.specs.Options.{◌>>=◌}
+use Rattle.expression_trees.specs.Options.{◌>>=◌}
 use Rattle.ksql_types.specs.declared.operator.BinaryOp.{BinaryOp}
 use Rattle.ksql_types.specs.declared.value.SqlType.{SqlType}
 use Rattle.ksql_lexer.specs.declared.token.Mark.{Mark}
@@ -15,9 +15,9 @@ use Rattle.ksql_grammar.specs.declared.symbol.Keyword.TheVariants as key
 use Rattle.ksql_grammar.specs.contracts.symbol.Keyword.{the_type as the_keyword}
 use Rattle.ksql_grammar.specs.declared.symbol.Symbol.{Symbol}
 use Rattle.ksql_grammar.specs.declared.symbol.Symbol.TheVariants.{Key, Word, Quoted, Text, Number, Sign}
-use Rattle.ksql_expressions.specs.declared.tree.Expr.{Expr}
-use Rattle.ksql_expressions.specs.declared.tree.Expr.TheVariants as e
-use Rattle.ksql_expressions.specs.declared.tree.WhenText.{WhenText}
+use Rattle.expression_trees.specs.declared.tree.Expr.{Expr}
+use Rattle.expression_trees.specs.declared.tree.Expr.TheVariants as e
+use Rattle.expression_trees.specs.declared.tree.WhenText.{WhenText}
 use Rattle.ksql_grammar.specs.declared.expression.Level.{Level}
 use Rattle.ksql_grammar.specs.declared.expression.Level.TheVariants as level
 use Rattle.ksql_grammar.specs.Symbols.{name_of, type_of, or_of, and_of, comparison_of, sum_of, product_of}
@@ -32,14 +32,14 @@ abbrev pub with_arguments : (Bool × Vec Expr) × Bor (List Symbol) → (Bool ×
 with_arguments x = ((x.0.0, x.0.1.items), x.1.now)
 
 -- the symbols after this reserved word
-unfoldable pub behind_key : Keyword → List Symbol → Option (List Symbol)
-behind_key k (Key found ∷ ts) = if sameb the_keyword found k then Some ts else None
-behind_key k _ = None
+unfoldable pub after_key : Keyword → List Symbol → Option (List Symbol)
+after_key k (Key found ∷ ts) = if sameb the_keyword found k then Some ts else None
+after_key k _ = None
 
 -- after this sign
-unfoldable pub behind_sign : Mark → List Symbol → Option (List Symbol)
-behind_sign m (Sign found ∷ ts) = if sameb the_mark found m then Some ts else None
-behind_sign m _ = None
+unfoldable pub after_sign : Mark → List Symbol → Option (List Symbol)
+after_sign m (Sign found ∷ ts) = if sameb the_mark found m then Some ts else None
+after_sign m _ = None
 
 -- a value that the first symbol has
 unfoldable pub first : {A : Type 0} → (Symbol → Option A) → Reader A
@@ -71,20 +71,20 @@ unfoldable pub chain : (Symbol → Option BinaryOp) → Reader Expr → Reader E
 chain op operand ts = operand ts >>= λ a. chain_with op operand (suc (length a.1)) a.0 a.1
 
 -- an expression after NOT or a sign
-abbrev pub behind_prefix : Symbol → Expr → Expr
-behind_prefix (Key k) a = e.Not a
-behind_prefix (Sign mark.Minus) a = e.Sign true a
-behind_prefix s a = e.Sign false a
+abbrev pub after_prefix : Symbol → Expr → Expr
+after_prefix (Key k) a = e.Not a
+after_prefix (Sign mark.Minus) a = e.Sign true a
+after_prefix s a = e.Sign false a
 
 -- an expression after several of them, the nearest first
-unfoldable pub behind_prefixes : List Symbol → Expr → Expr
-behind_prefixes [] a = a
-behind_prefixes (s ∷ ss) a = behind_prefix s (behind_prefixes ss a)
+unfoldable pub after_prefixes : List Symbol → Expr → Expr
+after_prefixes [] a = a
+after_prefixes (s ∷ ss) a = after_prefix s (after_prefixes ss a)
 
 -- all symbols at the front that pass, and what stands after them
 unfoldable pub prefixed : (Symbol → Bool) → Reader Expr → Reader Expr
 prefixed test operand ts =
-    let n = prefix_len test ts in operand (drop n ts) >>= λ a. Some (behind_prefixes (take n ts) a.0, a.1)
+    let n = prefix_len test ts in operand (drop n ts) >>= λ a. Some (after_prefixes (take n ts) a.0, a.1)
 
 abbrev pub is_not : Symbol → Bool
 is_not (Key key.Not) = true
@@ -99,7 +99,7 @@ negation_of ts None = (false, ts)
 negation_of ts (Some us) = (true, us)
 
 unfoldable pub negation_at : List Symbol → Bool × List Symbol
-negation_at ts = negation_of ts (behind_key key.Not ts)
+negation_at ts = negation_of ts (after_key key.Not ts)
 
 -- after a name and `.`
 unfoldable pub qualified : List ℕ → Reader Expr
@@ -117,43 +117,43 @@ like negated a ts = first text_of ts >>= λ pattern. Some (e.Like negated a patt
 unfoldable pub is_null : Expr → Reader Expr
 is_null a ts = do
   let n = negation_at ts
-  us ← behind_key key.Null n.1
+  us ← after_key key.Null n.1
   Some (e.IsNull n.0 a, us)
 
 -- `inner` reads the expressions that stand in parentheses, in a list or in CASE
 module _ (inner : Reader Expr) where
   unfoldable pub exprs : Reader (List Expr)
-  exprs ts = list_of inner (behind_sign mark.Comma) (suc (length ts)) ts
+  exprs ts = list_of inner (after_sign mark.Comma) (suc (length ts)) ts
 
   -- after `(`
   unfoldable pub parens : Reader Expr
   parens ts = do
     a ← inner ts
-    us ← behind_sign mark.Close a.1
+    us ← after_sign mark.Close a.1
     Some (a.0, us)
 
   -- after CAST
   unfoldable pub cast : Reader Expr
   cast ts = do
-    us ← behind_sign mark.Open ts
+    us ← after_sign mark.Open ts
     a ← inner us
-    vs ← behind_key key.As a.1
+    vs ← after_key key.As a.1
     t ← first type_of vs
-    ws ← behind_sign mark.Close t.1
+    ws ← after_sign mark.Close t.1
     Some (e.Cast a.0 t.0, ws)
 
   -- after WHEN
   unfoldable pub when : Reader WhenText
   when ts = do
     c ← inner ts
-    us ← behind_key key.Then c.1
+    us ← after_key key.Then c.1
     r ← inner us
     Some (when_then c.0 r.0, r.1)
 
   unfoldable pub whens : Reader (List WhenText)
   whens ts = do
-    us ← behind_key key.When ts
-    list_of when (behind_key key.When) (length ts) us
+    us ← after_key key.When ts
+    list_of when (after_key key.When) (length ts) us
 
   abbrev pub operand_at : List Symbol → Option (List Symbol) → Option (Option Expr × List Symbol)
   operand_at ts (Some us) = Some (None, ts)
@@ -161,14 +161,14 @@ module _ (inner : Reader Expr) where
 
   -- after CASE, before WHEN
   unfoldable pub operand : Reader (Option Expr)
-  operand ts = operand_at ts (behind_key key.When ts)
+  operand ts = operand_at ts (after_key key.When ts)
 
   abbrev pub otherwise_at : List Symbol → Option (List Symbol) → Option (Option Expr × List Symbol)
   otherwise_at ts (Some us) = inner us >>= λ a. Some (Some a.0, a.1)
   otherwise_at ts None = Some (None, ts)
 
   unfoldable pub otherwise : Reader (Option Expr)
-  otherwise ts = otherwise_at ts (behind_key key.Else ts)
+  otherwise ts = otherwise_at ts (after_key key.Else ts)
 
   -- after CASE
   unfoldable pub case : Reader Expr
@@ -176,7 +176,7 @@ module _ (inner : Reader Expr) where
     x ← operand ts
     ws ← whens x.1
     y ← otherwise ws.1
-    us ← behind_key key.End y.1
+    us ← after_key key.End y.1
     Some (e.Case x.0 ws.0 y.0, us)
 
   -- after a reserved word
@@ -195,12 +195,12 @@ module _ (inner : Reader Expr) where
 
   -- after a name and `(`
   unfoldable pub arguments : Reader (Bool × List Expr)
-  arguments ts = arguments_at ts (behind_sign mark.Close ts) (behind_sign mark.Star ts)
+  arguments ts = arguments_at ts (after_sign mark.Close ts) (after_sign mark.Star ts)
 
   unfoldable pub call : List ℕ → Reader Expr
   call name ts = do
     x ← arguments ts
-    us ← behind_sign mark.Close x.1
+    us ← after_sign mark.Close x.1
     Some (e.Call name x.0.0 x.0.1, us)
 
   abbrev pub named_at : List ℕ → List Symbol → Option (List Symbol) → Option (List Symbol) → Option (Expr × List Symbol)
@@ -210,7 +210,7 @@ module _ (inner : Reader Expr) where
 
   -- after a name
   unfoldable pub named : List ℕ → Reader Expr
-  named name ts = named_at name ts (behind_sign mark.Open ts) (behind_sign mark.Dot ts)
+  named name ts = named_at name ts (after_sign mark.Open ts) (after_sign mark.Dot ts)
 
   abbrev pub primary_at : Symbol → Reader Expr
   primary_at (Key k) ts = keyed k ts
@@ -238,16 +238,16 @@ module _ (inner : Reader Expr) where
   unfoldable pub between : Bool → Expr → Reader Expr
   between negated a ts = do
     low ← sum ts
-    us ← behind_key key.And low.1
+    us ← after_key key.And low.1
     high ← sum us
     Some (e.Between negated a low.0 high.0, high.1)
 
   -- after an expression and IN
   unfoldable pub one_of : Bool → Expr → Reader Expr
   one_of negated a ts = do
-    us ← behind_sign mark.Open ts
+    us ← after_sign mark.Open ts
     es ← exprs us
-    vs ← behind_sign mark.Close es.1
+    vs ← after_sign mark.Close es.1
     Some (e.OneOf negated a es.0, vs)
 
   -- after an expression and its operator
@@ -268,7 +268,7 @@ module _ (inner : Reader Expr) where
 
   -- after an expression
   unfoldable pub tested : Expr → Reader Expr
-  tested a ts = tested_at a ts (first comparison_of ts) (behind_key key.Is ts)
+  tested a ts = tested_at a ts (first comparison_of ts) (after_key key.Is ts)
 
   unfoldable pub predicate : Reader Expr
   predicate ts = sum ts >>= λ a. tested a.0 a.1

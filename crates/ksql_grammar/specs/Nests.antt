@@ -4,7 +4,7 @@ use Rattle.std.specs.declared.alloc.Global.{Global}
 use Rattle.std.specs.Borrow.{Bor}
 use Rattle.ksql_grammar.specs.declared.fault.ReadError.{ReadError}
 use Rattle.ksql_grammar.specs.declared.symbol.Symbol.{Symbol}
-use Rattle.ksql_expressions.specs.declared.tree.Expr.{Expr}
+use Rattle.expression_trees.specs.declared.tree.Expr.{Expr}
 use Rattle.ksql_grammar.specs.Reading.{Gives, with_rest}
 use Rattle.ksql_grammar.specs.Expressions.{Reader, within}
 

@@ -1,7 +1,7 @@
 -- How the grammar reads a token: which words are reserved, and what is a name or a type.
 use Rattle.std.specs.Prelude.{◌≡◌, ℕ, List, [], ◌∷◌, Option, Some, None, option_map, if◌then◌else◌, bytes_eq, codes, map}
 use Rattle.std.specs.Str.Parse.{digits_value}
-use Rattle.ksql_expressions.specs.Words.{beside}
+use Rattle.expression_trees.specs.Words.{beside}
 use Rattle.ksql_types.specs.declared.value.SqlType.{SqlType}
 use Rattle.ksql_types.specs.declared.value.SqlType.TheVariants as sql
 use Rattle.ksql_types.specs.declared.operator.BinaryOp.{BinaryOp}

@@ -3,7 +3,7 @@
 
 ghost use Rattle.std.specs.Prelude.{◌≡◌, ◌≤◌, List, length, Some, IfOk};
 ghost use Rattle.std.specs.List.{prefix_len};
-ghost use Rattle.ksql_expressions.specs.declared.tree.Expr.{Expr as Tree};
+ghost use Rattle.expression_trees.specs.declared.tree.Expr.{Expr as Tree};
 ghost use Rattle.ksql_grammar.specs.declared.symbol.Symbol.{Symbol as OneSymbol};
 ghost use Rattle.ksql_grammar.specs.Symbols as spec;
 ghost use Rattle.ksql_grammar.specs.Grammar.{Spells, at, expr, exprs};
@@ -14,10 +14,10 @@ ghost use Rattle.ksql_grammar.specs.Nests.{Nests, ReadsAs};
 use crate::fault::ReadError;
 use crate::node;
 use crate::symbol::{
-    Keyword, Symbol, and_of, behind_key, behind_sign, comparison_of, is_not, is_sign, name_of,
+    Keyword, Symbol, and_of, after_key, after_sign, comparison_of, is_not, is_sign, name_of,
     or_of, product_of, sum_of, type_of,
 };
-use ksql_expressions::{Expr, ExprTexts, WhenText};
+use expression_trees::{Expr, ExprTexts, WhenText};
 use ksql_lexer::Mark;
 use ksql_types::{BinaryOp, Boxed, Chars, Items, SqlType};
 use std::alloc::{AllocError, Global};
@@ -44,7 +44,7 @@ fn operator(level: Level, symbol: &Symbol) -> Option<BinaryOp>
 
 /// An operator of the level, and the symbols after it.
 #[tactic(auto, unfolding(crate::specs::Expressions::first))]
-fn behind_operator(level: Level, symbols: &[Symbol]) -> Option<(BinaryOp, &[Symbol])>
+fn after_operator(level: Level, symbols: &[Symbol]) -> Option<(BinaryOp, &[Symbol])>
     ensures { option_with_rest result ≡ read.first (read.operator_at level) symbols.now }
 {
     let (symbol, rest) = symbols.split_first()?;
@@ -53,7 +53,7 @@ fn behind_operator(level: Level, symbols: &[Symbol]) -> Option<(BinaryOp, &[Symb
 
 /// The operator of a comparison, and the symbols after it.
 #[tactic(auto, unfolding(crate::specs::Expressions::first))]
-fn behind_comparison(symbols: &[Symbol]) -> Option<(BinaryOp, &[Symbol])>
+fn after_comparison(symbols: &[Symbol]) -> Option<(BinaryOp, &[Symbol])>
     ensures { option_with_rest result ≡ read.first spec.comparison_of symbols.now }
 {
     let (symbol, rest) = symbols.split_first()?;
@@ -62,7 +62,7 @@ fn behind_comparison(symbols: &[Symbol]) -> Option<(BinaryOp, &[Symbol])>
 
 /// A type, and the symbols after it.
 #[tactic(auto, unfolding(crate::specs::Expressions::first))]
-fn behind_type(symbols: &[Symbol]) -> Option<(SqlType, &[Symbol])>
+fn after_type(symbols: &[Symbol]) -> Option<(SqlType, &[Symbol])>
     ensures { option_with_rest result ≡ read.first spec.type_of symbols.now }
 {
     let (symbol, rest) = symbols.split_first()?;
@@ -74,7 +74,7 @@ fn behind_type(symbols: &[Symbol]) -> Option<(SqlType, &[Symbol])>
 fn negation(symbols: &[Symbol]) -> (bool, &[Symbol])
     ensures { with_rest result ≡ read.negation_at symbols.now }
 {
-    match behind_key(Keyword::Not, symbols) {
+    match after_key(Keyword::Not, symbols) {
         Some(rest) => (true, rest),
         None => (false, symbols),
     }
@@ -97,13 +97,13 @@ fn sign_count(symbols: &[Symbol]) -> usize
 }
 
 /// The expression after all of these prefixes.
-fn behind_all(alloc: Global, prefixes: &[Symbol], arg: Expr) -> Result<Expr, AllocError>
-    ensures { IfOk result (λ e. e ≡ read.behind_prefixes prefixes.now arg) }
+fn after_all(alloc: Global, prefixes: &[Symbol], arg: Expr) -> Result<Expr, AllocError>
+    ensures { IfOk result (λ e. e ≡ read.after_prefixes prefixes.now arg) }
 {
     let mut whole = arg;
     let mut left = prefixes;
     while let Some((last, others)) = left.split_last() {
-        whole = node::behind(alloc, last, whole)?;
+        whole = node::after(alloc, last, whole)?;
         left = others;
     }
     Ok(whole)
@@ -115,7 +115,7 @@ fn is_null(alloc: Global, arg: Expr, symbols: &[Symbol]) -> Result<(Expr, &[Symb
 {
     let arg = Boxed::of(alloc, arg)?;
     let (negated, rest) = negation(symbols);
-    let rest = behind_key(Keyword::Null, rest).ok_or(ReadError::Unspelled)?;
+    let rest = after_key(Keyword::Null, rest).ok_or(ReadError::Unspelled)?;
     Ok((Expr::IsNull { negated, arg }, rest))
 }
 
@@ -187,7 +187,7 @@ impl<F: for<'a> Fn(Global, usize, &'a [Symbol]) -> Result<(Expr, &'a [Symbol]), 
         ensures { Gives with_rest result (read.parens (read.within self.now.room) symbols.now) }
     {
         let (inner, rest) = self.inner(symbols)?;
-        let Some(rest) = behind_sign(Mark::Close, rest) else {
+        let Some(rest) = after_sign(Mark::Close, rest) else {
             drop(inner);
             return Err(ReadError::Unspelled);
         };
@@ -199,11 +199,11 @@ impl<F: for<'a> Fn(Global, usize, &'a [Symbol]) -> Result<(Expr, &'a [Symbol]), 
         requires { Nests self.now.room (F.pre self.now.reader) (F.post self.now.reader) }
         ensures { Gives with_rest result (read.cast (read.within self.now.room) symbols.now) }
     {
-        let rest = behind_sign(Mark::Open, symbols).ok_or(ReadError::Unspelled)?;
+        let rest = after_sign(Mark::Open, symbols).ok_or(ReadError::Unspelled)?;
         let (arg, rest) = self.boxed_inner(rest)?;
-        let rest = behind_key(Keyword::As, rest).ok_or(ReadError::Unspelled)?;
-        let (to, rest) = behind_type(rest).ok_or(ReadError::Unspelled)?;
-        let rest = behind_sign(Mark::Close, rest).ok_or(ReadError::Unspelled)?;
+        let rest = after_key(Keyword::As, rest).ok_or(ReadError::Unspelled)?;
+        let (to, rest) = after_type(rest).ok_or(ReadError::Unspelled)?;
+        let rest = after_sign(Mark::Close, rest).ok_or(ReadError::Unspelled)?;
         Ok((Expr::Cast { arg, to }, rest))
     }
 
@@ -216,7 +216,7 @@ impl<F: for<'a> Fn(Global, usize, &'a [Symbol]) -> Result<(Expr, &'a [Symbol]), 
         requires { Nests self.now.room (F.pre self.now.reader) (F.post self.now.reader) }
         ensures { Gives with_rest result (read.operand (read.within self.now.room) symbols.now) }
     {
-        if behind_key(Keyword::When, symbols).is_some() {
+        if after_key(Keyword::When, symbols).is_some() {
             return Ok((None, symbols));
         }
         let (arg, rest) = self.boxed_inner(symbols)?;
@@ -230,7 +230,7 @@ impl<F: for<'a> Fn(Global, usize, &'a [Symbol]) -> Result<(Expr, &'a [Symbol]), 
         ensures { Gives with_rest result (read.when (read.within self.now.room) symbols.now) }
     {
         let (cond, rest) = self.inner(symbols)?;
-        let rest = behind_key(Keyword::Then, rest).ok_or(ReadError::Unspelled)?;
+        let rest = after_key(Keyword::Then, rest).ok_or(ReadError::Unspelled)?;
         let (outcome, rest) = self.inner(rest)?;
         Ok((node::when(cond, outcome), rest))
     }
@@ -242,11 +242,11 @@ impl<F: for<'a> Fn(Global, usize, &'a [Symbol]) -> Result<(Expr, &'a [Symbol]), 
         ensures { Gives with_items result (read.whens (read.within self.now.room) symbols.now) }
     {
         let mut whens = Vec::new(self.alloc);
-        let mut rest = behind_key(Keyword::When, symbols).ok_or(ReadError::Unspelled)?;
+        let mut rest = after_key(Keyword::When, symbols).ok_or(ReadError::Unspelled)?;
         loop {
             let (when, behind) = self.when(rest)?;
             whens.push(when)?;
-            match behind_key(Keyword::When, behind) {
+            match after_key(Keyword::When, behind) {
                 Some(after) => rest = after,
                 None => return Ok((whens, behind)),
             }
@@ -262,7 +262,7 @@ impl<F: for<'a> Fn(Global, usize, &'a [Symbol]) -> Result<(Expr, &'a [Symbol]), 
         requires { Nests self.now.room (F.pre self.now.reader) (F.post self.now.reader) }
         ensures { Gives with_rest result (read.otherwise (read.within self.now.room) symbols.now) }
     {
-        let Some(rest) = behind_key(Keyword::Else, symbols) else {
+        let Some(rest) = after_key(Keyword::Else, symbols) else {
             return Ok((None, symbols));
         };
         let (otherwise, rest) = self.boxed_inner(rest)?;
@@ -277,7 +277,7 @@ impl<F: for<'a> Fn(Global, usize, &'a [Symbol]) -> Result<(Expr, &'a [Symbol]), 
         let (arg, rest) = self.case_operand(symbols)?;
         let (whens, rest) = self.whens(rest)?;
         let (otherwise, rest) = self.otherwise(rest)?;
-        let rest = behind_key(Keyword::End, rest).ok_or(ReadError::Unspelled)?;
+        let rest = after_key(Keyword::End, rest).ok_or(ReadError::Unspelled)?;
         Ok((node::case(arg, whens, otherwise), rest))
     }
 
@@ -311,7 +311,7 @@ impl<F: for<'a> Fn(Global, usize, &'a [Symbol]) -> Result<(Expr, &'a [Symbol]), 
         loop {
             let (expr, behind) = self.inner(rest)?;
             exprs.push(expr)?;
-            match behind_sign(Mark::Comma, behind) {
+            match after_sign(Mark::Comma, behind) {
                 Some(after) => rest = after,
                 None => return Ok((exprs, behind)),
             }
@@ -327,10 +327,10 @@ impl<F: for<'a> Fn(Global, usize, &'a [Symbol]) -> Result<(Expr, &'a [Symbol]), 
         requires { Nests self.now.room (F.pre self.now.reader) (F.post self.now.reader) }
         ensures { Gives read.with_arguments result (read.arguments (read.within self.now.room) symbols.now) }
     {
-        if behind_sign(Mark::Close, symbols).is_some() {
+        if after_sign(Mark::Close, symbols).is_some() {
             return Ok(((false, Vec::new(self.alloc)), symbols));
         }
-        if let Some(rest) = behind_sign(Mark::Star, symbols) {
+        if let Some(rest) = after_sign(Mark::Star, symbols) {
             return Ok(((true, Vec::new(self.alloc)), rest));
         }
         let (args, rest) = self.expressions(symbols)?;
@@ -347,7 +347,7 @@ impl<F: for<'a> Fn(Global, usize, &'a [Symbol]) -> Result<(Expr, &'a [Symbol]), 
         ensures { Gives with_rest result (read.call (read.within self.now.room) name.now symbols.now) }
     {
         let ((star, args), rest) = self.arguments(symbols)?;
-        let rest = behind_sign(Mark::Close, rest).ok_or(ReadError::Unspelled)?;
+        let rest = after_sign(Mark::Close, rest).ok_or(ReadError::Unspelled)?;
         Ok((node::call(self.alloc, name, star, args)?, rest))
     }
 
@@ -361,10 +361,10 @@ impl<F: for<'a> Fn(Global, usize, &'a [Symbol]) -> Result<(Expr, &'a [Symbol]), 
         requires { Nests self.now.room (F.pre self.now.reader) (F.post self.now.reader) }
         ensures { Gives with_rest result (read.named (read.within self.now.room) name.now symbols.now) }
     {
-        if let Some(rest) = behind_sign(Mark::Open, symbols) {
+        if let Some(rest) = after_sign(Mark::Open, symbols) {
             return self.call(name, rest);
         }
-        if let Some(rest) = behind_sign(Mark::Dot, symbols) {
+        if let Some(rest) = after_sign(Mark::Dot, symbols) {
             return qualified(self.alloc, name, rest);
         }
         Ok((node::name(self.alloc, name)?, symbols))
@@ -394,7 +394,7 @@ impl<F: for<'a> Fn(Global, usize, &'a [Symbol]) -> Result<(Expr, &'a [Symbol]), 
     {
         let count = sign_count(symbols);
         let (arg, rest) = self.primary(&symbols[count..])?;
-        Ok((behind_all(self.alloc, &symbols[..count], arg)?, rest))
+        Ok((after_all(self.alloc, &symbols[..count], arg)?, rest))
     }
 
     /// Operands of a level with its operators between them, from the left.
@@ -411,7 +411,7 @@ impl<F: for<'a> Fn(Global, usize, &'a [Symbol]) -> Result<(Expr, &'a [Symbol]), 
         ensures { Gives with_rest result (read.chain (read.operator_at level) (read.operand_of (read.within self.now.room) level) symbols.now) }
     {
         let (mut left, mut rest) = operand(self, symbols)?;
-        while let Some((op, after)) = behind_operator(level, rest) {
+        while let Some((op, after)) = after_operator(level, rest) {
             let boxed = Boxed::of(self.alloc, left)?;
             let (right, behind) = operand(self, after)?;
             left = node::binary(self.alloc, op, boxed, right)?;
@@ -457,7 +457,7 @@ impl<F: for<'a> Fn(Global, usize, &'a [Symbol]) -> Result<(Expr, &'a [Symbol]), 
     {
         let arg = Boxed::of(self.alloc, arg)?;
         let (low, rest) = self.boxed_sum(symbols)?;
-        let rest = behind_key(Keyword::And, rest).ok_or(ReadError::Unspelled)?;
+        let rest = after_key(Keyword::And, rest).ok_or(ReadError::Unspelled)?;
         let (high, rest) = self.boxed_sum(rest)?;
         Ok((node::between(negated, arg, low, high), rest))
     }
@@ -473,9 +473,9 @@ impl<F: for<'a> Fn(Global, usize, &'a [Symbol]) -> Result<(Expr, &'a [Symbol]), 
         ensures { Gives with_rest result (read.one_of (read.within self.now.room) negated arg symbols.now) }
     {
         let arg = Boxed::of(self.alloc, arg)?;
-        let rest = behind_sign(Mark::Open, symbols).ok_or(ReadError::Unspelled)?;
+        let rest = after_sign(Mark::Open, symbols).ok_or(ReadError::Unspelled)?;
         let (choices, rest) = self.expressions(rest)?;
-        let rest = behind_sign(Mark::Close, rest).ok_or(ReadError::Unspelled)?;
+        let rest = after_sign(Mark::Close, rest).ok_or(ReadError::Unspelled)?;
         Ok((node::one_of(negated, arg, choices), rest))
     }
 
@@ -526,10 +526,10 @@ impl<F: for<'a> Fn(Global, usize, &'a [Symbol]) -> Result<(Expr, &'a [Symbol]), 
         requires { Nests self.now.room (F.pre self.now.reader) (F.post self.now.reader) }
         ensures { Gives with_rest result (read.tested (read.within self.now.room) arg symbols.now) }
     {
-        if let Some((op, rest)) = behind_comparison(symbols) {
+        if let Some((op, rest)) = after_comparison(symbols) {
             return self.compared(arg, op, rest);
         }
-        if let Some(rest) = behind_key(Keyword::Is, symbols) {
+        if let Some(rest) = after_key(Keyword::Is, symbols) {
             return is_null(self.alloc, arg, rest);
         }
         let (negated, rest) = negation(symbols);
@@ -554,7 +554,7 @@ impl<F: for<'a> Fn(Global, usize, &'a [Symbol]) -> Result<(Expr, &'a [Symbol]), 
     {
         let count = not_count(symbols);
         let (arg, rest) = self.predicate(&symbols[count..])?;
-        Ok((behind_all(self.alloc, &symbols[..count], arg)?, rest))
+        Ok((after_all(self.alloc, &symbols[..count], arg)?, rest))
     }
 
     #[tactic(auto, unfolding(crate::specs::Expressions::conjunction))]

@@ -9,4 +9,4 @@ mod word;
 
 pub use expression::{one_expression, read_expression, read_expressions};
 pub use fault::ReadError;
-pub use symbol::{Keyword, Symbol, behind_key, behind_sign, name_of, type_of};
+pub use symbol::{Keyword, Symbol, after_key, after_sign, name_of, type_of};

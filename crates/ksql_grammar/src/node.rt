@@ -2,10 +2,10 @@
 
 ghost use Rattle.std.specs.Prelude.{◌≡◌, IfOk, List, Option};
 ghost use Rattle.ksql_grammar.specs.Grammar.{when_then};
-ghost use Rattle.ksql_grammar.specs.Expressions.{behind_prefix};
+ghost use Rattle.ksql_grammar.specs.Expressions.{after_prefix};
 
 use crate::symbol::{Keyword, Symbol};
-use ksql_expressions::{Expr, WhenText};
+use expression_trees::{Expr, WhenText};
 use ksql_lexer::Mark;
 use ksql_types::{BinaryOp, Boxed, Chars, CopyOf, Items};
 use std::alloc::{AllocError, Global};
@@ -23,8 +23,8 @@ pub fn binary(
 }
 
 /// The expression after NOT or a sign.
-pub fn behind(alloc: Global, prefix: &Symbol, arg: Expr) -> Result<Expr, AllocError>
-    ensures { IfOk result (λ e. e ≡ behind_prefix prefix.now arg) }
+pub fn after(alloc: Global, prefix: &Symbol, arg: Expr) -> Result<Expr, AllocError>
+    ensures { IfOk result (λ e. e ≡ after_prefix prefix.now arg) }
 {
     let arg = Boxed::of(alloc, arg)?;
     match prefix {

@@ -70,9 +70,9 @@ pub enum Symbol {
 }
 
 /// The symbols after this reserved word.
-#[tactic(auto, unfolding(crate::specs::Expressions::behind_key))]
-pub fn behind_key(key: Keyword, symbols: &[Symbol]) -> Option<&[Symbol]>
-    ensures { option_copied result ≡ read.behind_key key symbols.now }
+#[tactic(auto, unfolding(crate::specs::Expressions::after_key))]
+pub fn after_key(key: Keyword, symbols: &[Symbol]) -> Option<&[Symbol]>
+    ensures { option_copied result ≡ read.after_key key symbols.now }
 {
     match symbols {
         [Symbol::Key(found), rest @ ..] if *found == key => Some(rest),
@@ -81,9 +81,9 @@ pub fn behind_key(key: Keyword, symbols: &[Symbol]) -> Option<&[Symbol]>
 }
 
 /// The symbols after this sign.
-#[tactic(auto, unfolding(crate::specs::Expressions::behind_sign))]
-pub fn behind_sign(sign: Mark, symbols: &[Symbol]) -> Option<&[Symbol]>
-    ensures { option_copied result ≡ read.behind_sign sign symbols.now }
+#[tactic(auto, unfolding(crate::specs::Expressions::after_sign))]
+pub fn after_sign(sign: Mark, symbols: &[Symbol]) -> Option<&[Symbol]>
+    ensures { option_copied result ≡ read.after_sign sign symbols.now }
 {
     match symbols {
         [Symbol::Sign(found), rest @ ..] if *found == sign => Some(rest),

@@ -1,7 +1,7 @@
 //! Words of the grammar.
 
 ghost use Rattle.std.specs.Prelude.{◌≡◌};
-ghost use Rattle.ksql_expressions.specs.Words.{beside};
+ghost use Rattle.expression_trees.specs.Words.{beside};
 ghost use Rattle.ksql_grammar.specs.Symbols as spec;
 
 use ksql_types::SqlType;

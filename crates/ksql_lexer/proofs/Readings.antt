@@ -12,7 +12,7 @@ use Rattle.ksql_lexer.specs.declared.token.TokenKind.{TokenKind}
 use Rattle.ksql_lexer.specs.declared.token.TokenKind.TheVariants as kind
 use Rattle.ksql_lexer.specs.Piece.{Spelled, IsPassedOver, Longest, BeginsNothing, doubled}
 use Rattle.ksql_lexer.specs.Place.{class_of, pair_mark, single_mark}
-use Rattle.ksql_lexer.specs.Script.{Lexes, done, skip, next, statement_behind, AreNumbered, kinds, AreTokens, BreaksIn, IsReading, Answers}
+use Rattle.ksql_lexer.specs.Script.{Lexes, done, skip, next, statement_after, AreNumbered, kinds, AreTokens, BreaksIn, IsReading, Answers}
 use Rattle.ksql_lexer.proofs.Runs.{head_same, tail_same, same_split}
 use Rattle.ksql_lexer.proofs.Doubled.{doubled_same}
 use Rattle.ksql_lexer.proofs.Classes.{fits, first_fits, spelled_first, nothing_begins_nil, blank_class}
@@ -174,7 +174,7 @@ one_list text ts us a b = numbered_same [] ts us (one_lexing a.lexes b.lexes not
 pub one_fault : (text : List ℕ) (s n : ℕ) → BreaksIn text s → BreaksIn text n → s ≡ n
 one_fault text s n a b =
     let same = one_lexing a.2.lexes b.2.lexes a.2.nothing b.2.nothing in
-    a.3 ∙ ap statement_behind same.0 ∙ sym b.3
+    a.3 ∙ ap statement_after same.0 ∙ sym b.3
 
 pub not_both : (text : List ℕ) (ts : List Token) (s : ℕ) → AreTokens text ts → BreaksIn text s → ⊥
 not_both text ts s a b = b.2.more (sym (one_lexing a.lexes b.2.lexes nothing_begins_nil b.2.nothing).1)

@@ -6,7 +6,7 @@ use Rattle.ksql_lexer.specs.declared.token.Token.{Token}
 use Rattle.ksql_lexer.specs.declared.token.TokenKind.{TokenKind}
 use Rattle.ksql_lexer.specs.Piece.{Longest}
 use Rattle.ksql_lexer.specs.Place.{NoneCloses}
-use Rattle.ksql_lexer.specs.Script.{Lexes, done, skip, next, is_semicolon, ended_from, statement_behind, AreNumbered, kinds}
+use Rattle.ksql_lexer.specs.Script.{Lexes, done, skip, next, is_semicolon, ended_from, statement_after, AreNumbered, kinds}
 use Rattle.ksql_lexer.specs.Numbering.{moved}
 use Rattle.ksql_lexer.proofs.Classes.{spelled_first, first_fits}
 use Rattle.ksql_lexer.proofs.Places.{none_closes_rest}
@@ -47,15 +47,15 @@ ended_push : (b : Bool) (ks : List TokenKind) (k : TokenKind) → ended_from b (
 ended_push b [] k = ended_one (is_semicolon k) b
 ended_push b (x ∷ ks) k = ended_step (is_semicolon x) (cond b 1 0) k ks (ended_push false ks k) (ended_push true ks k)
 
-numbered_push : (before : List TokenKind) (ts : List Token) (t : Token) → AreNumbered before ts → t.statement ≡ statement_behind (before ++ kinds ts) → AreNumbered before (ts ++ t ∷ [])
-numbered_push before [] t a e = (e ∙ ap statement_behind (append-nil before), tt)
-numbered_push before (x ∷ ts) t a e = (a.0, numbered_push (before ++ x.kind ∷ []) ts t a.1 (e ∙ ap statement_behind (sym (append_assoc before (x.kind ∷ []) (kinds ts)))))
+numbered_push : (before : List TokenKind) (ts : List Token) (t : Token) → AreNumbered before ts → t.statement ≡ statement_after (before ++ kinds ts) → AreNumbered before (ts ++ t ∷ [])
+numbered_push before [] t a e = (e ∙ ap statement_after (append-nil before), tt)
+numbered_push before (x ∷ ts) t a e = (a.0, numbered_push (before ++ x.kind ∷ []) ts t a.1 (e ∙ ap statement_after (sym (append_assoc before (x.kind ∷ []) (kinds ts)))))
 
 -- the script is these tokens up to the rest, of which the next has this number
 pub record Reached (text rest : List ℕ) (ts : List Token) (at : Numbering) (closes : Bool) : Type 0 where
   pub lexes : Lexes text (kinds ts) rest
   pub numbered : AreNumbered [] ts
-  pub statement : at.statement ≡ statement_behind (kinds ts)
+  pub statement : at.statement ≡ statement_after (kinds ts)
   pub begun : at.begun ≡ begun_from false (kinds ts)
   pub bound : at.statement + length rest ≤ 1 + length text
   pub open_ends : closes ≡ false → NoneCloses rest
@@ -111,7 +111,7 @@ reached_next text rest behind ts at closes later k t r c l kind_is statement_is 
           ∙ (λ i. r.statement i + one_more (is_semicolon k) (r.begun i))
           ∙ add_assoc 1 (ended_from false (kinds ts)) (one_more (is_semicolon k) (begun_from false (kinds ts)))
           ∙ ap (λ n. 1 + n) (sym (ended_push false (kinds ts) k))
-          ∙ ap statement_behind (sym kinds_are);
+          ∙ ap statement_after (sym kinds_are);
       begun = sym (ap (begun_from false) kinds_are ∙ begun_push false (kinds ts) k);
       bound = omega (arith, r.bound, longest_less rest behind (Some k) l, moved_bound (is_semicolon k) at.begun at.statement);
       open_ends = λ f. none_closes_rest rest l.begins.front behind l.begins.whole (c f);

@@ -26,13 +26,13 @@ ended_from begun [] = 0
 ended_from begun (k ∷ ks) = if is_semicolon k then (if begun then 1 else 0) + ended_from false ks else ended_from true ks
 
 -- the number of the statement that comes after these tokens: one more than that of the non-empty lists that ended by `;`
-abbrev pub statement_behind : List TokenKind → ℕ
-statement_behind ks = 1 + ended_from false ks
+abbrev pub statement_after : List TokenKind → ℕ
+statement_after ks = 1 + ended_from false ks
 
 -- each token has the number of its statement, where the tokens before came first
 abbrev pub AreNumbered : List TokenKind → List Token → Type 0
 AreNumbered before [] = Unit {0}
-AreNumbered before (t ∷ ts) = (t.statement ≡ statement_behind before) × AreNumbered (before ++ t.kind ∷ []) ts
+AreNumbered before (t ∷ ts) = (t.statement ≡ statement_after before) × AreNumbered (before ++ t.kind ∷ []) ts
 
 -- what the tokens are, without their numbers
 abbrev pub kinds : List Token → List TokenKind
@@ -51,7 +51,7 @@ pub record Breaks (text : List ℕ) (ks : List TokenKind) (place : List ℕ) : T
 
 -- the first such place is in this statement
 abbrev pub BreaksIn : List ℕ → ℕ → Type 0
-BreaksIn text s = (ks : List TokenKind) × (place : List ℕ) × Breaks text ks place × (s ≡ statement_behind ks)
+BreaksIn text s = (ks : List TokenKind) × (place : List ℕ) × Breaks text ks place × (s ≡ statement_after ks)
 
 -- an answer is so: the text's tokens, or the statement of its first bad place
 abbrev pub IsReading : List ℕ → Result (Vec Token) LexFault → Type 0

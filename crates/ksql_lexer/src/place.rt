@@ -94,7 +94,7 @@ fn read_text(alloc: Global, text: &str) -> Result<Option<Found<'_>>, AllocError>
 }
 
 // Where no `*/` follows a `/*`, `closes` becomes false, so that no later `/*` looks for one.
-fn behind_comment<'a>(text: &'a str, closes: &mut bool) -> Option<&'a str>
+fn after_comment<'a>(text: &'a str, closes: &mut bool) -> Option<&'a str>
     requires { closes.old ≡ false → NoneCloses text.now }
     ensures closes { closes.new ≡ false → NoneCloses text.now }
     ensures comment { MatchOption result (NoComment text.now) (λ rest. Longest text.now None rest.now) }
@@ -122,7 +122,7 @@ fn read_other<'a>(text: &'a str, closes: &mut bool) -> Option<Found<'a>>
     ensures closes { closes.new ≡ false → NoneCloses text.now }
     ensures found { Stands text.now result }
 {
-    if let Some(rest) = behind_comment(text, closes) {
+    if let Some(rest) = after_comment(text, closes) {
         return Some(Found { kind: None, rest });
     }
     let (mark, rest) = mark_at(text)?;

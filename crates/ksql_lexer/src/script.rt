@@ -24,7 +24,7 @@ fn is_semicolon(kind: &TokenKind) -> bool
 
 impl Numbering {
     // After a token.
-    fn behind(self, kind: &TokenKind) -> Numbering
+    fn after(self, kind: &TokenKind) -> Numbering
         requires { self.statement < 2 ^ 31 }
         ensures { result ≡ moved self kind.now }
     {
@@ -61,13 +61,13 @@ fn read_script(alloc: Global, text: &str) -> Result<Vec<Token>, LexFault>
             }
             Err(_) => return Err(LexFault::OutOfMemory),
         };
-        let Found { kind, rest: behind } = found;
-        rest = behind;
+        let Found { kind, rest: after } = found;
+        rest = after;
         let Some(kind) = kind else {
             continue;
         };
         let statement = at.statement;
-        at = at.behind(&kind);
+        at = at.after(&kind);
         tokens.push(Token { kind, statement })?;
     }
     Ok(tokens)

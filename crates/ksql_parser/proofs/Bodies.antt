@@ -5,13 +5,13 @@ use Rattle.ksql_lexer.specs.declared.token.Mark.TheVariants as mark
 use Rattle.ksql_grammar.specs.declared.symbol.Keyword.TheVariants as key
 use Rattle.ksql_grammar.specs.declared.symbol.Symbol.{Symbol}
 use Rattle.ksql_grammar.specs.declared.symbol.Symbol.TheVariants.{Key, Sign}
-use Rattle.ksql_statements.specs.declared.tree.ColumnText.{ColumnText}
-use Rattle.ksql_statements.specs.declared.tree.Property.{Property}
-use Rattle.ksql_statements.specs.declared.tree.StatementBody.{StatementBody}
-use Rattle.ksql_statements.specs.declared.tree.StatementBody.TheVariants.{Declared, Query}
+use Rattle.statement_trees.specs.declared.tree.ColumnText.{ColumnText}
+use Rattle.statement_trees.specs.declared.tree.Property.{Property}
+use Rattle.statement_trees.specs.declared.tree.StatementBody.{StatementBody}
+use Rattle.statement_trees.specs.declared.tree.StatementBody.TheVariants.{Declared, Query}
 use Rattle.ksql_parser.specs.Grammar as g
 use Rattle.ksql_parser.specs.Grammar.{Spells}
-use Rattle.ksql_grammar.specs.Expressions.{behind_key}
+use Rattle.ksql_grammar.specs.Expressions.{after_key}
 use Rattle.ksql_parser.specs.Statements.{SpellsDeclared}
 use Rattle.ksql_parser.proofs.Steps.{behind}
 use Rattle.ksql_grammar.proofs.Steps.{key_there}
@@ -27,10 +27,10 @@ props_parts ps ts us (g.all_props {ts = vs} d) = (vs, refl, d)
 pub with_there : (ps : List Property) (ts us rest end : List Symbol) → ts ≡ Key key.With ∷ us → end ≡ Key key.As ∷ rest → Spells (g.with_props ps) ts end → Spells (g.props ps) us end
 with_there ps ts us rest end h e g.no_props = absurd (cc)
 with_there ps ts us rest end h e (g.some_props {ts = vs} d) =
-    behind (sym (key_read key.With (Key key.With ∷ vs) vs us refl (ap (behind_key key.With) h ∙ key_there key.With us))) d
+    behind (sym (key_read key.With (Key key.With ∷ vs) vs us refl (ap (after_key key.With) h ∙ key_there key.With us))) d
 
 -- without WITH none do
-pub with_absent : (ps found : List Property) (ts end : List Symbol) → found ≡ [] → None ≡ behind_key key.With ts → Spells (g.with_props ps) ts end
+pub with_absent : (ps found : List Property) (ts end : List Symbol) → found ≡ [] → None ≡ after_key key.With ts → Spells (g.with_props ps) ts end
     → both ps end ≡ both found ts
 with_absent ps found ts end e h g.no_props = ap (λ qs. both qs ts) (sym e)
 with_absent ps found ts end e h (g.some_props {ts = vs} d) = absurd (none-some vs (h ∙ key_there key.With vs))

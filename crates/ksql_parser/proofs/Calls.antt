@@ -8,13 +8,13 @@ use Rattle.ksql_grammar.specs.declared.fault.ReadError.TheVariants.{Unspelled, O
 use Rattle.ksql_grammar.specs.Reading.{Gives}
 
 -- after the first symbol
-pub behind_one : List Symbol → List Symbol
-behind_one [] = []
-behind_one (s ∷ ts) = ts
+pub after_one : List Symbol → List Symbol
+after_one [] = []
+after_one (s ∷ ts) = ts
 
 pub same_tail : (s t : Symbol) (ts us : List Symbol) → s ∷ ts ≡ t ∷ us → ts ≡ us
-unfolding behind_one
-same_tail s t ts us e = ap behind_one e
+unfolding after_one
+same_tail s t ts us e = ap after_one e
 
 -- a call failed out of memory, where its reader reads something
 pub failed_at : {A B X Y : Type 0} (seen : X → A) (other : Y → B) (e : ReadError) (read : Option A) (a : A) (b : B)

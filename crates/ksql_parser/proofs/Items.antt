@@ -6,19 +6,19 @@ use Rattle.ksql_lexer.specs.declared.token.Mark.TheVariants as mark
 use Rattle.ksql_grammar.specs.declared.symbol.Keyword.TheVariants as key
 use Rattle.ksql_grammar.specs.declared.symbol.Symbol.{Symbol}
 use Rattle.ksql_grammar.specs.declared.symbol.Symbol.TheVariants.{Key, Word, Quoted, Text, Number, Sign}
-use Rattle.ksql_expressions.specs.declared.tree.Expr.{Expr}
-use Rattle.ksql_statements.specs.declared.tree.SelectItem.{SelectItem}
-use Rattle.ksql_statements.specs.declared.tree.SelectItem.TheVariants.{Star, StarOf, One}
+use Rattle.expression_trees.specs.declared.tree.Expr.{Expr}
+use Rattle.statement_trees.specs.declared.tree.SelectItem.{SelectItem}
+use Rattle.statement_trees.specs.declared.tree.SelectItem.TheVariants.{Star, StarOf, One}
 use Rattle.ksql_grammar.specs.Symbols.{name_of, or_of, and_of, sum_of, product_of}
 use Rattle.ksql_parser.specs.Grammar as g
 use Rattle.ksql_grammar.specs.Grammar.{Spells as SpellsExpr, at, expr}
 use Rattle.ksql_parser.specs.Grammar.{Spells}
 use Rattle.ksql_grammar.specs.Reading.{goes_on, EndsExpr}
-use Rattle.ksql_grammar.specs.Expressions.{Reader, behind_sign, first, is_not, is_sign}
-use Rattle.ksql_expressions.specs.Options.{◌>>=◌}
+use Rattle.ksql_grammar.specs.Expressions.{Reader, after_sign, first, is_not, is_sign}
+use Rattle.expression_trees.specs.Options.{◌>>=◌}
 use Rattle.ksql_grammar.specs.Expressions as e
 use Rattle.ksql_grammar.proofs.Takes.{takes}
-use Rattle.ksql_grammar.proofs.Found.{behind as behind_expr}
+use Rattle.ksql_grammar.proofs.Found.{behind as after_expr}
 use Rattle.ksql_grammar.proofs.Begins.{begins, name_begins}
 use Rattle.ksql_grammar.proofs.Ends.{Rest, primary_no_sign, primary_begins_unary, unary_no_not}
 use Rattle.ksql_grammar.proofs.Chains.{chain_empty, prefixed_none}
@@ -43,7 +43,7 @@ qualified_fails qualifier ts = refl
 named_fails : (inner : Reader Expr) (qualifier : List ℕ) (ts : List Symbol) → e.named inner qualifier (dot_star ts) ≡ None
 unfolding e.named
 named_fails inner qualifier ts =
-    ap (λ o. e.named_at inner qualifier (dot_star ts) o (behind_sign mark.Dot (dot_star ts))) (sign_out mark.Open (λ s. s ≡ Sign mark.Dot) (dot_star ts) refl (λ e. cc))
+    ap (λ o. e.named_at inner qualifier (dot_star ts) o (after_sign mark.Dot (dot_star ts))) (sign_out mark.Open (λ s. s ≡ Sign mark.Dot) (dot_star ts) refl (λ e. cc))
     ∙ ap (λ o. e.named_at inner qualifier (dot_star ts) None o) (sign_there mark.Dot (Sign mark.Star ∷ ts))
     ∙ qualified_fails qualifier ts
 
@@ -127,15 +127,15 @@ star_of_at : (ts : List Symbol) → If (r.star_of ts) (StarOfAt ts)
 unfolding r.star_of
 star_of_at ts =
     if_bind (first name_of ts) _ (First name_of ts) _ (first_found name_of ts) (λ n h.
-    if_bind (behind_sign mark.Dot n.1) _ (λ us. n.1 ≡ Sign mark.Dot ∷ us) _ (sign_found mark.Dot n.1) (λ us k.
-    if_bind (behind_sign mark.Star us) _ (λ vs. us ≡ Sign mark.Star ∷ vs) _ (sign_found mark.Star us) (λ vs m.
+    if_bind (after_sign mark.Dot n.1) _ (λ us. n.1 ≡ Sign mark.Dot ∷ us) _ (sign_found mark.Dot n.1) (λ us k.
+    if_bind (after_sign mark.Star us) _ (λ vs. us ≡ Sign mark.Star ∷ vs) _ (sign_found mark.Star us) (λ vs m.
     (h.0, h.1 ∙ ap (λ x. h.0 ∷ x) k ∙ ap (λ x. h.0 ∷ Sign mark.Dot ∷ x) m, h.2))))
 
 star_of_there : (n : Symbol) (name : List ℕ) (ts : List Symbol) → name_of n ≡ Some name → r.star_of (n ∷ dot_star ts) ≡ both name ts
 unfolding r.star_of
 star_of_there n name ts h =
-    bind_is (λ m. behind_sign mark.Dot m.1 >>= λ us. behind_sign mark.Star us >>= λ vs. both m.0 vs) (first_there name_of n (dot_star ts) name h)
-    (bind_is (λ us. behind_sign mark.Star us >>= λ vs. both name vs) (sign_there mark.Dot (Sign mark.Star ∷ ts))
+    bind_is (λ m. after_sign mark.Dot m.1 >>= λ us. after_sign mark.Star us >>= λ vs. both m.0 vs) (first_there name_of n (dot_star ts) name h)
+    (bind_is (λ us. after_sign mark.Star us >>= λ vs. both name vs) (sign_there mark.Dot (Sign mark.Star ∷ ts))
     (bind_is (λ vs. both name vs) (sign_there mark.Star ts) refl))
 
 no_star : (ts us rest : List Symbol) (name : List ℕ) → r.star_of ts ≡ both name us → ts ≡ Sign mark.Star ∷ rest → ⊥
@@ -150,7 +150,7 @@ no_star_of a n name ts us h d ends =
 pub item_star : (i : SelectItem) (ts us rest : List Symbol) → ts ≡ Sign mark.Star ∷ us → Spells (g.item i) ts rest → both i rest ≡ both Star us
 item_star i ts us rest e g.star = ap (both Star) (same_tail (Sign mark.Star) (Sign mark.Star) rest us e)
 item_star i ts us rest e (g.star_of {n} {name} h) = absurd (no_name n name (dot_star rest) us e h)
-item_star i ts us rest e (g.one {a} {us = vs} d f) = absurd (no_expr a us vs (behind_expr (sym e) d))
+item_star i ts us rest e (g.one {a} {us = vs} d f) = absurd (no_expr a us vs (after_expr (sym e) d))
 
 pub item_star_of : (i : SelectItem) (ts us rest : List Symbol) (name : List ℕ) → r.star_of ts ≡ both name us → EndsItem rest → Spells (g.item i) ts rest → both i rest ≡ both (StarOf name) us
 item_star_of i ts us rest name h b g.star = absurd (no_star ts us rest name h refl)
@@ -159,13 +159,13 @@ item_star_of i ts us rest name h b (g.star_of {n} {name = other} e) =
     (λ j. both (StarOf (same.0 j)) (same.1 j))
 item_star_of i ts us rest name h b (g.one {a} {n} {us = vs} d f) =
     let w = if_some (r.star_of ts) (StarOfAt ts) (name, us) (star_of_at ts) h in
-    absurd (no_star_of a w.0 name us vs w.2 (behind_expr (sym w.1) d) (alias_ends n vs rest f b))
+    absurd (no_star_of a w.0 name us vs w.2 (after_expr (sym w.1) d) (alias_ends n vs rest f b))
 
 -- an expression, and its alias
 abbrev pub HasOne : SelectItem → List Symbol → List Symbol → Type 0
 HasOne i ts rest = (a : Expr) × (n : Option (List ℕ)) × (us : List Symbol) × (i ≡ One a n) × SpellsExpr (at expr a) ts us × EndsExpr us × (r.alias us ≡ both n rest)
 
-pub item_one : (i : SelectItem) (ts rest : List Symbol) → EndsItem rest → behind_sign mark.Star ts ≡ None → r.star_of ts ≡ None → Spells (g.item i) ts rest → HasOne i ts rest
+pub item_one : (i : SelectItem) (ts rest : List Symbol) → EndsItem rest → after_sign mark.Star ts ≡ None → r.star_of ts ≡ None → Spells (g.item i) ts rest → HasOne i ts rest
 item_one i ts rest b h k g.star = absurd (none-some rest (sym h ∙ sign_there mark.Star rest))
 item_one i ts rest b h k (g.star_of {n} {name} e) = absurd (none-some (name, rest) (sym k ∙ star_of_there n name rest e))
 item_one i ts rest b h k (g.one {a} {n} {us} d f) = (a, n, us, refl, d, alias_ends n us rest f b, alias_only n us rest f (ends_alias rest b))
@@ -231,16 +231,16 @@ only_more front i ts us whole h only = λ is rest d.
     let q = first_more p.0 i ts us (Key key.From ∷ rest) rest refl only p.2 in
     (q.0, p.1 ∙ ap (λ xs. front ++ xs) q.1 ∙ sym (append_assoc front (i ∷ []) q.0), q.2)
 
-last_only : (is : List SelectItem) (i : SelectItem) (ts us vs rest : List Symbol) → vs ≡ Key key.From ∷ rest → behind_sign mark.Comma us ≡ None → OnlyItem ts i us → Spells (g.items is) ts vs
+last_only : (is : List SelectItem) (i : SelectItem) (ts us vs rest : List Symbol) → vs ≡ Key key.From ∷ rest → after_sign mark.Comma us ≡ None → OnlyItem ts i us → Spells (g.items is) ts vs
     → (is ≡ i ∷ []) × (vs ≡ us)
 last_only is i ts us vs rest e none only (g.last_item {i = j} d) =
     let same = some_pair_parts j i vs us (only j vs d (from_ends vs rest e)) in
     (ap (λ x. x ∷ []) same.0, same.1)
 last_only is i ts us vs rest e none only (g.more_items {i = j} {us = ws} d f) =
     let same = some_pair_parts j i (Sign mark.Comma ∷ ws) us (only j (Sign mark.Comma ∷ ws) d refl) in
-    absurd (none-some ws (sym none ∙ ap (behind_sign mark.Comma) (sym same.1) ∙ sign_there mark.Comma ws))
+    absurd (none-some ws (sym none ∙ ap (after_sign mark.Comma) (sym same.1) ∙ sign_there mark.Comma ws))
 
-pub only_last : (front is : List SelectItem) (i : SelectItem) (ts us whole rest : List Symbol) → FrontOnly front ts whole → behind_sign mark.Comma us ≡ None → OnlyItem ts i us
+pub only_last : (front is : List SelectItem) (i : SelectItem) (ts us whole rest : List Symbol) → FrontOnly front ts whole → after_sign mark.Comma us ≡ None → OnlyItem ts i us
     → Spells (g.items is) whole (Key key.From ∷ rest) → both is (Key key.From ∷ rest) ≡ both (front ++ i ∷ []) us
 only_last front is i ts us whole rest h none only d =
     let p = h is rest d in

@@ -8,21 +8,21 @@ use Rattle.ksql_grammar.specs.declared.symbol.Keyword.{Keyword}
 use Rattle.ksql_grammar.specs.declared.symbol.Keyword.TheVariants as key
 use Rattle.ksql_grammar.specs.declared.symbol.Symbol.{Symbol}
 use Rattle.ksql_grammar.specs.declared.symbol.Symbol.TheVariants.{Key, Word, Quoted, Text, Number, Sign}
-use Rattle.ksql_expressions.specs.declared.tree.Expr.{Expr}
-use Rattle.ksql_statements.specs.declared.tree.Source.{Source}
-use Rattle.ksql_statements.specs.declared.tree.JoinText.{JoinText}
-use Rattle.ksql_statements.specs.declared.tree.JoinWord.{JoinWord}
-use Rattle.ksql_statements.specs.declared.tree.JoinWord.TheVariants as how
+use Rattle.expression_trees.specs.declared.tree.Expr.{Expr}
+use Rattle.statement_trees.specs.declared.tree.Source.{Source}
+use Rattle.statement_trees.specs.declared.tree.JoinText.{JoinText}
+use Rattle.statement_trees.specs.declared.tree.JoinWord.{JoinWord}
+use Rattle.statement_trees.specs.declared.tree.JoinWord.TheVariants as how
 use Rattle.ksql_grammar.specs.Symbols.{name_of}
 use Rattle.ksql_parser.specs.Grammar as g
 use Rattle.ksql_grammar.specs.Grammar.{Spells as SpellsExpr, at, expr}
 use Rattle.ksql_parser.specs.Grammar.{Spells}
 use Rattle.ksql_grammar.specs.Reading.{EndsExpr}
-use Rattle.ksql_grammar.specs.Expressions.{behind_key, first}
-use Rattle.ksql_expressions.specs.Options.{◌>>=◌}
+use Rattle.ksql_grammar.specs.Expressions.{after_key, first}
+use Rattle.expression_trees.specs.Options.{◌>>=◌}
 use Rattle.ksql_grammar.proofs.Ends.{Rest, rest_weaker}
 use Rattle.ksql_grammar.proofs.Only.{key_out, first_out}
-use Rattle.ksql_parser.specs.Queries.{behind_join}
+use Rattle.ksql_parser.specs.Queries.{after_join}
 use Rattle.ksql_parser.specs.Statements as r
 use Rattle.ksql_parser.specs.Statements.{place_of, BeginsFrom}
 use Rattle.ksql_parser.proofs.Steps.{behind, along, bind_is}
@@ -44,19 +44,19 @@ no_name (Word w) h = absurd (false≢true (sym h))
 no_name (Quoted w) h = absurd (false≢true (sym h))
 no_name _ h = refl
 
-as_out : (ts : List Symbol) → Rest StartsNoAlias ts → r.behind_as ts ≡ None
-unfolding r.behind_as
+as_out : (ts : List Symbol) → Rest StartsNoAlias ts → r.after_as ts ≡ None
+unfolding r.after_as
 as_out ts h = ap (λ o. o >>= first name_of) (key_out key.As StartsNoAlias ts h (λ e. false≢true (sym e)))
 
 name_out : (ts : List Symbol) → Rest StartsNoAlias ts → first name_of ts ≡ None
 name_out ts h = first_out name_of ts (rest_weaker StartsNoAlias (λ s. name_of s ≡ None) no_name ts h)
 
-as_there : (n : Symbol) (name : List ℕ) (ts : List Symbol) → name_of n ≡ Some name → r.behind_as (Key key.As ∷ n ∷ ts) ≡ Some (name, ts)
-unfolding r.behind_as
+as_there : (n : Symbol) (name : List ℕ) (ts : List Symbol) → name_of n ≡ Some name → r.after_as (Key key.As ∷ n ∷ ts) ≡ Some (name, ts)
+unfolding r.after_as
 as_there n name ts h = bind_is (first name_of) (key_there key.As (n ∷ ts)) (first_there name_of n ts name h)
 
-as_missing : (n : Symbol) (name : List ℕ) (ts : List Symbol) → name_of n ≡ Some name → r.behind_as (n ∷ ts) ≡ None
-unfolding r.behind_as
+as_missing : (n : Symbol) (name : List ℕ) (ts : List Symbol) → name_of n ≡ Some name → r.after_as (n ∷ ts) ≡ None
+unfolding r.after_as
 as_missing n name ts h = ap (λ o. o >>= first name_of) (key_out key.As (λ s. name_of s ≡ Some name) (n ∷ ts) h (λ e. none-some name e))
 
 pub alias_only : (a : Option (List ℕ)) (ts rest : List Symbol) → Spells (g.alias a) ts rest → Rest StartsNoAlias rest → r.alias ts ≡ both a rest
@@ -126,8 +126,8 @@ pub join_read : (j : Option JoinText) (k : JoinWord) (s t : Source) (a b : Expr)
 join_read j k s t a b us vs h x y z = ap (λ o. both o us) h ∙ (λ i. both (joined_with (x i) (y i) k) (z i))
 
 -- by its first word
-left_words : (ts : List Symbol) → r.join_words (Key key.Left ∷ ts) ≡ option_map (λ us. (how.Left, us)) (behind_join key.Outer ts)
-unfolding r.join_words behind_join behind_key
+left_words : (ts : List Symbol) → r.join_words (Key key.Left ∷ ts) ≡ option_map (λ us. (how.Left, us)) (after_join key.Outer ts)
+unfolding r.join_words after_join after_key
 left_words [] = refl
 left_words (Key key.Join ∷ ts) = refl
 left_words (Key key.Outer ∷ []) = refl
@@ -135,8 +135,8 @@ left_words (Key key.Outer ∷ Key key.Join ∷ ts) = refl
 left_words (Key key.Outer ∷ _ ∷ ts) = refl
 left_words (_ ∷ ts) = refl
 
-full_words : (ts : List Symbol) → r.join_words (Key key.Full ∷ ts) ≡ option_map (λ us. (how.Full, us)) (behind_join key.Outer ts)
-unfolding r.join_words behind_join behind_key
+full_words : (ts : List Symbol) → r.join_words (Key key.Full ∷ ts) ≡ option_map (λ us. (how.Full, us)) (after_join key.Outer ts)
+unfolding r.join_words after_join after_key
 full_words [] = refl
 full_words (Key key.Join ∷ ts) = refl
 full_words (Key key.Outer ∷ []) = refl
@@ -144,8 +144,8 @@ full_words (Key key.Outer ∷ Key key.Join ∷ ts) = refl
 full_words (Key key.Outer ∷ _ ∷ ts) = refl
 full_words (_ ∷ ts) = refl
 
-pub inner_words : (ts : List Symbol) → behind_key key.Left ts ≡ None → behind_key key.Full ts ≡ None → r.join_words ts ≡ option_map (λ us. (how.Inner, us)) (behind_join key.Inner ts)
-unfolding r.join_words behind_join behind_key
+pub inner_words : (ts : List Symbol) → after_key key.Left ts ≡ None → after_key key.Full ts ≡ None → r.join_words ts ≡ option_map (λ us. (how.Inner, us)) (after_join key.Inner ts)
+unfolding r.join_words after_join after_key
 inner_words [] h k = refl
 inner_words (Key key.Left ∷ ts) h k = absurd (none-some ts (sym h))
 inner_words (Key key.Full ∷ ts) h k = absurd (none-some ts (sym k))
@@ -163,8 +163,8 @@ module _ (k : JoinWord) (ts : List Symbol) (o : Option (List Symbol)) (h : r.joi
   pub words_some : (us : List Symbol) → Some us ≡ o → both k us ≡ r.join_words ts
   words_some us e = sym (h ∙ ap (option_map (λ us. (k, us))) (sym e))
 
-pub left_at : (ts us : List Symbol) → Some us ≡ behind_key key.Left ts → r.join_words ts ≡ option_map (λ us. (how.Left, us)) (behind_join key.Outer us)
-left_at ts us h = ap r.join_words (if_some (behind_key key.Left ts) (λ us. ts ≡ Key key.Left ∷ us) us (key_found key.Left ts) (sym h)) ∙ left_words us
+pub left_at : (ts us : List Symbol) → Some us ≡ after_key key.Left ts → r.join_words ts ≡ option_map (λ us. (how.Left, us)) (after_join key.Outer us)
+left_at ts us h = ap r.join_words (if_some (after_key key.Left ts) (λ us. ts ≡ Key key.Left ∷ us) us (key_found key.Left ts) (sym h)) ∙ left_words us
 
-pub full_at : (ts us : List Symbol) → Some us ≡ behind_key key.Full ts → r.join_words ts ≡ option_map (λ us. (how.Full, us)) (behind_join key.Outer us)
-full_at ts us h = ap r.join_words (if_some (behind_key key.Full ts) (λ us. ts ≡ Key key.Full ∷ us) us (key_found key.Full ts) (sym h)) ∙ full_words us
+pub full_at : (ts us : List Symbol) → Some us ≡ after_key key.Full ts → r.join_words ts ≡ option_map (λ us. (how.Full, us)) (after_join key.Outer us)
+full_at ts us h = ap r.join_words (if_some (after_key key.Full ts) (λ us. ts ≡ Key key.Full ∷ us) us (key_found key.Full ts) (sym h)) ∙ full_words us

@@ -2,7 +2,7 @@
 use Rattle.std.proofs.Common.{◌≡◌, ◌+◌, List, [], sym, ◌∙◌, arith}
 use Rattle.std.proofs.lemmas.Option.{some_pair_parts}
 use Rattle.ksql_lexer.specs.declared.token.TokenKind.{TokenKind}
-use Rattle.ksql_statements.specs.declared.tree.Statement.{Statement}
+use Rattle.statement_trees.specs.declared.tree.Statement.{Statement}
 use Rattle.ksql_parser.specs.Grammar.{IsSpelledBy}
 use Rattle.ksql_parser.proofs.UniqueStatements.{longest, statement_read}
 

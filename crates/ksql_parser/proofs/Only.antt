@@ -7,14 +7,14 @@ use Rattle.ksql_grammar.specs.declared.symbol.Keyword.{Keyword}
 use Rattle.ksql_grammar.specs.declared.symbol.Keyword.TheVariants as key
 use Rattle.ksql_grammar.specs.declared.symbol.Symbol.{Symbol}
 use Rattle.ksql_grammar.specs.declared.symbol.Symbol.TheVariants.{Key, Word, Quoted, Text, Number, Sign}
-use Rattle.ksql_expressions.specs.declared.tree.Expr.{Expr}
+use Rattle.expression_trees.specs.declared.tree.Expr.{Expr}
 use Rattle.ksql_parser.specs.Grammar as g
 use Rattle.ksql_grammar.specs.Grammar.{Spells as SpellsExpr, at, expr, exprs}
 use Rattle.ksql_parser.specs.Grammar.{Spells}
 use Rattle.ksql_grammar.specs.Reading.{Gives, with_rest, goes_on, is_comma, EndsExpr, EndsExprs}
-use Rattle.ksql_grammar.specs.Expressions.{behind_key}
+use Rattle.ksql_grammar.specs.Expressions.{after_key}
 use Rattle.ksql_grammar.specs.declared.fault.ReadError.{ReadError}
-use Rattle.ksql_parser.specs.Statements.{place_of, BeginsFrom, behind_by}
+use Rattle.ksql_parser.specs.Statements.{place_of, BeginsFrom, after_by}
 use Rattle.ksql_grammar.proofs.Found.{behind}
 use Rattle.ksql_parser.proofs.Steps.{along, same_read, failed, bind_is}
 use Rattle.ksql_grammar.proofs.Steps.{key_there}
@@ -66,7 +66,7 @@ clause_failed f us rest e h only = failed (with_rest {A = Expr}) (with_rest {A =
 late : (n : ℕ) (s : Symbol) (us rest : List Symbol) → rest ≡ s ∷ us → BeginsFrom n rest → n ≤ place_of s
 late n s us rest e b = subst (BeginsFrom n) e b
 
-pub filter_absent : (ts rest : List Symbol) (f : Option Expr) → None ≡ behind_key key.Where ts → Spells (g.filter f) ts rest → both f rest ≡ both None ts
+pub filter_absent : (ts rest : List Symbol) (f : Option Expr) → None ≡ after_key key.Where ts → Spells (g.filter f) ts rest → both f rest ≡ both None ts
 filter_absent ts rest f h g.no_filter = refl
 filter_absent ts rest f h (g.a_filter {ts = us} d) = absurd (none-some us (h ∙ key_there key.Where us))
 
@@ -75,7 +75,7 @@ unfolding tail_of
 filter_there ts us rest f e b (g.a_filter {a = a} d) = (a, refl, behind (sym (ap tail_of e)) d, clause_ends 3 rest b)
 filter_there ts us rest f e b g.no_filter = absurd (omega (arith, late 4 (Key key.Where) us rest e b))
 
-pub having_absent : (ts rest : List Symbol) (f : Option Expr) → None ≡ behind_key key.Having ts → Spells (g.having f) ts rest → both f rest ≡ both None ts
+pub having_absent : (ts rest : List Symbol) (f : Option Expr) → None ≡ after_key key.Having ts → Spells (g.having f) ts rest → both f rest ≡ both None ts
 having_absent ts rest f h g.no_having = refl
 having_absent ts rest f h (g.a_having {ts = us} d) = absurd (none-some us (h ∙ key_there key.Having us))
 
@@ -84,11 +84,11 @@ unfolding tail_of
 having_there ts us rest f e b (g.a_having {a = a} d) = (a, refl, behind (sym (ap tail_of e)) d, clause_ends 6 rest b)
 having_there ts us rest f e b g.no_having = absurd (omega (arith, late 7 (Key key.Having) us rest e b))
 
-by_there : (k : Keyword) (ts : List Symbol) → behind_by k (Key k ∷ Key key.By ∷ ts) ≡ Some ts
-unfolding behind_by
-by_there k ts = bind_is (behind_key key.By) (key_there k (Key key.By ∷ ts)) (key_there key.By ts)
+by_there : (k : Keyword) (ts : List Symbol) → after_by k (Key k ∷ Key key.By ∷ ts) ≡ Some ts
+unfolding after_by
+by_there k ts = bind_is (after_key key.By) (key_there k (Key key.By ∷ ts)) (key_there key.By ts)
 
-pub partition_absent : (ts rest : List Symbol) (f : Option Expr) → None ≡ behind_by key.Partition ts → Spells (g.partition f) ts rest → both f rest ≡ both None ts
+pub partition_absent : (ts rest : List Symbol) (f : Option Expr) → None ≡ after_by key.Partition ts → Spells (g.partition f) ts rest → both f rest ≡ both None ts
 partition_absent ts rest f h g.no_partition = refl
 partition_absent ts rest f h (g.a_partition {ts = us} d) = absurd (none-some us (h ∙ by_there key.Partition us))
 
@@ -112,7 +112,7 @@ clause_ends_list n (s ∷ ss) h = (place_ends s (omega (arith, h)), no_comma s (
 pub empty_group : (es : List Expr) (ts : List Symbol) → es ≡ [] → Spells (g.group es) ts ts
 empty_group es ts e = subst (λ xs. Spells (g.group xs) ts ts) (sym e) g.no_group
 
-pub group_absent : (ts rest : List Symbol) (es found : List Expr) → found ≡ [] → None ≡ behind_by key.Group ts → Spells (g.group es) ts rest → both es rest ≡ both found ts
+pub group_absent : (ts rest : List Symbol) (es found : List Expr) → found ≡ [] → None ≡ after_by key.Group ts → Spells (g.group es) ts rest → both es rest ≡ both found ts
 group_absent ts rest es found e h g.no_group = ap (λ xs. both xs ts) (sym e)
 group_absent ts rest es found e h (g.a_group {ts = us} d) = absurd (none-some us (h ∙ by_there key.Group us))
 

@@ -5,17 +5,17 @@ use Rattle.ksql_grammar.specs.declared.symbol.Keyword.{Keyword}
 use Rattle.ksql_grammar.specs.declared.symbol.Keyword.TheVariants as key
 use Rattle.ksql_grammar.specs.declared.symbol.Symbol.{Symbol}
 use Rattle.ksql_grammar.specs.declared.symbol.Symbol.TheVariants.{Key, Word}
-use Rattle.ksql_expressions.specs.declared.tree.Expr.{Expr}
-use Rattle.ksql_statements.specs.declared.tree.JoinText.{JoinText}
-use Rattle.ksql_statements.specs.declared.tree.JoinWord.{JoinWord}
-use Rattle.ksql_statements.specs.declared.tree.Select.{Select}
-use Rattle.ksql_statements.specs.declared.tree.SelectItem.{SelectItem}
-use Rattle.ksql_statements.specs.declared.tree.Source.{Source}
-use Rattle.ksql_statements.specs.declared.tree.WindowText.{WindowText}
+use Rattle.expression_trees.specs.declared.tree.Expr.{Expr}
+use Rattle.statement_trees.specs.declared.tree.JoinText.{JoinText}
+use Rattle.statement_trees.specs.declared.tree.JoinWord.{JoinWord}
+use Rattle.statement_trees.specs.declared.tree.Select.{Select}
+use Rattle.statement_trees.specs.declared.tree.SelectItem.{SelectItem}
+use Rattle.statement_trees.specs.declared.tree.Source.{Source}
+use Rattle.statement_trees.specs.declared.tree.WindowText.{WindowText}
 use Rattle.ksql_parser.specs.Grammar as g
 use Rattle.ksql_parser.specs.Grammar.{Spells}
-use Rattle.ksql_grammar.specs.Expressions.{behind_key}
-use Rattle.ksql_expressions.specs.Options.{◌>>=◌}
+use Rattle.ksql_grammar.specs.Expressions.{after_key}
+use Rattle.expression_trees.specs.Options.{◌>>=◌}
 use Rattle.ksql_parser.specs.declared.statement.queries.Front.{Front}
 use Rattle.ksql_parser.specs.declared.statement.queries.Clauses.{Clauses}
 use Rattle.ksql_parser.specs.Queries.{SpellsFront, SpellsClauses, select_of}
@@ -83,18 +83,18 @@ clauses_begin c ts rest h b =
     let second = group_from c.group h.0 h.1 h.4 third in
     (filter_from c.filter ts h.0 h.3 second, second, third, last)
 
-changes_there : (c : Symbol) (ts : List Symbol) → c ≡ Word (codes "CHANGES") → r.behind_changes (Key key.Emit ∷ c ∷ ts) ≡ Some ts
-unfolding r.behind_changes
-changes_there c ts h = bind_is (r.behind_word (codes "CHANGES")) (key_there key.Emit (c ∷ ts)) (ap (λ s. r.behind_word (codes "CHANGES") (s ∷ ts)) h ∙ word_there (codes "CHANGES") ts)
+changes_there : (c : Symbol) (ts : List Symbol) → c ≡ Word (codes "CHANGES") → r.after_changes (Key key.Emit ∷ c ∷ ts) ≡ Some ts
+unfolding r.after_changes
+changes_there c ts h = bind_is (r.after_word (codes "CHANGES")) (key_there key.Emit (c ∷ ts)) (ap (λ s. r.after_word (codes "CHANGES") (s ∷ ts)) h ∙ word_there (codes "CHANGES") ts)
 
-no_changes : r.behind_changes [] ≡ None
-unfolding r.behind_changes behind_key
+no_changes : r.after_changes [] ≡ None
+unfolding r.after_changes after_key
 no_changes = refl
 
 emit_only : (ts rest : List Symbol) → Spells g.emit ts rest → rest ≡ [] → r.emit ts ≡ []
 unfolding r.emit
-emit_only ts rest g.no_emit e = ap (λ us. r.behind_or_here us (r.behind_changes us)) e ∙ ap (r.behind_or_here []) no_changes
-emit_only ts rest (g.changes {c} h) e = ap (r.behind_or_here ts) (changes_there c rest h) ∙ e
+emit_only ts rest g.no_emit e = ap (λ us. r.after_or_here us (r.after_changes us)) e ∙ ap (r.after_or_here []) no_changes
+emit_only ts rest (g.changes {c} h) e = ap (r.after_or_here ts) (changes_there c rest h) ∙ e
 
 -- the parts of a query
 abbrev pub front_of : Select → Front
@@ -116,18 +116,18 @@ parts_of q ts rest e (g.a_select {is} {s} {j} {w} {f} {g = es} {p} {h} {s0} {s1}
     (s4, s8, front, clauses, filter_from f s4 s5 filter second, last, emit_only s8 rest emit e)
 
 -- the symbols after a reserved word
-pub same_key : (k : Keyword) (ts us vs : List Symbol) → ts ≡ Key k ∷ us → behind_key k ts ≡ Some vs → us ≡ vs
-same_key k ts us vs e h = same_Some us vs (sym (ap (behind_key k) e ∙ key_there k us) ∙ h)
+pub same_key : (k : Keyword) (ts us vs : List Symbol) → ts ≡ Key k ∷ us → after_key k ts ≡ Some vs → us ≡ vs
+same_key k ts us vs e h = same_Some us vs (sym (ap (after_key k) e ∙ key_there k us) ∙ h)
 
-pub key_is : (k : Keyword) (ts us : List Symbol) → ts ≡ Key k ∷ us → behind_key k ts ≡ Some us
-key_is k ts us e = ap (behind_key k) e ∙ key_there k us
+pub key_is : (k : Keyword) (ts us : List Symbol) → ts ≡ Key k ∷ us → after_key k ts ≡ Some us
+key_is k ts us e = ap (after_key k) e ∙ key_there k us
 
 -- the steps of reading the first half, by what was read before
 module _ (f : Front) (ts rest : List Symbol) (d : SpellsFront f ts rest) where
-  pub items_there : (us : List Symbol) → behind_key key.Select ts ≡ Some us → Spells (g.items f.items) us (Key key.From ∷ d.1)
+  pub items_there : (us : List Symbol) → after_key key.Select ts ≡ Some us → Spells (g.items f.items) us (Key key.From ∷ d.1)
   items_there us h = behind (sym (same_key key.Select ts d.0 us d.4 h)) d.5
 
-  pub source_there : (vs us : List Symbol) → Key key.From ∷ d.1 ≡ vs → behind_key key.From vs ≡ Some us → BeginsFrom 3 rest → r.source us ≡ both f.source d.2
+  pub source_there : (vs us : List Symbol) → Key key.From ∷ d.1 ≡ vs → after_key key.From vs ≡ Some us → BeginsFrom 3 rest → r.source us ≡ both f.source d.2
   source_there vs us e h b =
       ap r.source (sym (same_key key.From vs d.1 us (sym e) h)) ∙ source_only f.source d.1 d.2 d.6 (clause_no_alias d.2 (front_begins f ts rest d b).0)
 

@@ -17,10 +17,10 @@ use Rattle.ksql_grammar.specs.declared.fault.ReadError.{ReadError}
 use Rattle.ksql_grammar.specs.declared.fault.ReadError.TheVariants.{Unspelled, OutOfMemory}
 use Rattle.ksql_parser.specs.Grammar.{Phrase, Spells}
 use Rattle.ksql_grammar.specs.Reading.{Gives, with_rest}
-use Rattle.ksql_grammar.specs.Expressions.{Reader, behind_key, behind_sign, first}
-use Rattle.ksql_expressions.specs.Options.{◌>>=◌}
+use Rattle.ksql_grammar.specs.Expressions.{Reader, after_key, after_sign, first}
+use Rattle.expression_trees.specs.Options.{◌>>=◌}
 use Rattle.ksql_grammar.proofs.Steps.{If, if_bind, if_some, if_weaker, if_cond, key_found}
-use Rattle.ksql_parser.specs.Statements.{behind_word, behind_words, behind_by}
+use Rattle.ksql_parser.specs.Statements.{after_word, after_words, after_by}
 
 pub behind : {p : Phrase} {ts us rest : List Symbol} → ts ≡ us → Spells p us rest → Spells p ts rest
 behind {p = p} {rest = rest} e d = subst (λ ts. Spells p ts rest) (sym e) d
@@ -28,26 +28,26 @@ behind {p = p} {rest = rest} e d = subst (λ ts. Spells p ts rest) (sym e) d
 pub along : {p : Phrase} {ts us vs : List Symbol} → Spells p ts us → us ≡ vs → Spells p ts vs
 along {p = p} {ts = ts} d e = subst (λ us. Spells p ts us) e d
 
-pub word_found : (w : List ℕ) (ts : List Symbol) → If (behind_word w ts) (λ us. ts ≡ Word w ∷ us)
-unfolding behind_word
+pub word_found : (w : List ℕ) (ts : List Symbol) → If (after_word w ts) (λ us. ts ≡ Word w ∷ us)
+unfolding after_word
 word_found w [] = tt
 word_found w (Word found ∷ ts) = if_cond (bytes_eq found w) ts _ (λ e. ap (λ x. Word x ∷ ts) ((bytes_eq-Decides found w).0 e))
 word_found w (_ ∷ ts) = tt
 
-pub words_found : (v w : List ℕ) (ts : List Symbol) → If (behind_words v w ts) (λ us. ts ≡ Word v ∷ Word w ∷ us)
-unfolding behind_words
+pub words_found : (v w : List ℕ) (ts : List Symbol) → If (after_words v w ts) (λ us. ts ≡ Word v ∷ Word w ∷ us)
+unfolding after_words
 words_found v w ts =
-    if_bind (behind_word v ts) _ (λ us. ts ≡ Word v ∷ us) _ (word_found v ts) (λ us h.
-    if_weaker (behind_word w us) (λ vs. us ≡ Word w ∷ vs) _ (word_found w us) (λ vs k. h ∙ ap (λ x. Word v ∷ x) k))
+    if_bind (after_word v ts) _ (λ us. ts ≡ Word v ∷ us) _ (word_found v ts) (λ us h.
+    if_weaker (after_word w us) (λ vs. us ≡ Word w ∷ vs) _ (word_found w us) (λ vs k. h ∙ ap (λ x. Word v ∷ x) k))
 
-pub by_found : (k : Keyword) (ts : List Symbol) → If (behind_by k ts) (λ us. ts ≡ Key k ∷ Key key.By ∷ us)
-unfolding behind_by
+pub by_found : (k : Keyword) (ts : List Symbol) → If (after_by k ts) (λ us. ts ≡ Key k ∷ Key key.By ∷ us)
+unfolding after_by
 by_found k ts =
-    if_bind (behind_key k ts) _ (λ us. ts ≡ Key k ∷ us) _ (key_found k ts) (λ us h.
-    if_weaker (behind_key key.By us) (λ vs. us ≡ Key key.By ∷ vs) _ (key_found key.By us) (λ vs e. h ∙ ap (λ x. Key k ∷ x) e))
+    if_bind (after_key k ts) _ (λ us. ts ≡ Key k ∷ us) _ (key_found k ts) (λ us h.
+    if_weaker (after_key key.By us) (λ vs. us ≡ Key key.By ∷ vs) _ (key_found key.By us) (λ vs e. h ∙ ap (λ x. Key k ∷ x) e))
 
-pub word_there : (w : List ℕ) (ts : List Symbol) → behind_word w (Word w ∷ ts) ≡ Some ts
-unfolding behind_word
+pub word_there : (w : List ℕ) (ts : List Symbol) → after_word w (Word w ∷ ts) ≡ Some ts
+unfolding after_word
 word_there w ts = ap (λ b. cond b (Some ts) None) ((bytes_eq-Decides w w).1 refl)
 
 -- the first symbol, and its value

@@ -2,7 +2,7 @@
 use Rattle.std.proofs.Common.{◌≡◌, ℕ, true, false, cond, List, [], ◌∷◌, ◌++◌, Some, refl, ap, ◌∙◌, bytes_eq}
 use Rattle.std.specs.Option.{option_or}
 use Rattle.ksql_grammar.specs.Symbols.{reserved_words}
-use Rattle.ksql_expressions.specs.Words.{beside}
+use Rattle.expression_trees.specs.Words.{beside}
 use Rattle.ksql_parser.specs.Words.{statement_words, clause_words, expression_words, closing_words}
 
 -- what stands beside a word in two tables is what stands in the first, or else in the second

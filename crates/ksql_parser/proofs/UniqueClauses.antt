@@ -5,23 +5,23 @@ use Rattle.ksql_grammar.specs.declared.symbol.Keyword.{Keyword}
 use Rattle.ksql_grammar.specs.declared.symbol.Keyword.TheVariants as key
 use Rattle.ksql_grammar.specs.declared.symbol.Symbol.{Symbol}
 use Rattle.ksql_grammar.specs.declared.symbol.Symbol.TheVariants.{Key, Word, Quoted}
-use Rattle.ksql_expressions.specs.declared.tree.Expr.{Expr}
-use Rattle.ksql_statements.specs.declared.tree.JoinText.{JoinText}
-use Rattle.ksql_statements.specs.declared.tree.JoinWord.{JoinWord}
-use Rattle.ksql_statements.specs.declared.tree.Source.{Source}
-use Rattle.ksql_statements.specs.declared.tree.WindowText.{WindowText}
+use Rattle.expression_trees.specs.declared.tree.Expr.{Expr}
+use Rattle.statement_trees.specs.declared.tree.JoinText.{JoinText}
+use Rattle.statement_trees.specs.declared.tree.JoinWord.{JoinWord}
+use Rattle.statement_trees.specs.declared.tree.Source.{Source}
+use Rattle.statement_trees.specs.declared.tree.WindowText.{WindowText}
 use Rattle.ksql_parser.specs.Grammar as g
 use Rattle.ksql_grammar.specs.Grammar.{Spells as SpellsExpr, at, expr, exprs}
 use Rattle.ksql_parser.specs.Grammar.{Spells}
-use Rattle.ksql_grammar.specs.Expressions.{Reader, behind_key}
-use Rattle.ksql_expressions.specs.Options.{◌>>=◌}
+use Rattle.ksql_grammar.specs.Expressions.{Reader, after_key}
+use Rattle.expression_trees.specs.Options.{◌>>=◌}
 use Rattle.ksql_grammar.specs.Expressions as reading
 use Rattle.ksql_grammar.specs.Reading.{EndsExpr, EndsExprs}
 use Rattle.ksql_grammar.proofs.Ends.{Rest, rest_weaker}
 use Rattle.ksql_grammar.proofs.Only.{key_out}
 use Rattle.ksql_grammar.proofs.Whole.{expression_only, expressions_only}
 use Rattle.ksql_parser.specs.Statements as r
-use Rattle.ksql_parser.specs.Statements.{place_of, BeginsFrom, behind_by}
+use Rattle.ksql_parser.specs.Statements.{place_of, BeginsFrom, after_by}
 use Rattle.ksql_parser.proofs.Steps.{bind_is}
 use Rattle.ksql_grammar.proofs.Steps.{key_there}
 use Rattle.ksql_parser.proofs.Only.{clause_ends, clause_ends_list}
@@ -38,16 +38,16 @@ pub from_weaker : (m n : ℕ) (ts : List Symbol) → m ≤ n → BeginsFrom n ts
 from_weaker m n [] le h = tt
 from_weaker m n (s ∷ ts) le h = omega (arith, le, h)
 
-key_before : (k : Keyword) (n : ℕ) (ts : List Symbol) → place_of (Key k) < n → BeginsFrom n ts → behind_key k ts ≡ None
+key_before : (k : Keyword) (n : ℕ) (ts : List Symbol) → place_of (Key k) < n → BeginsFrom n ts → after_key k ts ≡ None
 key_before k n ts lt h = key_out k (λ s. n ≤ place_of s) ts (from_rest n ts h) (λ p. omega (arith, lt, p))
 
-by_before : (k : Keyword) (n : ℕ) (ts : List Symbol) → place_of (Key k) < n → BeginsFrom n ts → behind_by k ts ≡ None
-unfolding behind_by
-by_before k n ts lt h = ap (λ o. o >>= behind_key key.By) (key_before k n ts lt h)
+by_before : (k : Keyword) (n : ℕ) (ts : List Symbol) → place_of (Key k) < n → BeginsFrom n ts → after_by k ts ≡ None
+unfolding after_by
+by_before k n ts lt h = ap (λ o. o >>= after_key key.By) (key_before k n ts lt h)
 
-by_there : (k : Keyword) (ts : List Symbol) → behind_by k (Key k ∷ Key key.By ∷ ts) ≡ Some ts
-unfolding behind_by
-by_there k ts = bind_is (behind_key key.By) (key_there k (Key key.By ∷ ts)) (key_there key.By ts)
+by_there : (k : Keyword) (ts : List Symbol) → after_by k (Key k ∷ Key key.By ∷ ts) ≡ Some ts
+unfolding after_by
+by_there k ts = bind_is (after_key key.By) (key_there k (Key key.By ∷ ts)) (key_there key.By ts)
 
 place_no_alias : (s : Symbol) → 1 ≤ place_of s → NoAlias s
 place_no_alias (Key key.As) h = absurd (omega (arith, h))
@@ -82,7 +82,7 @@ join_of k s a = record { kind = k; source = s; on = a }
 abbrev join_at : List Symbol → Option (JoinWord × List Symbol) → Option (Option JoinText × List Symbol)
 join_at ts (Some k) = do
   s ← r.source k.1
-  us ← behind_key key.On s.1
+  us ← after_key key.On s.1
   a ← expression us
   Some (Some (join_of k.0 s.0 a.0), a.1)
 join_at ts None = Some (None, ts)
@@ -91,16 +91,16 @@ pub joined : Reader (Option JoinText)
 joined ts = join_at ts (r.join_words ts)
 
 pub filter : Reader (Option Expr)
-filter ts = option_at expression ts (behind_key key.Where ts)
+filter ts = option_at expression ts (after_key key.Where ts)
 
 pub group : Reader (List Expr)
-group ts = list_at expressions ts (behind_by key.Group ts)
+group ts = list_at expressions ts (after_by key.Group ts)
 
 pub partition : Reader (Option Expr)
-partition ts = option_at expression ts (behind_by key.Partition ts)
+partition ts = option_at expression ts (after_by key.Partition ts)
 
 pub having : Reader (Option Expr)
-having ts = option_at expression ts (behind_key key.Having ts)
+having ts = option_at expression ts (after_key key.Having ts)
 
 -- ---- joins
 
@@ -197,11 +197,11 @@ having_from (g.a_having d) h = omega arith
 -- ---- EMIT CHANGES
 
 pub emit_read : {ts us : List Symbol} → Spells g.emit ts us → BeginsFrom 8 us → r.emit ts ≡ us
-unfolding r.emit r.behind_changes
+unfolding r.emit r.after_changes
 emit_read (g.no_emit {ts}) ends =
-    ap (λ o. r.behind_or_here ts (o >>= r.behind_word (codes "CHANGES"))) (key_before key.Emit 8 ts (omega arith) ends)
+    ap (λ o. r.after_or_here ts (o >>= r.after_word (codes "CHANGES"))) (key_before key.Emit 8 ts (omega arith) ends)
 emit_read (g.changes {c} {ts} h) ends =
-    ap (r.behind_or_here (Key key.Emit ∷ c ∷ ts)) (bind_is (r.behind_word (codes "CHANGES")) (key_there key.Emit (c ∷ ts)) (word_at (codes "CHANGES") c ts h))
+    ap (r.after_or_here (Key key.Emit ∷ c ∷ ts)) (bind_is (r.after_word (codes "CHANGES")) (key_there key.Emit (c ∷ ts)) (word_at (codes "CHANGES") c ts h))
 
 pub emit_from : {ts us : List Symbol} → Spells g.emit ts us → BeginsFrom 8 us → BeginsFrom 7 ts
 emit_from (g.no_emit {ts}) h = from_weaker 7 8 ts (omega arith) h

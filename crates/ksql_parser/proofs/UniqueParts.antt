@@ -7,16 +7,16 @@ use Rattle.ksql_lexer.specs.declared.token.Mark.TheVariants as mark
 use Rattle.ksql_grammar.specs.declared.symbol.Keyword.TheVariants as key
 use Rattle.ksql_grammar.specs.declared.symbol.Symbol.{Symbol}
 use Rattle.ksql_grammar.specs.declared.symbol.Symbol.TheVariants.{Key, Word, Quoted, Text, Number, Sign}
-use Rattle.ksql_statements.specs.declared.tree.ColumnText.{ColumnText}
-use Rattle.ksql_statements.specs.declared.tree.KeyMark.{KeyMark}
-use Rattle.ksql_statements.specs.declared.tree.Property.{Property}
-use Rattle.ksql_statements.specs.declared.tree.Source.{Source}
-use Rattle.ksql_statements.specs.declared.tree.JoinWord.{JoinWord}
+use Rattle.statement_trees.specs.declared.tree.ColumnText.{ColumnText}
+use Rattle.statement_trees.specs.declared.tree.KeyMark.{KeyMark}
+use Rattle.statement_trees.specs.declared.tree.Property.{Property}
+use Rattle.statement_trees.specs.declared.tree.Source.{Source}
+use Rattle.statement_trees.specs.declared.tree.JoinWord.{JoinWord}
 use Rattle.ksql_grammar.specs.Symbols.{name_of, type_of}
 use Rattle.ksql_parser.specs.Grammar as g
 use Rattle.ksql_parser.specs.Grammar.{Spells}
-use Rattle.ksql_grammar.specs.Expressions.{Reader, behind_sign, first, list_end, list_of}
-use Rattle.ksql_expressions.specs.Options.{◌>>=◌}
+use Rattle.ksql_grammar.specs.Expressions.{Reader, after_sign, first, list_end, list_of}
+use Rattle.expression_trees.specs.Options.{◌>>=◌}
 use Rattle.ksql_grammar.proofs.Ends.{Rest, rest_weaker}
 use Rattle.ksql_grammar.proofs.Only.{key_out, sign_out, first_out}
 use Rattle.ksql_parser.specs.Statements as r
@@ -29,15 +29,15 @@ if_none : {A : Type 0} (o : Option A) (P : A → Type 0) → If o P → ((x : A)
 if_none None P h k = refl
 if_none (Some x) P h k = absurd (k x h)
 
-word_out : (w : List ℕ) (P : Symbol → Type 0) (ts : List Symbol) → Rest P ts → (P (Word w) → ⊥) → r.behind_word w ts ≡ None
-word_out w P ts h out = if_none (r.behind_word w ts) (λ us. ts ≡ Word w ∷ us) (word_found w ts) (λ us same. out (subst (Rest P) same h))
+word_out : (w : List ℕ) (P : Symbol → Type 0) (ts : List Symbol) → Rest P ts → (P (Word w) → ⊥) → r.after_word w ts ≡ None
+word_out w P ts h out = if_none (r.after_word w ts) (λ us. ts ≡ Word w ∷ us) (word_found w ts) (λ us same. out (subst (Rest P) same h))
 
-pub word_at : (w : List ℕ) (s : Symbol) (ts : List Symbol) → s ≡ Word w → r.behind_word w (s ∷ ts) ≡ Some ts
-word_at w s ts h = ap (λ x. r.behind_word w (x ∷ ts)) h ∙ word_there w ts
+pub word_at : (w : List ℕ) (s : Symbol) (ts : List Symbol) → s ≡ Word w → r.after_word w (s ∷ ts) ≡ Some ts
+word_at w s ts h = ap (λ x. r.after_word w (x ∷ ts)) h ∙ word_there w ts
 
-pub words_at : (v w : List ℕ) (s t : Symbol) (ts : List Symbol) → s ≡ Word v → t ≡ Word w → r.behind_words v w (s ∷ t ∷ ts) ≡ Some ts
-unfolding r.behind_words
-words_at v w s t ts h k = bind_is (r.behind_word w) (word_at v s (t ∷ ts) h) (word_at w t ts k)
+pub words_at : (v w : List ℕ) (s t : Symbol) (ts : List Symbol) → s ≡ Word v → t ≡ Word w → r.after_words v w (s ∷ t ∷ ts) ≡ Some ts
+unfolding r.after_words
+words_at v w s t ts h k = bind_is (r.after_word w) (word_at v s (t ∷ ts) h) (word_at w t ts k)
 
 -- ---- lists
 
@@ -60,21 +60,21 @@ is_word _ = false
 abbrev pub NoWord : Symbol → Type 0
 NoWord s = is_word s ≡ false
 
-no_word : (w : List ℕ) (ts : List Symbol) → Rest NoWord ts → r.behind_word w ts ≡ None
+no_word : (w : List ℕ) (ts : List Symbol) → Rest NoWord ts → r.after_word w ts ≡ None
 no_word w ts h = word_out w NoWord ts h (λ p. false≢true (sym p))
 
-primary_no_key : (ts : List Symbol) → r.behind_word (codes "KEY") (Word (codes "PRIMARY") ∷ ts) ≡ None
-unfolding r.behind_word
+primary_no_key : (ts : List Symbol) → r.after_word (codes "KEY") (Word (codes "PRIMARY") ∷ ts) ≡ None
+unfolding r.after_word
 primary_no_key ts = refl
 
 key_mark_read : {m : KeyMark} {ts us : List Symbol} → Spells (g.key_mark m) ts us → Rest NoWord us → r.key_mark ts ≡ (m, us)
-unfolding r.key_mark r.behind_words
+unfolding r.key_mark r.after_words
 key_mark_read (g.no_key {ts}) h =
-    ap₂ (r.key_mark_at ts) (no_word (codes "KEY") ts h) (ap (λ o. o >>= r.behind_word (codes "KEY")) (no_word (codes "PRIMARY") ts h))
+    ap₂ (r.key_mark_at ts) (no_word (codes "KEY") ts h) (ap (λ o. o >>= r.after_word (codes "KEY")) (no_word (codes "PRIMARY") ts h))
 key_mark_read (g.key_word {k} {ts} e) h =
-    ap (λ o. r.key_mark_at (k ∷ ts) o (r.behind_words (codes "PRIMARY") (codes "KEY") (k ∷ ts))) (word_at (codes "KEY") k ts e)
+    ap (λ o. r.key_mark_at (k ∷ ts) o (r.after_words (codes "PRIMARY") (codes "KEY") (k ∷ ts))) (word_at (codes "KEY") k ts e)
 key_mark_read (g.primary_key {p} {k} {ts} e f) h =
-    ap₂ (r.key_mark_at (p ∷ k ∷ ts)) (ap (λ x. r.behind_word (codes "KEY") (x ∷ k ∷ ts)) e ∙ primary_no_key (k ∷ ts)) (words_at (codes "PRIMARY") (codes "KEY") p k ts e f)
+    ap₂ (r.key_mark_at (p ∷ k ∷ ts)) (ap (λ x. r.after_word (codes "KEY") (x ∷ k ∷ ts)) e ∙ primary_no_key (k ∷ ts)) (words_at (codes "PRIMARY") (codes "KEY") p k ts e f)
 
 abbrev column_of : List ℕ → SqlType → KeyMark → ColumnText
 column_of name ty m = record { name = name; ty = ty; mark = m }
@@ -93,17 +93,17 @@ IsClose s = s ≡ Sign mark.Close
 close_no_word : (s : Symbol) → IsClose s → NoWord s
 close_no_word s h = ap is_word h
 
-close_no_comma : (ts : List Symbol) → Rest IsClose ts → behind_sign mark.Comma ts ≡ None
+close_no_comma : (ts : List Symbol) → Rest IsClose ts → after_sign mark.Comma ts ≡ None
 close_no_comma ts h = sign_out mark.Comma IsClose ts h (λ p. cc)
 
 pub columns_read : {cs : List ColumnText} {ts us : List Symbol} → Spells (g.columns cs) ts us → Rest IsClose us → (n : ℕ) → length cs ≤ n
-    → list_of r.column (behind_sign mark.Comma) n ts ≡ Some (cs, us)
+    → list_of r.column (after_sign mark.Comma) n ts ≡ Some (cs, us)
 columns_read (g.last_column d) ends zero le = absurd (omega arith)
 columns_read (g.last_column {c} {ts} {us} d) ends (suc n) le =
-    list_last r.column (behind_sign mark.Comma) n c ts us (column_read d (rest_weaker IsClose NoWord close_no_word us ends)) (close_no_comma us ends)
+    list_last r.column (after_sign mark.Comma) n c ts us (column_read d (rest_weaker IsClose NoWord close_no_word us ends)) (close_no_comma us ends)
 columns_read (g.more_columns d f) ends zero le = absurd (omega arith)
 columns_read (g.more_columns {c} {cs} {ts} {us} {vs} d f) ends (suc n) le =
-    list_more r.column (behind_sign mark.Comma) n c cs ts (Sign mark.Comma ∷ us) us vs (column_read d refl) (sign_there mark.Comma us) (columns_read f ends n (omega arith))
+    list_more r.column (after_sign mark.Comma) n c cs ts (Sign mark.Comma ∷ us) us vs (column_read d refl) (sign_there mark.Comma us) (columns_read f ends n (omega arith))
 
 -- ---- properties
 
@@ -115,20 +115,20 @@ property_read (g.digits_prop {n} {name} {number} {ts} h) =
     bind_is _ (first_there name_of n (Sign mark.Equal ∷ Number number ∷ ts) name h) (bind_is _ (sign_there mark.Equal (Number number ∷ ts)) refl)
 
 listed_read : {ps : List Property} {ts us : List Symbol} → Spells (g.prop_list ps) ts us → Rest IsClose us → (n : ℕ) → length ps ≤ n
-    → list_of r.property (behind_sign mark.Comma) n ts ≡ Some (ps, us)
+    → list_of r.property (after_sign mark.Comma) n ts ≡ Some (ps, us)
 listed_read (g.last_prop d) ends zero le = absurd (omega arith)
 listed_read (g.last_prop {p} {ts} {us} d) ends (suc n) le =
-    list_last r.property (behind_sign mark.Comma) n p ts us (property_read d) (close_no_comma us ends)
+    list_last r.property (after_sign mark.Comma) n p ts us (property_read d) (close_no_comma us ends)
 listed_read (g.more_props d f) ends zero le = absurd (omega arith)
 listed_read (g.more_props {p} {ps} {ts} {us} {vs} d f) ends (suc n) le =
-    list_more r.property (behind_sign mark.Comma) n p ps ts (Sign mark.Comma ∷ us) us vs (property_read d) (sign_there mark.Comma us) (listed_read f ends n (omega arith))
+    list_more r.property (after_sign mark.Comma) n p ps ts (Sign mark.Comma ∷ us) us vs (property_read d) (sign_there mark.Comma us) (listed_read f ends n (omega arith))
 
 -- "(" prop {"," prop} ")"; the number bounds how many
 pub props : ℕ → Reader (List Property)
 props n ts = do
-  us ← behind_sign mark.Open ts
-  ps ← list_of r.property (behind_sign mark.Comma) n us
-  vs ← behind_sign mark.Close ps.1
+  us ← after_sign mark.Open ts
+  ps ← list_of r.property (after_sign mark.Comma) n us
+  vs ← after_sign mark.Close ps.1
   Some (ps.0, vs)
 
 pub props_read : {ps : List Property} {ts us : List Symbol} → Spells (g.props ps) ts us → (n : ℕ) → length ps ≤ n → props n ts ≡ Some (ps, us)
@@ -153,7 +153,7 @@ no_alias_no_name (Quoted w) h = absurd (false≢true (sym h))
 no_alias_no_name _ h = refl
 
 pub alias_read : {a : Option (List ℕ)} {ts us : List Symbol} → Spells (g.alias a) ts us → Rest NoAlias us → r.alias ts ≡ Some (a, us)
-unfolding r.alias r.behind_as
+unfolding r.alias r.after_as
 alias_read (g.no_alias {ts}) h =
     ap₂ (r.alias_at ts) (ap (λ o. o >>= first name_of) (key_out key.As NoAlias ts h (λ p. false≢true (sym p))))
     (first_out name_of ts (rest_weaker NoAlias (λ s. name_of s ≡ None) no_alias_no_name ts h))

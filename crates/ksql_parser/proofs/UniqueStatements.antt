@@ -8,23 +8,23 @@ use Rattle.ksql_lexer.specs.declared.token.Mark.TheVariants as mark
 use Rattle.ksql_grammar.specs.declared.symbol.Keyword.TheVariants as key
 use Rattle.ksql_grammar.specs.declared.symbol.Symbol.{Symbol}
 use Rattle.ksql_grammar.specs.declared.symbol.Symbol.TheVariants.{Key, Word, Quoted, Sign}
-use Rattle.ksql_expressions.specs.declared.tree.Expr.{Expr}
-use Rattle.ksql_statements.specs.declared.tree.JoinText.{JoinText}
-use Rattle.ksql_statements.specs.declared.tree.Property.{Property}
-use Rattle.ksql_statements.specs.declared.tree.Select.{Select}
-use Rattle.ksql_statements.specs.declared.tree.SelectItem.{SelectItem}
-use Rattle.ksql_statements.specs.declared.tree.SelectItem.TheVariants.{Star, StarOf, One}
-use Rattle.ksql_statements.specs.declared.tree.Source.{Source}
-use Rattle.ksql_statements.specs.declared.tree.Statement.{Statement}
-use Rattle.ksql_statements.specs.declared.tree.StatementBody.{StatementBody}
-use Rattle.ksql_statements.specs.declared.tree.StatementBody.TheVariants.{Declared, Query}
-use Rattle.ksql_statements.specs.declared.tree.WindowText.{WindowText}
+use Rattle.expression_trees.specs.declared.tree.Expr.{Expr}
+use Rattle.statement_trees.specs.declared.tree.JoinText.{JoinText}
+use Rattle.statement_trees.specs.declared.tree.Property.{Property}
+use Rattle.statement_trees.specs.declared.tree.Select.{Select}
+use Rattle.statement_trees.specs.declared.tree.SelectItem.{SelectItem}
+use Rattle.statement_trees.specs.declared.tree.SelectItem.TheVariants.{Star, StarOf, One}
+use Rattle.statement_trees.specs.declared.tree.Source.{Source}
+use Rattle.statement_trees.specs.declared.tree.Statement.{Statement}
+use Rattle.statement_trees.specs.declared.tree.StatementBody.{StatementBody}
+use Rattle.statement_trees.specs.declared.tree.StatementBody.TheVariants.{Declared, Query}
+use Rattle.statement_trees.specs.declared.tree.WindowText.{WindowText}
 use Rattle.ksql_grammar.specs.Symbols.{name_of, or_of, and_of, sum_of, product_of}
 use Rattle.ksql_parser.specs.Grammar as g
 use Rattle.ksql_parser.specs.Grammar.{Spells, table_of}
 use Rattle.ksql_grammar.specs.Reading.{goes_on, EndsExpr}
-use Rattle.ksql_grammar.specs.Expressions.{Reader, behind_key, behind_sign, first, list_of, is_not, is_sign}
-use Rattle.ksql_expressions.specs.Options.{◌>>=◌}
+use Rattle.ksql_grammar.specs.Expressions.{Reader, after_key, after_sign, first, list_of, is_not, is_sign}
+use Rattle.expression_trees.specs.Options.{◌>>=◌}
 use Rattle.ksql_grammar.specs.Expressions as reading
 use Rattle.ksql_grammar.proofs.Begins.{begins, name_begins}
 use Rattle.ksql_grammar.proofs.Chains.{prefixed_none}
@@ -115,9 +115,9 @@ item_at ts None (Some a) = r.alias a.1 >>= λ n. Some (One a.0 n.0, n.1)
 item_at ts None None = r.star_of ts >>= λ n. Some (StarOf n.0, n.1)
 
 item : Reader SelectItem
-item ts = item_at ts (behind_sign mark.Star ts) (expression ts)
+item ts = item_at ts (after_sign mark.Star ts) (expression ts)
 
-name_no_star : (s : Symbol) (name : List ℕ) (ts : List Symbol) → name_of s ≡ Some name → behind_sign mark.Star (s ∷ ts) ≡ None
+name_no_star : (s : Symbol) (name : List ℕ) (ts : List Symbol) → name_of s ≡ Some name → after_sign mark.Star (s ∷ ts) ≡ None
 name_no_star s name ts h = sign_out mark.Star (λ x. name_of x ≡ Some name) (s ∷ ts) h (none-some name)
 
 star_of_read : (s : Symbol) (name : List ℕ) (ts : List Symbol) → name_of s ≡ Some name → r.star_of (s ∷ Sign mark.Dot ∷ Sign mark.Star ∷ ts) ≡ Some (name, ts)
@@ -143,14 +143,14 @@ abbrev IsFrom : Symbol → Type 0
 IsFrom s = s ≡ Key key.From
 
 items_read : {is : List SelectItem} {ts us : List Symbol} → Spells (g.items is) ts us → Rest IsFrom us → (n : ℕ) → length is ≤ n
-    → list_of item (behind_sign mark.Comma) n ts ≡ Some (is, us)
+    → list_of item (after_sign mark.Comma) n ts ≡ Some (is, us)
 items_read (g.last_item d) ends zero le = absurd (omega arith)
 items_read (g.last_item {i} {ts} {us} d) ends (suc n) le =
-    list_last item (behind_sign mark.Comma) n i ts us (item_read d (rest_weaker IsFrom IsItemEnd (λ s h. ap ends_item h) us ends))
+    list_last item (after_sign mark.Comma) n i ts us (item_read d (rest_weaker IsFrom IsItemEnd (λ s h. ap ends_item h) us ends))
     (sign_out mark.Comma IsFrom us ends (λ p. cc))
 items_read (g.more_items d f) ends zero le = absurd (omega arith)
 items_read (g.more_items {i} {is} {ts} {us} {vs} d f) ends (suc n) le =
-    list_more item (behind_sign mark.Comma) n i is ts (Sign mark.Comma ∷ us) us vs (item_read d refl) (sign_there mark.Comma us) (items_read f ends n (omega arith))
+    list_more item (after_sign mark.Comma) n i is ts (Sign mark.Comma ∷ us) us vs (item_read d refl) (sign_there mark.Comma us) (items_read f ends n (omega arith))
 
 -- ---- queries
 
@@ -159,9 +159,9 @@ select_of is s j w f g p h = record { items = is; source = s; join = j; window =
 
 select : ℕ → Reader Select
 select n ts = do
-  us ← behind_key key.Select ts
-  is ← list_of item (behind_sign mark.Comma) n us
-  vs ← behind_key key.From is.1
+  us ← after_key key.Select ts
+  is ← list_of item (after_sign mark.Comma) n us
+  vs ← after_key key.From is.1
   s ← r.source vs
   j ← joined s.1
   w ← r.windowed j.1
@@ -197,7 +197,7 @@ select_read (g.a_select {is} {s} {j} {w} {f} {g = es} {p} {h} {s0} {s1} {s2} {s3
 
 -- [WITH props]
 with_props : ℕ → Reader (List Property)
-with_props n ts = list_at (props n) ts (behind_key key.With ts)
+with_props n ts = list_at (props n) ts (after_key key.With ts)
 
 abbrev IsAs : Symbol → Type 0
 IsAs s = s ≡ Key key.As
@@ -207,22 +207,22 @@ unfolding with_props
 with_props_read (g.no_props {ts}) ends n le = ap (list_at (props n) ts) (key_out key.With IsAs ts ends (λ p. cc))
 with_props_read (g.some_props {ps} {ts} {us} d) ends n le = ap (list_at (props n) (Key key.With ∷ ts)) (key_there key.With ts) ∙ props_read d n le
 
-with_props_no_open : {ps : List Property} {ts us : List Symbol} → Spells (g.with_props ps) ts us → Rest IsAs us → behind_sign mark.Open ts ≡ None
+with_props_no_open : {ps : List Property} {ts us : List Symbol} → Spells (g.with_props ps) ts us → Rest IsAs us → after_sign mark.Open ts ≡ None
 with_props_no_open (g.no_props {ts}) ends = sign_out mark.Open IsAs ts ends (λ p. cc)
 with_props_no_open (g.some_props {ps} {ts} {us} d) ends = sign_out mark.Open (λ s. s ≡ Key key.With) (Key key.With ∷ ts) refl (λ p. cc)
 
 declared : ℕ → Reader StatementBody
 declared n ts = do
-  cs ← list_of r.column (behind_sign mark.Comma) n ts
-  us ← behind_sign mark.Close cs.1
-  vs ← behind_key key.With us
+  cs ← list_of r.column (after_sign mark.Comma) n ts
+  us ← after_sign mark.Close cs.1
+  vs ← after_key key.With us
   ps ← props n vs
   Some (Declared cs.0 ps.0, ps.1)
 
 queried : ℕ → Reader StatementBody
 queried n ts = do
   ps ← with_props n ts
-  us ← behind_key key.As ps.1
+  us ← after_key key.As ps.1
   q ← select n us
   Some (Query ps.0 q.0, q.1)
 
@@ -236,7 +236,7 @@ statement_of t name body = record { table = t; name = name; body = body }
 pub statement : ℕ → Reader Statement
 statement n ts = do
   h ← r.head ts
-  b ← body_at n h.1 (behind_sign mark.Open h.1)
+  b ← body_at n h.1 (after_sign mark.Open h.1)
   Some (statement_of h.0.0 h.0.1 b.0, b.1)
 
 head_read : (x s : Symbol) (t : Bool) (name : List ℕ) (ts : List Symbol) → table_of x ≡ Some t → name_of s ≡ Some name → r.head (Key key.Create ∷ x ∷ s ∷ ts) ≡ Some ((t, name), ts)

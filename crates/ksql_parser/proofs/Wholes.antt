@@ -5,16 +5,16 @@ use Rattle.ksql_lexer.specs.declared.token.Mark.TheVariants as mark
 use Rattle.ksql_grammar.specs.declared.symbol.Keyword.TheVariants as key
 use Rattle.ksql_grammar.specs.declared.symbol.Symbol.{Symbol}
 use Rattle.ksql_grammar.specs.declared.symbol.Symbol.TheVariants.{Key, Sign}
-use Rattle.ksql_statements.specs.declared.tree.Property.{Property}
-use Rattle.ksql_statements.specs.declared.tree.Select.{Select}
-use Rattle.ksql_statements.specs.declared.tree.Statement.{Statement}
-use Rattle.ksql_statements.specs.declared.tree.StatementBody.{StatementBody}
-use Rattle.ksql_statements.specs.declared.tree.StatementBody.TheVariants.{Declared, Query}
+use Rattle.statement_trees.specs.declared.tree.Property.{Property}
+use Rattle.statement_trees.specs.declared.tree.Select.{Select}
+use Rattle.statement_trees.specs.declared.tree.Statement.{Statement}
+use Rattle.statement_trees.specs.declared.tree.StatementBody.{StatementBody}
+use Rattle.statement_trees.specs.declared.tree.StatementBody.TheVariants.{Declared, Query}
 use Rattle.ksql_grammar.specs.Symbols.{name_of}
 use Rattle.ksql_parser.specs.Grammar as g
 use Rattle.ksql_parser.specs.Grammar.{Spells, table_of}
-use Rattle.ksql_grammar.specs.Expressions.{behind_sign, first}
-use Rattle.ksql_expressions.specs.Options.{◌>>=◌}
+use Rattle.ksql_grammar.specs.Expressions.{after_sign, first}
+use Rattle.expression_trees.specs.Options.{◌>>=◌}
 use Rattle.ksql_parser.specs.Statements as r
 use Rattle.ksql_parser.proofs.Steps.{behind, bind_is}
 use Rattle.ksql_grammar.proofs.Steps.{key_there, sign_there, first_there}
@@ -65,8 +65,8 @@ body_declared (Declared cs ps) ts us rest e d =
     subst (λ x. r.SpellsDeclared (Declared cs ps) x rest) (same_tail (Sign mark.Open) (Sign mark.Open) d.0 us (sym d.1 ∙ e)) d.2
 body_declared (Query ps q) ts us rest e d = absurd (no_open ps ts us (Key key.As ∷ d.0) d.0 e refl d.1)
 
-pub body_query : (b : StatementBody) (ts rest : List Symbol) → behind_sign mark.Open ts ≡ None → r.SpellsBody b ts rest → r.SpellsQuery b ts rest
-body_query (Declared cs ps) ts rest h d = absurd (none-some d.0 (sym h ∙ ap (behind_sign mark.Open) d.1 ∙ sign_there mark.Open d.0))
+pub body_query : (b : StatementBody) (ts rest : List Symbol) → after_sign mark.Open ts ≡ None → r.SpellsBody b ts rest → r.SpellsQuery b ts rest
+body_query (Declared cs ps) ts rest h d = absurd (none-some d.0 (sym h ∙ ap (after_sign mark.Open) d.1 ∙ sign_there mark.Open d.0))
 body_query (Query ps q) ts rest h d = d
 
 -- the two parts of a query

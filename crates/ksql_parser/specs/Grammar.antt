@@ -4,27 +4,27 @@ use Rattle.std.specs.Prelude.{◌≡◌, ℕ, Bool, true, false, List, [], ◌�
 use Rattle.ksql_lexer.specs.declared.token.Mark.TheVariants as mark
 use Rattle.ksql_lexer.specs.declared.token.TokenKind.{TokenKind}
 use Rattle.ksql_types.specs.declared.value.SqlType.{SqlType}
-use Rattle.ksql_expressions.specs.Words.{beside}
-use Rattle.ksql_expressions.specs.declared.tree.Expr.{Expr}
-use Rattle.ksql_statements.specs.declared.tree.Statement.{Statement}
-use Rattle.ksql_statements.specs.declared.tree.StatementBody.TheVariants.{Declared, Query}
-use Rattle.ksql_statements.specs.declared.tree.ColumnText.{ColumnText}
-use Rattle.ksql_statements.specs.declared.tree.KeyMark.{KeyMark}
-use Rattle.ksql_statements.specs.declared.tree.KeyMark.TheVariants as keyed
-use Rattle.ksql_statements.specs.declared.tree.Property.{Property}
-use Rattle.ksql_statements.specs.declared.tree.PropertyValue.TheVariants as value
-use Rattle.ksql_statements.specs.declared.tree.Select.{Select}
-use Rattle.ksql_statements.specs.declared.tree.SelectItem.{SelectItem}
-use Rattle.ksql_statements.specs.declared.tree.SelectItem.TheVariants.{Star, StarOf, One}
-use Rattle.ksql_statements.specs.declared.tree.Source.{Source}
-use Rattle.ksql_statements.specs.declared.tree.JoinText.{JoinText}
-use Rattle.ksql_statements.specs.declared.tree.JoinWord.{JoinWord}
-use Rattle.ksql_statements.specs.declared.tree.JoinWord.TheVariants as how
-use Rattle.ksql_statements.specs.declared.tree.WindowText.{WindowText}
-use Rattle.ksql_statements.specs.declared.tree.WindowText.TheVariants.{Tumbling, Hopping}
-use Rattle.ksql_statements.specs.declared.tree.SpanText.{SpanText}
-use Rattle.ksql_statements.specs.declared.tree.Unit.{Unit as UnitWord}
-use Rattle.ksql_statements.specs.declared.tree.Unit.TheVariants as unit
+use Rattle.expression_trees.specs.Words.{beside}
+use Rattle.expression_trees.specs.declared.tree.Expr.{Expr}
+use Rattle.statement_trees.specs.declared.tree.Statement.{Statement}
+use Rattle.statement_trees.specs.declared.tree.StatementBody.TheVariants.{Declared, Query}
+use Rattle.statement_trees.specs.declared.tree.ColumnText.{ColumnText}
+use Rattle.statement_trees.specs.declared.tree.KeyMark.{KeyMark}
+use Rattle.statement_trees.specs.declared.tree.KeyMark.TheVariants as keyed
+use Rattle.statement_trees.specs.declared.tree.Property.{Property}
+use Rattle.statement_trees.specs.declared.tree.PropertyValue.TheVariants as value
+use Rattle.statement_trees.specs.declared.tree.Select.{Select}
+use Rattle.statement_trees.specs.declared.tree.SelectItem.{SelectItem}
+use Rattle.statement_trees.specs.declared.tree.SelectItem.TheVariants.{Star, StarOf, One}
+use Rattle.statement_trees.specs.declared.tree.Source.{Source}
+use Rattle.statement_trees.specs.declared.tree.JoinText.{JoinText}
+use Rattle.statement_trees.specs.declared.tree.JoinWord.{JoinWord}
+use Rattle.statement_trees.specs.declared.tree.JoinWord.TheVariants as how
+use Rattle.statement_trees.specs.declared.tree.WindowText.{WindowText}
+use Rattle.statement_trees.specs.declared.tree.WindowText.TheVariants.{Tumbling, Hopping}
+use Rattle.statement_trees.specs.declared.tree.SpanText.{SpanText}
+use Rattle.statement_trees.specs.declared.tree.Unit.{Unit as UnitWord}
+use Rattle.statement_trees.specs.declared.tree.Unit.TheVariants as unit
 use Rattle.ksql_grammar.specs.declared.symbol.Keyword.TheVariants as key
 use Rattle.ksql_grammar.specs.declared.symbol.Symbol.{Symbol}
 use Rattle.ksql_grammar.specs.declared.symbol.Symbol.TheVariants.{Key, Word, Text, Number, Sign}

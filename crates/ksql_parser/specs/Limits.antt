@@ -7,7 +7,7 @@ use Rattle.ksql_lexer.specs.declared.token.TokenKind.{TokenKind}
 use Rattle.ksql_lexer.specs.declared.token.TokenKind.TheVariants as kind
 use Rattle.ksql_types.specs.declared.code.Code.{Code}
 use Rattle.ksql_types.specs.declared.code.Code.TheVariants.{Syntax, TooLarge, Unsupported}
-use Rattle.ksql_statements.specs.declared.tree.Statement.{Statement}
+use Rattle.statement_trees.specs.declared.tree.Statement.{Statement}
 use Rattle.ksql_parser.specs.Grammar.{IsSpelledBy}
 
 -- whether a token is this word, in any case

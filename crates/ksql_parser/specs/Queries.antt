@@ -4,10 +4,10 @@ use Rattle.ksql_grammar.specs.declared.symbol.Keyword.{Keyword}
 use Rattle.ksql_grammar.specs.declared.symbol.Keyword.TheVariants as key
 use Rattle.ksql_grammar.specs.declared.symbol.Symbol.{Symbol}
 use Rattle.ksql_grammar.specs.declared.symbol.Symbol.TheVariants.{Key}
-use Rattle.ksql_statements.specs.declared.tree.Select.{Select}
+use Rattle.statement_trees.specs.declared.tree.Select.{Select}
 use Rattle.ksql_parser.specs.Grammar.{Spells, items, source, joined, windowed, filter, group, partition, having}
-use Rattle.ksql_grammar.specs.Expressions.{behind_key}
-use Rattle.ksql_parser.specs.Statements.{behind_or_here}
+use Rattle.ksql_grammar.specs.Expressions.{after_key}
+use Rattle.ksql_parser.specs.Statements.{after_or_here}
 use Rattle.ksql_parser.specs.declared.statement.queries.Front.{Front}
 use Rattle.ksql_parser.specs.declared.statement.queries.Clauses.{Clauses}
 
@@ -26,5 +26,5 @@ abbrev pub select_of : Front → Clauses → Select
 select_of f c = record { items = f.items; source = f.source; join = f.join; window = f.window; filter = c.filter; group = c.group; partition = c.partition; having = c.having }
 
 -- after JOIN, before which this word may stand
-unfoldable pub behind_join : Keyword → List Symbol → Option (List Symbol)
-behind_join k ts = behind_key key.Join (behind_or_here ts (behind_key k ts))
+unfoldable pub after_join : Keyword → List Symbol → Option (List Symbol)
+after_join k ts = after_key key.Join (after_or_here ts (after_key k ts))

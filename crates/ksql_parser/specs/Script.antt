@@ -9,7 +9,7 @@ use Rattle.ksql_lexer.specs.Script.{AreTokens, is_semicolon, kinds}
 use Rattle.ksql_types.specs.declared.code.Code.{Code}
 use Rattle.ksql_parser.specs.declared.fault.ParseFault.{ParseFault}
 use Rattle.ksql_parser.specs.declared.fault.ParseFault.TheVariants.{Refused, OutOfMemory}
-use Rattle.ksql_statements.specs.declared.tree.Statement.{Statement}
+use Rattle.statement_trees.specs.declared.tree.Statement.{Statement}
 use Rattle.ksql_parser.specs.Grammar.{IsSpelledBy}
 use Rattle.ksql_parser.specs.Limits.{rules, RefusesFirst, NoneRefuses}
 

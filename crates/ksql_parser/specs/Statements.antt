@@ -6,38 +6,38 @@ use Rattle.ksql_grammar.specs.declared.symbol.Keyword.{Keyword}
 use Rattle.ksql_grammar.specs.declared.symbol.Keyword.TheVariants as key
 use Rattle.ksql_grammar.specs.declared.symbol.Symbol.{Symbol}
 use Rattle.ksql_grammar.specs.declared.symbol.Symbol.TheVariants.{Key, Word, Text, Number, Sign}
-use Rattle.ksql_statements.specs.declared.tree.ColumnText.{ColumnText}
-use Rattle.ksql_statements.specs.declared.tree.KeyMark.{KeyMark}
-use Rattle.ksql_statements.specs.declared.tree.KeyMark.TheVariants as keyed
-use Rattle.ksql_statements.specs.declared.tree.Property.{Property}
-use Rattle.ksql_statements.specs.declared.tree.PropertyValue.{PropertyValue}
-use Rattle.ksql_statements.specs.declared.tree.PropertyValue.TheVariants as value
-use Rattle.ksql_statements.specs.declared.tree.Source.{Source}
-use Rattle.ksql_statements.specs.declared.tree.JoinWord.{JoinWord}
-use Rattle.ksql_statements.specs.declared.tree.JoinWord.TheVariants as how
-use Rattle.ksql_statements.specs.declared.tree.WindowText.{WindowText}
-use Rattle.ksql_statements.specs.declared.tree.WindowText.TheVariants.{Tumbling, Hopping}
-use Rattle.ksql_statements.specs.declared.tree.SpanText.{SpanText}
+use Rattle.statement_trees.specs.declared.tree.ColumnText.{ColumnText}
+use Rattle.statement_trees.specs.declared.tree.KeyMark.{KeyMark}
+use Rattle.statement_trees.specs.declared.tree.KeyMark.TheVariants as keyed
+use Rattle.statement_trees.specs.declared.tree.Property.{Property}
+use Rattle.statement_trees.specs.declared.tree.PropertyValue.{PropertyValue}
+use Rattle.statement_trees.specs.declared.tree.PropertyValue.TheVariants as value
+use Rattle.statement_trees.specs.declared.tree.Source.{Source}
+use Rattle.statement_trees.specs.declared.tree.JoinWord.{JoinWord}
+use Rattle.statement_trees.specs.declared.tree.JoinWord.TheVariants as how
+use Rattle.statement_trees.specs.declared.tree.WindowText.{WindowText}
+use Rattle.statement_trees.specs.declared.tree.WindowText.TheVariants.{Tumbling, Hopping}
+use Rattle.statement_trees.specs.declared.tree.SpanText.{SpanText}
 use Rattle.ksql_grammar.specs.Symbols.{name_of, type_of}
 use Rattle.ksql_parser.specs.Grammar.{unit_of}
-use Rattle.ksql_statements.specs.declared.tree.StatementBody.{StatementBody}
-use Rattle.ksql_statements.specs.declared.tree.StatementBody.TheVariants.{Declared, Query}
+use Rattle.statement_trees.specs.declared.tree.StatementBody.{StatementBody}
+use Rattle.statement_trees.specs.declared.tree.StatementBody.TheVariants.{Declared, Query}
 use Rattle.ksql_parser.specs.Grammar.{Spells, table_of, columns, props, with_props, select}
-use Rattle.ksql_grammar.specs.Expressions.{Reader, behind_key, behind_sign, first}
-use Rattle.ksql_expressions.specs.Options.{◌>>=◌}
+use Rattle.ksql_grammar.specs.Expressions.{Reader, after_key, after_sign, first}
+use Rattle.expression_trees.specs.Options.{◌>>=◌}
 
 -- a value and the symbols after it, both lent
 abbrev pub lent : {A : Type 0} → Bor A × Bor (List Symbol) → A × List Symbol
 lent x = (x.0.now, x.1.now)
 
 -- after this word, which isn't reserved
-unfoldable pub behind_word : List ℕ → List Symbol → Option (List Symbol)
-behind_word w (Word found ∷ ts) = if bytes_eq found w then Some ts else None
-behind_word w _ = None
+unfoldable pub after_word : List ℕ → List Symbol → Option (List Symbol)
+after_word w (Word found ∷ ts) = if bytes_eq found w then Some ts else None
+after_word w _ = None
 
 -- after both, one after the other
-unfoldable pub behind_words : List ℕ → List ℕ → List Symbol → Option (List Symbol)
-behind_words v w ts = behind_word v ts >>= behind_word w
+unfoldable pub after_words : List ℕ → List ℕ → List Symbol → Option (List Symbol)
+after_words v w ts = after_word v ts >>= after_word w
 
 abbrev pub key_mark_at : List Symbol → Option (List Symbol) → Option (List Symbol) → KeyMark × List Symbol
 key_mark_at ts (Some us) _ = (keyed.Key, us)
@@ -46,7 +46,7 @@ key_mark_at ts None None = (keyed.Plain, ts)
 
 -- [KEY | PRIMARY KEY]
 unfoldable pub key_mark : List Symbol → KeyMark × List Symbol
-key_mark ts = key_mark_at ts (behind_word (codes "KEY") ts) (behind_words (codes "PRIMARY") (codes "KEY") ts)
+key_mark ts = key_mark_at ts (after_word (codes "KEY") ts) (after_words (codes "PRIMARY") (codes "KEY") ts)
 
 unfoldable pub column : Reader ColumnText
 column ts = do
@@ -63,13 +63,13 @@ property_value _ = None
 unfoldable pub property : Reader Property
 property ts = do
   n ← first name_of ts
-  us ← behind_sign mark.Equal n.1
+  us ← after_sign mark.Equal n.1
   v ← property_value us
   Some (record { name = n.0; value = v.0 }, v.1)
 
 -- after AS, a name
-unfoldable pub behind_as : Reader (List ℕ)
-behind_as ts = behind_key key.As ts >>= first name_of
+unfoldable pub after_as : Reader (List ℕ)
+after_as ts = after_key key.As ts >>= first name_of
 
 abbrev pub alias_at : List Symbol → Option (List ℕ × List Symbol) → Option (List ℕ × List Symbol) → Option (Option (List ℕ) × List Symbol)
 alias_at ts (Some n) _ = Some (Some n.0, n.1)
@@ -78,7 +78,7 @@ alias_at ts None None = Some (None, ts)
 
 -- [[AS] name]
 unfoldable pub alias : Reader (Option (List ℕ))
-alias ts = alias_at ts (behind_as ts) (first name_of ts)
+alias ts = alias_at ts (after_as ts) (first name_of ts)
 
 unfoldable pub source : Reader Source
 source ts = do
@@ -110,25 +110,25 @@ abbrev pub span_at : List Symbol → Option (List Symbol) → Option (Option Spa
 span_at ts (Some us) = span us >>= λ s. Some (Some s.0, s.1)
 span_at ts None = Some (None, ts)
 
-unfoldable pub behind_retention : List Symbol → Option (List Symbol)
-behind_retention ts = behind_sign mark.Comma ts >>= behind_word (codes "RETENTION")
+unfoldable pub after_retention : List Symbol → Option (List Symbol)
+after_retention ts = after_sign mark.Comma ts >>= after_word (codes "RETENTION")
 
-unfoldable pub behind_grace : List Symbol → Option (List Symbol)
-behind_grace ts = behind_sign mark.Comma ts >>= behind_words (codes "GRACE") (codes "PERIOD")
+unfoldable pub after_grace : List Symbol → Option (List Symbol)
+after_grace ts = after_sign mark.Comma ts >>= after_words (codes "GRACE") (codes "PERIOD")
 
 -- [retention] [grace] ")"
 unfoldable pub limits : Reader (Option SpanText × Option SpanText)
 limits ts = do
-  r ← span_at ts (behind_retention ts)
-  g ← span_at r.1 (behind_grace r.1)
-  us ← behind_sign mark.Close g.1
+  r ← span_at ts (after_retention ts)
+  g ← span_at r.1 (after_grace r.1)
+  us ← after_sign mark.Close g.1
   Some ((r.0, g.0), us)
 
 -- "(" SIZE span
 unfoldable pub size : Reader SpanText
 size ts = do
-  us ← behind_sign mark.Open ts
-  vs ← behind_word (codes "SIZE") us
+  us ← after_sign mark.Open ts
+  vs ← after_word (codes "SIZE") us
   span vs
 
 -- after TUMBLING
@@ -141,9 +141,9 @@ tumbling ts = do
 -- "," ADVANCE BY span
 unfoldable pub advance : Reader SpanText
 advance ts = do
-  us ← behind_sign mark.Comma ts
-  vs ← behind_word (codes "ADVANCE") us
-  ws ← behind_key key.By vs
+  us ← after_sign mark.Comma ts
+  vs ← after_word (codes "ADVANCE") us
+  ws ← after_key key.By vs
   span ws
 
 -- after HOPPING
@@ -161,7 +161,7 @@ window_at None None = None
 
 -- after WINDOW
 unfoldable pub window : Reader WindowText
-window ts = window_at (behind_word (codes "TUMBLING") ts) (behind_word (codes "HOPPING") ts)
+window ts = window_at (after_word (codes "TUMBLING") ts) (after_word (codes "HOPPING") ts)
 
 abbrev pub windowed_at : List Symbol → Option (List Symbol) → Option (Option WindowText × List Symbol)
 windowed_at ts (Some us) = window us >>= λ w. Some (Some w.0, w.1)
@@ -169,36 +169,36 @@ windowed_at ts None = Some (None, ts)
 
 -- [WINDOW window]
 unfoldable pub windowed : Reader (Option WindowText)
-windowed ts = windowed_at ts (behind_key key.Window ts)
+windowed ts = windowed_at ts (after_key key.Window ts)
 
 -- the rest after an optional part
-abbrev pub behind_or_here : List Symbol → Option (List Symbol) → List Symbol
-behind_or_here ts (Some us) = us
-behind_or_here ts None = ts
+abbrev pub after_or_here : List Symbol → Option (List Symbol) → List Symbol
+after_or_here ts (Some us) = us
+after_or_here ts None = ts
 
-unfoldable pub behind_changes : List Symbol → Option (List Symbol)
-behind_changes ts = behind_key key.Emit ts >>= behind_word (codes "CHANGES")
+unfoldable pub after_changes : List Symbol → Option (List Symbol)
+after_changes ts = after_key key.Emit ts >>= after_word (codes "CHANGES")
 
 -- [EMIT CHANGES]
 unfoldable pub emit : List Symbol → List Symbol
-emit ts = behind_or_here ts (behind_changes ts)
+emit ts = after_or_here ts (after_changes ts)
 
 -- this reserved word and BY
-unfoldable pub behind_by : Keyword → List Symbol → Option (List Symbol)
-behind_by k ts = behind_key k ts >>= behind_key key.By
+unfoldable pub after_by : Keyword → List Symbol → Option (List Symbol)
+after_by k ts = after_key k ts >>= after_key key.By
 
 -- name "." "*"
 unfoldable pub star_of : Reader (List ℕ)
 star_of ts = do
   n ← first name_of ts
-  us ← behind_sign mark.Dot n.1
-  vs ← behind_sign mark.Star us
+  us ← after_sign mark.Dot n.1
+  vs ← after_sign mark.Star us
   Some (n.0, vs)
 
 -- CREATE (STREAM | TABLE) name
 unfoldable pub head : Reader (Bool × List ℕ)
 head ts = do
-  us ← behind_key key.Create ts
+  us ← after_key key.Create ts
   t ← first table_of us
   n ← first name_of t.1
   Some ((t.0, n.0), n.1)

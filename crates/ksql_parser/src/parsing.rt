@@ -1,6 +1,6 @@
 ghost use Rattle.std.specs.Prelude.{◌≡◌, ◌<◌, ◌^◌, ◌++◌, ℕ, List, [], ◌∷◌, Ok, Err, filter, length, position};
 ghost use Rattle.ksql_lexer.specs.declared.token.TokenKind.{TokenKind as Kind};
-ghost use Rattle.ksql_statements.specs.declared.tree.Statement.{Statement as Tree};
+ghost use Rattle.statement_trees.specs.declared.tree.Statement.{Statement as Tree};
 ghost use Rattle.ksql_types.specs.declared.code.Code.{Code as OneCode};
 ghost use Rattle.ksql_lexer.specs.Script.{is_semicolon, kinds};
 ghost use Rattle.ksql_parser.specs.Grammar.{IsSpelledBy};
@@ -14,7 +14,7 @@ use crate::statement::read_statement;
 use crate::symbols::symbols_of;
 use ksql_grammar::ReadError;
 use ksql_lexer::{Mark, Token, TokenKind};
-use ksql_statements::Statement;
+use statement_trees::Statement;
 use ksql_types::Code;
 use std::alloc::Global;
 

@@ -6,8 +6,8 @@ ghost use Rattle.ksql_lexer.specs.declared.token.Mark.TheVariants as mark;
 ghost use Rattle.ksql_grammar.specs.declared.symbol.Keyword.TheVariants as key;
 ghost use Rattle.ksql_grammar.specs.declared.symbol.Symbol.{Symbol as OneSymbol};
 ghost use Rattle.ksql_grammar.specs.declared.symbol.Symbol.TheVariants.{Key, Sign};
-ghost use Rattle.ksql_statements.specs.declared.tree.Statement.{Statement as OneStatement};
-ghost use Rattle.ksql_statements.specs.declared.tree.StatementBody.{StatementBody as OneBody};
+ghost use Rattle.statement_trees.specs.declared.tree.Statement.{Statement as OneStatement};
+ghost use Rattle.statement_trees.specs.declared.tree.StatementBody.{StatementBody as OneBody};
 ghost use Rattle.ksql_parser.specs.Grammar.{Spells, statement, table_of as creates};
 ghost use Rattle.ksql_grammar.specs.Expressions as read;
 ghost use Rattle.ksql_grammar.specs.Reading.{Gives, with_rest};
@@ -22,9 +22,9 @@ mod windows;
 use crate::statement::declaration::{optional_properties, read_columns, read_properties};
 use crate::statement::queries::read_select;
 use crate::statement::step::{key, name, sign};
-use ksql_grammar::{Keyword, ReadError, Symbol, behind_sign};
+use ksql_grammar::{Keyword, ReadError, Symbol, after_sign};
 use ksql_lexer::Mark;
-use ksql_statements::{Statement, StatementBody};
+use statement_trees::{Statement, StatementBody};
 use ksql_types::{Chars, CopyOf};
 use std::alloc::Global;
 
@@ -80,7 +80,7 @@ fn body(alloc: Global, symbols: &[Symbol]) -> Result<(StatementBody, &[Symbol]),
     ensures found { IfOk result (λ x. part.SpellsBody x.0 symbols.now x.1.now) }
     ensures only { (b : OneBody) → part.SpellsBody b symbols.now [] → Gives with_rest result (Some (b, [])) }
 {
-    match behind_sign(Mark::Open, symbols) {
+    match after_sign(Mark::Open, symbols) {
         Some(rest) => declared(alloc, rest),
         None => query(alloc, symbols),
     }

@@ -1,7 +1,7 @@
 ghost use Rattle.std.specs.Prelude.{◌≡◌, bytes_eq};
 ghost use Rattle.std.specs.List.{list_any};
 ghost use Rattle.ksql_grammar.specs.Symbols.{keyword_of};
-ghost use Rattle.ksql_expressions.specs.Words.{beside};
+ghost use Rattle.expression_trees.specs.Words.{beside};
 ghost use Rattle.ksql_parser.specs.Limits.{unsupported_words};
 ghost use Rattle.ksql_parser.specs.Words.{clause_words, closing_words, command_words, expression_words, form_words, kind_words, setting_words, statement_words};
 

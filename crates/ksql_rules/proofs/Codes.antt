@@ -5,7 +5,7 @@ use Rattle.std.proofs.Math.Seq.{take-length}
 use Rattle.ksql_types.specs.declared.code.Code.{Code}
 use Rattle.ksql_types.specs.declared.code.Code.TheVariants.{Syntax}
 use Rattle.ksql_types.specs.declared.relation.Relation.{Relation}
-use Rattle.ksql_statements.specs.declared.tree.Statement.{Statement}
+use Rattle.statement_trees.specs.declared.tree.Statement.{Statement}
 use Rattle.ksql_rules.specs.Breaks.{Breaks}
 use Rattle.ksql_rules.specs.Lowest.{BreaksFirst, BreaksNone}
 

@@ -2,9 +2,9 @@
 use Rattle.std.proofs.Common.{◌≡◌, Bool, ◌&&◌, List, [], ◌∷◌, Option, Some, None, IsTrue, refl, sym, subst}
 use Rattle.std.specs.Prelude.{◌↔◌}
 use Rattle.std.specs.List.{list_all}
-use Rattle.ksql_expressions.specs.declared.tree.Expr.{Expr}
-use Rattle.ksql_statements.specs.declared.tree.Select.{Select}
-use Rattle.ksql_names.specs.declared.scope.Scope.{Scope}
+use Rattle.expression_trees.specs.declared.tree.Expr.{Expr}
+use Rattle.statement_trees.specs.declared.tree.Select.{Select}
+use Rattle.ksql_scopes.specs.declared.scope.Scope.{Scope}
 use Rattle.ksql_type_sets.specs.Sets.{is_some_in}
 use Rattle.ksql_typing.specs.Standing.{CanBeTrue, CanAgree}
 use Rattle.std.proofs.lemmas.Bool.{and_parts, and_from}

@@ -5,30 +5,30 @@ use Rattle.std.specs.List.{flat_map, AllByRecursion as Each}
 use Rattle.std.proofs.lemmas.List.Elements.{All-nil, All-cons, All-head, All-tail, All-append}
 use Rattle.ksql_types.specs.declared.relation.Column.{Column}
 use Rattle.ksql_types.specs.declared.operator.BinaryOp.TheVariants as op
-use Rattle.ksql_expressions.specs.declared.tree.Expr.{Expr, out-Expr, roll-Expr, roll-out-Expr}
-use Rattle.ksql_expressions.specs.declared.tree.Expr.TheOpen.{Expr-F}
-use Rattle.ksql_expressions.specs.declared.tree.Expr.TheVariants.{rolls-Binary}
-use Rattle.ksql_expressions.specs.declared.tree.Expr.TheVariants as e
-use Rattle.ksql_statements.specs.declared.tree.SelectItem.{SelectItem}
-use Rattle.ksql_statements.specs.declared.tree.SelectItem.TheVariants.{Star, StarOf, One}
-use Rattle.ksql_expressions.specs.declared.tree.WhenText.{WhenText}
+use Rattle.expression_trees.specs.declared.tree.Expr.{Expr, out-Expr, roll-Expr, roll-out-Expr}
+use Rattle.expression_trees.specs.declared.tree.Expr.TheOpen.{Expr-F}
+use Rattle.expression_trees.specs.declared.tree.Expr.TheVariants.{rolls-Binary}
+use Rattle.expression_trees.specs.declared.tree.Expr.TheVariants as e
+use Rattle.statement_trees.specs.declared.tree.SelectItem.{SelectItem}
+use Rattle.statement_trees.specs.declared.tree.SelectItem.TheVariants.{Star, StarOf, One}
+use Rattle.expression_trees.specs.declared.tree.WhenText.{WhenText}
 use Rattle.ksql_types.specs.Columns.{columns}
-use Rattle.ksql_names.specs.declared.scope.Scope.{Scope}
-use Rattle.ksql_names.specs.declared.scope.ScopeColumn.{ScopeColumn}
-use Rattle.ksql_names.specs.Scope.{is_known_as}
-use Rattle.ksql_names.specs.Uses.{is_small, IsSmall, small_step, are_small, are_whens_small, is_small_perhaps}
-use Rattle.ksql_expressions.proofs.Folds as f
-use Rattle.ksql_names.proofs.Induction.{IfThere, InWhen, Steps, induction}
+use Rattle.ksql_scopes.specs.declared.scope.Scope.{Scope}
+use Rattle.ksql_scopes.specs.declared.scope.ScopeColumn.{ScopeColumn}
+use Rattle.ksql_scopes.specs.Scope.{is_known_as}
+use Rattle.ksql_scopes.specs.Uses.{is_small, IsSmall, small_step, are_small, are_whens_small, is_small_perhaps}
+use Rattle.expression_trees.proofs.Folds as f
+use Rattle.ksql_scopes.proofs.Induction.{IfThere, InWhen, Steps, induction}
 use Rattle.ksql_clauses.specs.declared.items.Named.{Named}
 use Rattle.ksql_clauses.specs.declared.sources.Known.{Known}
 use Rattle.ksql_clauses.specs.Items.{named, named_from, numbered_name, plain_name, star_column, star_of, all_stars, stars_of, is_join}
-use Rattle.ksql_names.specs.Resolved.{resolved, resolved_when, is_row_time, written_for}
+use Rattle.ksql_scopes.specs.Resolved.{resolved, resolved_when, is_row_time, written_for}
 use Rattle.ksql_clauses.specs.Sources.{item_exprs}
 use Rattle.ksql_clauses.proofs.Naming.{from-nothing, from-Star, from-StarOf, from-alias, from-plain, from-numbered}
-use Rattle.ksql_names.proofs.Resolving as r
+use Rattle.ksql_scopes.proofs.Resolving as r
 use Rattle.ksql_clauses.specs.Keys.{on_sides, equated_sides}
 use Rattle.std.proofs.lemmas.Bool.{and_parts}
-use Rattle.ksql_names.proofs.Small.{is_small-OneOf, is_small-Case, is_small-Call}
+use Rattle.ksql_scopes.proofs.Small.{is_small-OneOf, is_small-Case, is_small-Call}
 
 -- ---- forms
 

@@ -7,11 +7,11 @@ use Rattle.std.proofs.lemmas.List.Elements.{All-nil, All-cons, All-head, All-tai
 use Rattle.ksql_types.specs.Catalog.{find_named, has_name}
 use Rattle.ksql_types.specs.declared.relation.Column.{Column}
 use Rattle.ksql_types.specs.declared.relation.Relation.{Relation}
-use Rattle.ksql_statements.specs.declared.tree.JoinText.{JoinText}
-use Rattle.ksql_statements.specs.declared.tree.Select.{Select}
-use Rattle.ksql_statements.specs.declared.tree.Source.{Source}
+use Rattle.statement_trees.specs.declared.tree.JoinText.{JoinText}
+use Rattle.statement_trees.specs.declared.tree.Select.{Select}
+use Rattle.statement_trees.specs.declared.tree.Source.{Source}
 use Rattle.ksql_types.specs.Columns.{columns}
-use Rattle.ksql_names.specs.Uses.{IsSmall}
+use Rattle.ksql_scopes.specs.Uses.{IsSmall}
 use Rattle.ksql_clauses.specs.declared.sources.Known.{Known}
 use Rattle.ksql_clauses.specs.Items.{HasShortNames}
 use Rattle.ksql_clauses.specs.Sources.{alias_of, sources, known, all_known, is_full, key_columns_of, scope_columns, scope_column, rowkey, rowkey_of, from_columns, there, on_exprs, front_exprs, early_exprs}

@@ -1,8 +1,8 @@
 -- The body of a statement as it is judged.
 use Rattle.std.specs.Prelude.{◌≡◌, List}
 use Rattle.ksql_types.specs.declared.relation.Relation.{Relation}
-use Rattle.ksql_statements.specs.declared.tree.StatementBody.{StatementBody}
-use Rattle.ksql_statements.specs.declared.tree.StatementBody.TheVariants as is
+use Rattle.statement_trees.specs.declared.tree.StatementBody.{StatementBody}
+use Rattle.statement_trees.specs.declared.tree.StatementBody.TheVariants as is
 use Rattle.ksql_clauses.specs.Sources.{all_known}
 use Rattle.ksql_rules.specs.declared.broken.Body.{Body}
 use Rattle.ksql_rules.specs.declared.broken.Body.TheVariants.{Declared, Query}

@@ -6,31 +6,31 @@ use Rattle.ksql_types.specs.declared.relation.Format.{Format}
 use Rattle.ksql_types.specs.declared.relation.Format.TheVariants.{Json, Delimited}
 use Rattle.ksql_types.specs.declared.relation.Relation.{Relation}
 use Rattle.ksql_types.specs.declared.value.SqlType.{SqlType}
-use Rattle.ksql_statements.specs.declared.tree.ColumnText.{ColumnText}
-use Rattle.ksql_expressions.specs.declared.tree.Expr.{Expr}
-use Rattle.ksql_statements.specs.declared.tree.KeyMark.{KeyMark}
-use Rattle.ksql_statements.specs.declared.tree.KeyMark.TheVariants.{Plain, Key, PrimaryKey}
-use Rattle.ksql_statements.specs.declared.tree.Property.{Property}
-use Rattle.ksql_statements.specs.declared.tree.Select.{Select}
-use Rattle.ksql_statements.specs.declared.tree.SelectItem.{SelectItem}
-use Rattle.ksql_statements.specs.declared.tree.SelectItem.TheVariants.{StarOf}
-use Rattle.ksql_statements.specs.declared.tree.Statement.{Statement}
-use Rattle.ksql_statements.specs.declared.tree.StatementBody.{StatementBody}
-use Rattle.ksql_statements.specs.declared.tree.StatementBody.TheVariants.{Declared, Query}
-use Rattle.ksql_statements.specs.declared.tree.WindowText.{WindowText}
+use Rattle.statement_trees.specs.declared.tree.ColumnText.{ColumnText}
+use Rattle.expression_trees.specs.declared.tree.Expr.{Expr}
+use Rattle.statement_trees.specs.declared.tree.KeyMark.{KeyMark}
+use Rattle.statement_trees.specs.declared.tree.KeyMark.TheVariants.{Plain, Key, PrimaryKey}
+use Rattle.statement_trees.specs.declared.tree.Property.{Property}
+use Rattle.statement_trees.specs.declared.tree.Select.{Select}
+use Rattle.statement_trees.specs.declared.tree.SelectItem.{SelectItem}
+use Rattle.statement_trees.specs.declared.tree.SelectItem.TheVariants.{StarOf}
+use Rattle.statement_trees.specs.declared.tree.Statement.{Statement}
+use Rattle.statement_trees.specs.declared.tree.StatementBody.{StatementBody}
+use Rattle.statement_trees.specs.declared.tree.StatementBody.TheVariants.{Declared, Query}
+use Rattle.statement_trees.specs.declared.tree.WindowText.{WindowText}
 use Rattle.ksql_types.specs.declared.code.Code.{Code}
 use Rattle.ksql_types.specs.declared.code.Code.TheVariants as code
 use Rattle.ksql_types.specs.Names.{are_column_names, is_topic_name}
-use Rattle.ksql_grouping.specs.Grouping.{has_aggregate, has_ordered_aggregate, has_nested_aggregate, has_bare_column}
+use Rattle.aggregate_rules.specs.Grouping.{has_aggregate, has_ordered_aggregate, has_nested_aggregate, has_bare_column}
 use Rattle.ksql_clauses.specs.declared.items.Named.{Named}
 use Rattle.ksql_clauses.specs.declared.sources.Known.{Known}
 use Rattle.ksql_clauses.specs.Items.{result_columns, is_alias, is_join}
 use Rattle.ksql_clauses.specs.Keys.{on_sides, join_key, key_places, key_columns, value_columns}
 use Rattle.ksql_clauses.specs.Properties.{are_bad, digits_in, format_in, name_of, topic_in, value_of}
-use Rattle.ksql_names.specs.Resolved.{resolved}
+use Rattle.ksql_scopes.specs.Resolved.{resolved}
 use Rattle.ksql_clauses.specs.Sources.{all_known, has_unknown_source, have_one_alias, is_windowed, reads_stream, joined_streams, is_full, from_scope, item_scope, on_scope, there, late_exprs, early_exprs, front_exprs, on_exprs}
 use Rattle.ksql_typing.specs.Standing.{HasType, HasValue, CanBeTrue, CanAgree}
-use Rattle.ksql_names.specs.Uses.{has_unknown_name, has_ambiguous_name, has_unknown_function}
+use Rattle.ksql_scopes.specs.Uses.{has_unknown_name, has_ambiguous_name, has_unknown_function}
 use Rattle.ksql_clauses.specs.Windows.{is_too_large, is_bad}
 
 -- ---- TooLarge: a limit is passed

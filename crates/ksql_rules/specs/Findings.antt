@@ -1,13 +1,13 @@
 -- What is found out of a query once.
 use Rattle.std.specs.Prelude.{◌≡◌, ◌-◌, ◌^◌, ◌≤◌, List, length, map, option_map}
 use Rattle.std.specs.List.{list_any, list_all}
-use Rattle.ksql_expressions.specs.declared.tree.Expr.{Expr}
-use Rattle.ksql_names.specs.declared.scope.Scope.{Scope}
+use Rattle.expression_trees.specs.declared.tree.Expr.{Expr}
+use Rattle.ksql_scopes.specs.declared.scope.Scope.{Scope}
 use Rattle.ksql_type_sets.specs.Sets.{is_some_in}
-use Rattle.ksql_names.specs.Uses.{has_unknown_name, has_ambiguous_name}
+use Rattle.ksql_scopes.specs.Uses.{has_unknown_name, has_ambiguous_name}
 use Rattle.ksql_typing.specs.Judged.{judged}
 use Rattle.ksql_clauses.specs.Items.{result_columns}
-use Rattle.ksql_names.specs.Resolved.{resolved}
+use Rattle.ksql_scopes.specs.Resolved.{resolved}
 use Rattle.ksql_clauses.specs.Sources.{from_scope, on_scope, item_scope, on_exprs, front_exprs, early_exprs, late_exprs}
 use Rattle.ksql_rules.specs.Breaks.{group_exprs}
 use Rattle.ksql_rules.specs.declared.findings.Findings.{Findings}

@@ -2,14 +2,14 @@
 -- of at most 65,536, digits of at most 9223372036854775807, and at most 64 columns.
 use Rattle.std.specs.Prelude.{◌≤◌, ⊤, All, length, Some}
 use Rattle.ksql_types.specs.declared.relation.Relation.{Relation}
-use Rattle.ksql_statements.specs.declared.tree.Select.{Select}
-use Rattle.ksql_statements.specs.declared.tree.SelectItem.{SelectItem}
-use Rattle.ksql_statements.specs.declared.tree.SelectItem.TheVariants.{One}
-use Rattle.ksql_statements.specs.declared.tree.Statement.{Statement}
-use Rattle.ksql_statements.specs.declared.tree.StatementBody.{StatementBody}
-use Rattle.ksql_statements.specs.declared.tree.StatementBody.TheVariants.{Declared, Query}
+use Rattle.statement_trees.specs.declared.tree.Select.{Select}
+use Rattle.statement_trees.specs.declared.tree.SelectItem.{SelectItem}
+use Rattle.statement_trees.specs.declared.tree.SelectItem.TheVariants.{One}
+use Rattle.statement_trees.specs.declared.tree.Statement.{Statement}
+use Rattle.statement_trees.specs.declared.tree.StatementBody.{StatementBody}
+use Rattle.statement_trees.specs.declared.tree.StatementBody.TheVariants.{Declared, Query}
 use Rattle.ksql_types.specs.Columns.{columns}
-use Rattle.ksql_names.specs.Uses.{IsSmall}
+use Rattle.ksql_scopes.specs.Uses.{IsSmall}
 use Rattle.ksql_clauses.specs.Items.{IsShortItem}
 use Rattle.ksql_clauses.specs.Sources.{alias_of, sources, early_exprs, late_exprs}
 

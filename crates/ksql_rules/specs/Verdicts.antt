@@ -1,7 +1,7 @@
 -- What is judged of a statement, where these relations stand before it.
 use Rattle.std.specs.Prelude.{List}
 use Rattle.ksql_types.specs.declared.relation.Relation.{Relation}
-use Rattle.ksql_statements.specs.declared.tree.Statement.{Statement}
+use Rattle.statement_trees.specs.declared.tree.Statement.{Statement}
 use Rattle.ksql_rules.specs.declared.verdict.Verdict.{Verdict}
 use Rattle.ksql_rules.specs.declared.verdict.Verdict.TheVariants.{Accepted, Refused}
 use Rattle.ksql_rules.specs.Bodies.{IsBodyOf}

@@ -2,8 +2,8 @@
 
 ghost use Rattle.std.specs.Prelude.{◌≡◌, ◌||◌};
 ghost use Rattle.std.specs.List.{list_any};
-ghost use Rattle.ksql_names.specs.Uses as uses;
-ghost use Rattle.ksql_grouping.specs.Grouping as grouping;
+ghost use Rattle.ksql_scopes.specs.Uses as uses;
+ghost use Rattle.aggregate_rules.specs.Grouping as grouping;
 ghost use Rattle.ksql_clauses.specs.Sources as sources;
 ghost use Rattle.ksql_rules.specs.Breaks as spec;
 ghost use Rattle.ksql_rules.specs.Findings.{AreFindings};
@@ -12,8 +12,8 @@ use crate::findings::Findings;
 use crate::queries::{is_grouped, is_stream_join, joins_itself, reads_windowed};
 use crate::truth::either;
 use ksql_clauses::{Named, joined_streams, reads_stream};
-use ksql_expressions::Expr;
-use ksql_grouping::{
+use expression_trees::Expr;
+use aggregate_rules::{
     has_aggregate, has_bare_column, has_nested_aggregate, has_ordered_aggregate,
     has_unknown_function,
 };

@@ -17,7 +17,7 @@ use crate::queries::{
 use crate::topics::{has_many_partitions, is_taken};
 use crate::types::is_query_typed;
 use ksql_clauses::has_unknown_source;
-use ksql_statements::{ColumnText, Property, Statement, StatementBody};
+use statement_trees::{ColumnText, Property, Statement, StatementBody};
 use ksql_types::{Catalog, Code};
 use std::alloc::{AllocError, Global};
 

@@ -8,7 +8,7 @@ ghost use Rattle.ksql_rules.specs.Breaks as spec;
 
 use crate::topics::{has_bad_topic, has_many_partitions, is_taken};
 use ksql_clauses::{are_bad, format_in, topic_in};
-use ksql_statements::{ColumnText, KeyMark, Property, Statement};
+use statement_trees::{ColumnText, KeyMark, Property, Statement};
 use ksql_types::{Catalog, Chars, Code, Format, are_column_names};
 use std::alloc::{AllocError, Global};
 

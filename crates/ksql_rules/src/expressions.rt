@@ -2,12 +2,12 @@
 
 ghost use Rattle.std.specs.Prelude.{◌≡◌, ◌++◌, IfOk, map, option_map};
 ghost use Rattle.std.specs.List.{flat_map};
-ghost use Rattle.ksql_names.specs.Resolved as names;
+ghost use Rattle.ksql_scopes.specs.Resolved as names;
 ghost use Rattle.ksql_clauses.specs.Sources as sources;
 
-use ksql_expressions::Expr;
-use ksql_names::{Scope, resolved};
-use ksql_statements::{Select, SelectItem};
+use expression_trees::Expr;
+use ksql_scopes::{Scope, resolved};
+use statement_trees::{Select, SelectItem};
 use ksql_types::Boxed;
 use std::alloc::{AllocError, Global};
 

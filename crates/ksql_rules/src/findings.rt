@@ -1,7 +1,7 @@
 //! What is found out of a query once, before its rules are looked at.
 
 ghost use Rattle.std.specs.Prelude.{◌≡◌, ◌-◌, ◌^◌, ◌≤◌, All, IfOk, length, map};
-ghost use Rattle.ksql_names.specs.Uses.{IsSmall};
+ghost use Rattle.ksql_scopes.specs.Uses.{IsSmall};
 ghost use Rattle.ksql_typing.specs.Judged as typing;
 ghost use Rattle.ksql_clauses.specs.Sources as sources;
 ghost use Rattle.ksql_clauses.specs.Keys as keys;
@@ -16,9 +16,9 @@ use ksql_clauses::{
     Known, Named, all_known, columns_at, columns_besides, from_scope, item_scope, join_key,
     key_places, needs, on_scope, result_columns,
 };
-use ksql_expressions::Expr;
-use ksql_names::Scope;
-use ksql_statements::Select;
+use expression_trees::Expr;
+use ksql_scopes::Scope;
+use statement_trees::Select;
 use ksql_type_sets::{Types, has_some_type};
 use ksql_types::{Boxed, Catalog};
 use ksql_typing::judgement::{Judged, judge};

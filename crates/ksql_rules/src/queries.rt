@@ -13,7 +13,7 @@ use ksql_clauses::{
     Known, Named, are_bad, format_in, have_one_alias, is_alias, is_bad, is_full, is_join,
     is_too_large, is_windowed, joined_streams, reads_stream,
 };
-use ksql_statements::{Property, Select, SelectItem, WindowText};
+use statement_trees::{Property, Select, SelectItem, WindowText};
 use ksql_types::{Chars, Format, are_column_names};
 use std::alloc::{AllocError, Global};
 

@@ -7,7 +7,7 @@ ghost use Rattle.ksql_clauses.specs.Properties as properties;
 ghost use Rattle.ksql_rules.specs.Breaks as spec;
 
 use ksql_clauses::{has_topic, is_word, topic_in};
-use ksql_statements::{Property, PropertyValue, Statement, StatementBody};
+use statement_trees::{Property, PropertyValue, Statement, StatementBody};
 use ksql_types::{Catalog, Chars, is_topic_name};
 
 /// The most partitions of a topic.

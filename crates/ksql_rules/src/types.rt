@@ -2,7 +2,7 @@
 
 ghost use Rattle.std.specs.Prelude.{◌≡◌, ◌-◌, ◌^◌, ◌≤◌, ◌↔◌, All, IfOk, IsTrue, length};
 ghost use Rattle.std.specs.List.{list_all};
-ghost use Rattle.ksql_names.specs.Uses.{IsSmall};
+ghost use Rattle.ksql_scopes.specs.Uses.{IsSmall};
 ghost use Rattle.ksql_clauses.specs.Sources as sources;
 ghost use Rattle.ksql_rules.specs.Breaks as breaks;
 ghost use Rattle.ksql_rules.specs.Decided as spec;
@@ -12,9 +12,9 @@ ghost use Rattle.ksql_clauses.specs.Keys as keys;
 use crate::findings::{Findings, types_of};
 use crate::truth::both;
 use ksql_clauses::{Named, on_sides};
-use ksql_expressions::Expr;
-use ksql_names::Scope;
-use ksql_statements::Select;
+use expression_trees::Expr;
+use ksql_scopes::Scope;
+use statement_trees::Select;
 use ksql_type_sets::{can_agree, can_be_true, has_value};
 use std::alloc::{AllocError, Global};
 

@@ -7,7 +7,7 @@ ghost use Rattle.ksql_rules.specs.Lowest.{BreaksFirst, BreaksNone};
 ghost use Rattle.ksql_rules.specs.Verdicts.{IsVerdict};
 
 use crate::broken::{Body, body_of, breaks};
-use ksql_statements::Statement;
+use statement_trees::Statement;
 use ksql_types::{Boxed, Catalog, Code};
 use std::alloc::{AllocError, Global};
 

@@ -5,7 +5,7 @@ use Rattle.ksql_types.specs.declared.code.Code.TheVariants.{Syntax}
 use Rattle.ksql_lexer.specs.declared.token.Token.{Token}
 use Rattle.ksql_lexer.specs.Script.{AreTokens, kinds}
 use Rattle.ksql_lexer.proofs.Readings.{one_list, one_fault, not_both as tokens_or_fault}
-use Rattle.ksql_statements.specs.declared.tree.Statement.{Statement}
+use Rattle.statement_trees.specs.declared.tree.Statement.{Statement}
 use Rattle.ksql_parser.specs.Script.{AreTrees, FirstRefused, statements}
 use Rattle.ksql_parser.proofs.OneTree.{one_tree}
 use Rattle.ksql_parser.proofs.Settling.{one_list_from, one_refusal as one_rule, not_both as tree_or_rule}

@@ -4,19 +4,19 @@ use Rattle.std.proofs.lemmas.Option.{some_pair_parts}
 use Rattle.ksql_grammar.specs.declared.symbol.Keyword.TheVariants as key
 use Rattle.ksql_grammar.specs.declared.symbol.Symbol.{Symbol}
 use Rattle.ksql_grammar.specs.declared.symbol.Symbol.TheVariants.{Key}
-use Rattle.ksql_expressions.specs.declared.tree.Expr.{Expr}
-use Rattle.ksql_statements.specs.declared.tree.JoinWord.{JoinWord}
+use Rattle.expression_trees.specs.declared.tree.Expr.{Expr}
+use Rattle.statement_trees.specs.declared.tree.JoinWord.{JoinWord}
 use Rattle.ksql_parser.specs.Grammar as g
 use Rattle.ksql_grammar.specs.Grammar.{Spells as SpellsExpr, at, expr, exprs}
 use Rattle.ksql_parser.specs.Grammar.{Phrase, Spells}
 use Rattle.ksql_grammar.specs.Reading.{EndsExpr, EndsExprs}
-use Rattle.ksql_grammar.specs.Expressions.{behind_key}
+use Rattle.ksql_grammar.specs.Expressions.{after_key}
 use Rattle.ksql_grammar.specs.Expressions as reading
 use Rattle.ksql_grammar.proofs.Ends.{Rest}
 use Rattle.ksql_grammar.proofs.Found.{Reads, within_found, exprs_found}
 use Rattle.ksql_grammar.proofs.Whole.{expression_only, expressions_only}
 use Rattle.ksql_parser.specs.Statements as r
-use Rattle.ksql_parser.specs.Statements.{BeginsFrom, behind_by}
+use Rattle.ksql_parser.specs.Statements.{BeginsFrom, after_by}
 use Rattle.ksql_parser.specs.Queries.{SpellsClauses}
 use Rattle.ksql_parser.proofs.Steps.{behind, along}
 use Rattle.ksql_grammar.proofs.Steps.{if_some}
@@ -56,23 +56,23 @@ module _ (p : Option Expr → Phrase) (n : ℕ) (ts : List Symbol) (absent : Spe
 
 some_filter : (ts : List Symbol) → Settled (Spelt g.filter ts) (BeginsFrom 4)
 some_filter ts =
-    clause_at g.filter 4 ts g.no_filter (behind_key key.Where ts) (λ us e a vs d. behind (key_here key.Where ts us e) (g.a_filter d))
+    clause_at g.filter 4 ts g.no_filter (after_key key.Where ts) (λ us e a vs d. behind (key_here key.Where ts us e) (g.a_filter d))
     (λ e f vs d. filter_absent ts vs f e d) (λ us e f vs c d. filter_there ts us vs f (key_here key.Where ts us e) c d)
 
 some_having : (ts : List Symbol) → Settled (Spelt g.having ts) (BeginsFrom 7)
 some_having ts =
-    clause_at g.having 7 ts g.no_having (behind_key key.Having ts) (λ us e a vs d. behind (key_here key.Having ts us e) (g.a_having d))
+    clause_at g.having 7 ts g.no_having (after_key key.Having ts) (λ us e a vs d. behind (key_here key.Having ts us e) (g.a_having d))
     (λ e f vs d. having_absent ts vs f e d) (λ us e f vs c d. having_there ts us vs f (key_here key.Having ts us e) c d)
 
 some_partition : (ts : List Symbol) → Settled (Spelt g.partition ts) (BeginsFrom 6)
 some_partition ts =
-    clause_at g.partition 6 ts g.no_partition (behind_by key.Partition ts) (λ us e a vs d. behind (by_here key.Partition ts us e) (g.a_partition d))
+    clause_at g.partition 6 ts g.no_partition (after_by key.Partition ts) (λ us e a vs d. behind (by_here key.Partition ts us e) (g.a_partition d))
     (λ e f vs d. partition_absent ts vs f e d) (λ us e f vs c d. partition_there ts us vs f (by_here key.Partition ts us e) c d)
 
 some_group : (ts : List Symbol) → Settled (Spelt g.group ts) (BeginsFrom 5)
-some_group ts = group_at (behind_by key.Group ts) refl
+some_group ts = group_at (after_by key.Group ts) refl
   where
-    group_at : (o : Option (List Symbol)) → behind_by key.Group ts ≡ o → Settled (Spelt g.group ts) (BeginsFrom 5)
+    group_at : (o : Option (List Symbol)) → after_by key.Group ts ≡ o → Settled (Spelt g.group ts) (BeginsFrom 5)
     group_at None e = ends ts ([], g.no_group) (λ vs s c. (some_pair_parts s.0 [] vs ts (group_absent ts vs s.0 [] refl (sym e) s.1)).1)
     group_at (Some us) e =
         let here = by_here key.Group ts us e in

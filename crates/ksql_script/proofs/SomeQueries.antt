@@ -5,11 +5,11 @@ use Rattle.ksql_lexer.specs.declared.token.Mark.TheVariants as mark
 use Rattle.ksql_grammar.specs.declared.symbol.Keyword.TheVariants as key
 use Rattle.ksql_grammar.specs.declared.symbol.Symbol.{Symbol}
 use Rattle.ksql_grammar.specs.declared.symbol.Symbol.TheVariants.{Key, Sign}
-use Rattle.ksql_statements.specs.declared.tree.SelectItem.{SelectItem}
-use Rattle.ksql_statements.specs.declared.tree.SelectItem.TheVariants.{Star, StarOf, One}
+use Rattle.statement_trees.specs.declared.tree.SelectItem.{SelectItem}
+use Rattle.statement_trees.specs.declared.tree.SelectItem.TheVariants.{Star, StarOf, One}
 use Rattle.ksql_parser.specs.Grammar as g
 use Rattle.ksql_parser.specs.Grammar.{Spells}
-use Rattle.ksql_grammar.specs.Expressions.{behind_sign}
+use Rattle.ksql_grammar.specs.Expressions.{after_sign}
 use Rattle.ksql_parser.specs.Statements as r
 use Rattle.ksql_parser.specs.Statements.{BeginsFrom, EndsItem}
 use Rattle.ksql_parser.specs.Queries.{SpellsFront, SpellsClauses}
@@ -34,7 +34,7 @@ IsFrom us = (rest : List Symbol) × (us ≡ Key key.From ∷ rest)
 -- ---- items
 
 -- an expression and its alias
-some_one : (ts : List Symbol) → behind_sign mark.Star ts ≡ None → r.star_of ts ≡ None → Settled (Spelt g.item ts) EndsItem
+some_one : (ts : List Symbol) → after_sign mark.Star ts ≡ None → r.star_of ts ≡ None → Settled (Spelt g.item ts) EndsItem
 some_one ts e f =
     settled_by (λ us vs. (n : Option (List ℕ)) × (r.alias us ≡ Some (n, vs)))
     (λ us vs s t. (One s.0 t.0, g.one s.1 (if_some (r.alias us) (λ x. Spells (g.alias x.0) us x.1) (t.0, vs) (alias_found us) t.1)))
@@ -42,15 +42,15 @@ some_one ts e f =
     (some_expr ts) (λ us s. settled_given (r.alias us))
 
 some_item : (ts : List Symbol) → Settled (Spelt g.item ts) EndsItem
-some_item ts = star_at (behind_sign mark.Star ts) refl
+some_item ts = star_at (after_sign mark.Star ts) refl
   where
-    name_at : (o : Option (List ℕ × List Symbol)) → behind_sign mark.Star ts ≡ None → r.star_of ts ≡ o → Settled (Spelt g.item ts) EndsItem
+    name_at : (o : Option (List ℕ × List Symbol)) → after_sign mark.Star ts ≡ None → r.star_of ts ≡ o → Settled (Spelt g.item ts) EndsItem
     name_at None e f = some_one ts e f
     name_at (Some x) e f =
         ends x.1 (StarOf x.0, if_some (r.star_of ts) (λ x. Spells (g.item (StarOf x.0)) ts x.1) x (star_of_found ts) f)
         (λ vs s c. (some_pair_parts s.0 (StarOf x.0) vs x.1 (item_star_of s.0 ts x.1 vs x.0 f c s.1)).1)
 
-    star_at : (o : Option (List Symbol)) → behind_sign mark.Star ts ≡ o → Settled (Spelt g.item ts) EndsItem
+    star_at : (o : Option (List Symbol)) → after_sign mark.Star ts ≡ o → Settled (Spelt g.item ts) EndsItem
     star_at None e = name_at (r.star_of ts) e refl
     star_at (Some us) e =
         let here = sign_here mark.Star ts us e in
@@ -71,16 +71,16 @@ items_first : (is : List SelectItem) (ts vs : List Symbol) → Spells (g.items i
 items_first is ts vs (g.last_item {i} d) c = (vs, (i, d), from_ends vs c, inl refl)
 items_first is ts vs (g.more_items {i} {is = js} {us} d f) c = (Sign mark.Comma ∷ us, (i, d), refl, inr (us, refl, (js, f)))
 
-further_none : (us vs : List Symbol) → behind_sign mark.Comma us ≡ None → Further us vs → vs ≡ us
+further_none : (us vs : List Symbol) → after_sign mark.Comma us ≡ None → Further us vs → vs ≡ us
 further_none us vs e (inl h) = h
-further_none us vs e (inr t) = absurd (none-some t.0 (sym e ∙ ap (behind_sign mark.Comma) t.1 ∙ sign_there mark.Comma t.0))
+further_none us vs e (inr t) = absurd (none-some t.0 (sym e ∙ ap (after_sign mark.Comma) t.1 ∙ sign_there mark.Comma t.0))
 
 further_some : (us vs ws : List Symbol) → us ≡ Sign mark.Comma ∷ ws → IsFrom vs → Further us vs → Spelt g.items ws vs
 further_some us vs ws e c (inl h) = let clash : Key key.From ∷ c.0 ≡ Sign mark.Comma ∷ ws = sym c.1 ∙ h ∙ e in absurd cc
 further_some us vs ws e c (inr t) = subst (λ l. Spelt g.items l vs) (same_tail (Sign mark.Comma) (Sign mark.Comma) t.0 ws (sym t.1 ∙ e)) t.2
 
 module _ (us : List Symbol) (others : (ws : List Symbol) → us ≡ Sign mark.Comma ∷ ws → Settled (Spelt g.items ws) IsFrom) where
-  comma_at : (o : Option (List Symbol)) → behind_sign mark.Comma us ≡ o → Settled (Further us) IsFrom
+  comma_at : (o : Option (List Symbol)) → after_sign mark.Comma us ≡ o → Settled (Further us) IsFrom
   comma_at None e = ends us (inl refl) (λ vs t c. further_none us vs e t)
   comma_at (Some ws) e =
       let here = sign_here mark.Comma us ws e in
@@ -90,7 +90,7 @@ items_within : (n : ℕ) (ts : List Symbol) → length ts < n → Settled (Spelt
 items_within zero ts short = absurd (omega arith)
 items_within (suc n) ts short =
     settled_by Further (λ us vs s t. items_from ts us vs s t) (λ vs s c. items_first s.0 ts vs s.1 c) (some_item ts)
-    (λ us s. comma_at us (λ ws e. items_within n ws (omega (arith, short, item_takes s.0 ts us s.1, ap length e))) (behind_sign mark.Comma us) refl)
+    (λ us s. comma_at us (λ ws e. items_within n ws (omega (arith, short, item_takes s.0 ts us s.1, ap length e))) (after_sign mark.Comma us) refl)
 
 some_items : (ts : List Symbol) → Settled (Spelt g.items ts) IsFrom
 some_items ts = items_within (suc (length ts)) ts (omega arith)

@@ -7,7 +7,7 @@ use Rattle.ksql_types.specs.Text.{longest_text}
 use Rattle.ksql_types.specs.declared.code.Code.{Code}
 use Rattle.ksql_types.specs.declared.code.Code.TheVariants.{Syntax, TooLarge}
 use Rattle.ksql_lexer.specs.Script.{kinds}
-use Rattle.ksql_statements.specs.declared.tree.Statement.{Statement}
+use Rattle.statement_trees.specs.declared.tree.Statement.{Statement}
 use Rattle.ksql_parser.specs.Script.{statements}
 use Rattle.ksql_program.specs.declared.program.Program.{Program}
 use Rattle.ksql_analyse.specs.Judgement.{AreParsed}

@@ -5,11 +5,11 @@ use Rattle.ksql_lexer.specs.declared.token.Mark.TheVariants as mark
 use Rattle.ksql_grammar.specs.declared.symbol.Keyword.TheVariants as key
 use Rattle.ksql_grammar.specs.declared.symbol.Symbol.{Symbol}
 use Rattle.ksql_grammar.specs.declared.symbol.Symbol.TheVariants.{Key, Sign}
-use Rattle.ksql_statements.specs.declared.tree.StatementBody.{StatementBody}
-use Rattle.ksql_statements.specs.declared.tree.StatementBody.TheVariants.{Declared, Query}
+use Rattle.statement_trees.specs.declared.tree.StatementBody.{StatementBody}
+use Rattle.statement_trees.specs.declared.tree.StatementBody.TheVariants.{Declared, Query}
 use Rattle.ksql_parser.specs.Grammar as g
 use Rattle.ksql_parser.specs.Grammar.{Spells}
-use Rattle.ksql_grammar.specs.Expressions.{behind_key, behind_sign, list_of}
+use Rattle.ksql_grammar.specs.Expressions.{after_key, after_sign, list_of}
 use Rattle.ksql_parser.specs.Statements as r
 use Rattle.ksql_parser.proofs.Steps.{behind, along}
 use Rattle.ksql_grammar.proofs.Steps.{if_some}
@@ -28,14 +28,14 @@ IsAs us = (rest : List Symbol) × (us ≡ Key key.As ∷ rest)
 
 some_columns : (ts : List Symbol) → Settled (Spelt g.columns ts) (Signed mark.Close)
 some_columns ts =
-    let read = list_of r.column (behind_sign mark.Comma) (suc (length ts)) ts in
+    let read = list_of r.column (after_sign mark.Comma) (suc (length ts)) ts in
     settled_read read (λ cs us. Spells (g.columns cs) ts us)
     (λ x e. if_some read (λ x. Spells (g.columns x.0) ts x.1) x (columns_found (suc (length ts)) ts) e)
     (λ cs us d c. columns_only cs ts us (suc (length ts)) (omega arith) c d)
 
 some_list : (ts : List Symbol) → Settled (Spelt g.prop_list ts) (Signed mark.Close)
 some_list ts =
-    let read = list_of r.property (behind_sign mark.Comma) (suc (length ts)) ts in
+    let read = list_of r.property (after_sign mark.Comma) (suc (length ts)) ts in
     settled_read read (λ ps us. Spells (g.prop_list ps) ts us)
     (λ x e. if_some read (λ x. Spells (g.prop_list x.0) ts x.1) x (properties_found (suc (length ts)) ts) e)
     (λ ps us d c. properties_only ps ts us (suc (length ts)) (omega arith) c d)
@@ -50,9 +50,9 @@ some_props ts =
     (λ us s c. let h = props_parts s.0 ts us s.1 in ((Sign mark.Close ∷ us, (h.0, h.1, (s.0, h.2)), refl), c))
 
 some_with_props : (ts : List Symbol) → Settled (Spelt g.with_props ts) IsAs
-some_with_props ts = with_at (behind_key key.With ts) refl
+some_with_props ts = with_at (after_key key.With ts) refl
   where
-    with_at : (o : Option (List Symbol)) → behind_key key.With ts ≡ o → Settled (Spelt g.with_props ts) IsAs
+    with_at : (o : Option (List Symbol)) → after_key key.With ts ≡ o → Settled (Spelt g.with_props ts) IsAs
     with_at None e = ends ts ([], g.no_props) (λ vs s c. (some_pair_parts s.0 [] vs ts (with_absent s.0 [] ts vs refl (sym e) s.1)).1)
     with_at (Some us) e =
         let here = key_here key.With ts us e in
@@ -86,9 +86,9 @@ abbrev Body : List Symbol → List Symbol → Type 0
 Body ts us = (b : StatementBody) × r.SpellsBody b ts us
 
 some_body : (ts : List Symbol) → Settled (Body ts) IsEnd
-some_body ts = open_at (behind_sign mark.Open ts) refl
+some_body ts = open_at (after_sign mark.Open ts) refl
   where
-    open_at : (o : Option (List Symbol)) → behind_sign mark.Open ts ≡ o → Settled (Body ts) IsEnd
+    open_at : (o : Option (List Symbol)) → after_sign mark.Open ts ≡ o → Settled (Body ts) IsEnd
     open_at None e = settled_as (some_query ts) (λ us s. (s.0, query_body s.0 ts us s.1)) (λ us s c. ((s.0, body_query s.0 ts us e s.1), c))
     open_at (Some vs) e =
         let here = sign_here mark.Open ts vs e in

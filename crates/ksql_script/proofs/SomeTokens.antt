@@ -3,7 +3,7 @@ use Rattle.std.proofs.Common.{◌≡◌, ℕ, zero, suc, ◌<◌, ◌⊎◌, inl
 use Rattle.ksql_lexer.specs.declared.token.Token.{Token}
 use Rattle.ksql_lexer.specs.declared.token.TokenKind.{TokenKind}
 use Rattle.ksql_lexer.specs.Piece.{Longest}
-use Rattle.ksql_lexer.specs.Script.{Lexes, done, skip, next, statement_behind, AreNumbered, kinds, AreTokens, Breaks, BreaksIn}
+use Rattle.ksql_lexer.specs.Script.{Lexes, done, skip, next, statement_after, AreNumbered, kinds, AreTokens, Breaks, BreaksIn}
 use Rattle.ksql_lexer.proofs.Steps.{longest_less}
 use Rattle.ksql_script.proofs.SomePlaces.{some_place}
 
@@ -32,11 +32,11 @@ numbered : (before ks : List TokenKind) → (ts : List Token) × (kinds ts ≡ k
 numbered before [] = ([], refl, tt)
 numbered before (k ∷ ks) =
     let others = numbered (before ++ k ∷ []) ks in
-    (record { kind = k; statement = statement_behind before } ∷ others.0, ap (λ l. k ∷ l) others.1, (refl, others.2))
+    (record { kind = k; statement = statement_after before } ∷ others.0, ap (λ l. k ∷ l) others.1, (refl, others.2))
 
 pub some_tokens : (text : List ℕ) → ((ts : List Token) × AreTokens text ts) ⊎ ((s : ℕ) × BreaksIn text s)
 some_tokens text =
     ⊎_elim
     (λ h. let ts = numbered [] h.0 in inl (ts.0, record { lexes = subst (λ ks. Lexes text ks []) (sym ts.1) h.1; numbered = ts.2 }))
-    (λ h. inr (statement_behind h.0, (h.0, h.1, h.2, refl)))
+    (λ h. inr (statement_after h.0, (h.0, h.1, h.2, refl)))
     (some_lexing (suc (length text)) text (omega arith))

@@ -5,7 +5,7 @@ use Rattle.std.specs.List.{list_any}
 use Rattle.std.proofs.lemmas.Bool.{cases_lt, cases_Bool, both_ways}
 use Rattle.ksql_types.specs.declared.code.Code.{Code}
 use Rattle.ksql_lexer.specs.declared.token.TokenKind.{TokenKind}
-use Rattle.ksql_statements.specs.declared.tree.Statement.{Statement}
+use Rattle.statement_trees.specs.declared.tree.Statement.{Statement}
 use Rattle.ksql_grammar.specs.Symbols.{symbol_of}
 use Rattle.ksql_parser.specs.Limits.{Rule, too_many, too_deep, too_large, unsupported, unspelled, rules, Refuses, RefusesFirst, NoneRefuses, code_of, is_opening, is_closing, is_too_large, begins_with_select, joins_twice, is_unsupported, IsTooDeep, IsSpelled, HasUnsupported}
 use Rattle.ksql_parser.specs.Script.{IsTreeOf, AreTrees, FirstRefused, here, later}

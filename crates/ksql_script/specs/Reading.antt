@@ -7,7 +7,7 @@ use Rattle.ksql_types.specs.declared.code.Code.{Code}
 use Rattle.ksql_types.specs.declared.code.Code.TheVariants.{Syntax, TooLarge}
 use Rattle.ksql_lexer.specs.declared.token.Token.{Token}
 use Rattle.ksql_lexer.specs.Script.{AreTokens, BreaksIn, kinds}
-use Rattle.ksql_statements.specs.declared.tree.Statement.{Statement}
+use Rattle.statement_trees.specs.declared.tree.Statement.{Statement}
 use Rattle.ksql_parser.specs.Script.{AreTrees, FirstRefused, statements}
 use Rattle.ksql_script.specs.declared.fault.ScriptFault.{ScriptFault}
 use Rattle.ksql_script.specs.declared.fault.ScriptFault.TheVariants.{Refused, OutOfMemory}

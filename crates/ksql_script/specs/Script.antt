@@ -1,7 +1,7 @@
 -- What a script is: the program that it is accepted as, or its first refusal.
 use Rattle.std.specs.Prelude.{◌⊎◌, ℕ, List, Result, Ok, Err}
 use Rattle.ksql_types.specs.declared.code.Code.{Code}
-use Rattle.ksql_statements.specs.declared.tree.Statement.{Statement}
+use Rattle.statement_trees.specs.declared.tree.Statement.{Statement}
 use Rattle.ksql_program.specs.declared.program.Item.{Item}
 use Rattle.ksql_program.specs.declared.program.Program.{Program}
 use Rattle.ksql_analyse.specs.Judgement.{IsProgramOf, AreRefused}

@@ -9,7 +9,7 @@ use ksql_analyse::{AnalyseFault, analyse};
 use ksql_lexer::{LexFault, tokens};
 use ksql_parser::{ParseFault, parse};
 use ksql_program::Program;
-use ksql_statements::Statement;
+use statement_trees::Statement;
 use ksql_types::Code;
 use std::alloc::Global;
 use std::str;

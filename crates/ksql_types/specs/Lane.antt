@@ -14,14 +14,14 @@ value_bytes (Txt bytes) = bytes
 value_bytes (Bool truth) = (if truth then 1 else 0) ∷ []
 
 -- bytes after their length, which is written as 4 bytes, big-endian
-abbrev pub behind_length : List ℕ → List ℕ
-behind_length bytes = to_be_bytes w32 (length bytes) ++ bytes
+abbrev pub after_length : List ℕ → List ℕ
+after_length bytes = to_be_bytes w32 (length bytes) ++ bytes
 
 -- the bytes of a key: those of its one value alone, and of several values each after its length
 abbrev pub key_bytes : List Value → List ℕ
 key_bytes [] = []
 key_bytes (value ∷ []) = value_bytes value
-key_bytes (first ∷ second ∷ more) = flat_map (λ value. behind_length (value_bytes value)) (first ∷ second ∷ more)
+key_bytes (first ∷ second ∷ more) = flat_map (λ value. after_length (value_bytes value)) (first ∷ second ∷ more)
 
 -- what one byte makes of the hash of the bytes before it
 abbrev pub hash_step : ℕ → ℕ → ℕ

@@ -1,5 +1,5 @@
 ghost use Rattle.std.specs.Prelude.{◌≡◌, ◌<◌, ◌≤◌, ◌++◌, IfOk, OnOk, flat_map, fold, length};
-ghost use Rattle.ksql_types.specs.Lane.{behind_length, hash_step, value_bytes};
+ghost use Rattle.ksql_types.specs.Lane.{after_length, hash_step, value_bytes};
 ghost use Rattle.ksql_types.specs.Lane as spec;
 
 use crate::Bytes;
@@ -51,7 +51,7 @@ fn put_value(out: &mut Vec<u8>, value: &Value) -> Result<(), AllocError>
 
 /// Appends the bytes of each value after their length.
 fn put_values(out: &mut Vec<u8>, values: &[Value]) -> Result<(), AllocError>
-    ensures { OnOk result (out.new.items ≡ out.old.items ++ flat_map (λ v. behind_length (value_bytes v)) values.now) }
+    ensures { OnOk result (out.new.items ≡ out.old.items ++ flat_map (λ v. after_length (value_bytes v)) values.now) }
 {
     for value in values {
         out.extend_from_slice(&value_len(value).to_be_bytes())?;
@@ -99,7 +99,7 @@ fn hash_value(before: u32, value: &Value) -> u32
 /// The hash of the bytes of values, each after its length.
 #[tactic(auto, unfolding(crate::specs::Lane::hash))]
 fn hash_values(values: &[Value]) -> u32
-    ensures { result ≡ spec.hash (flat_map (λ v. behind_length (value_bytes v)) values.now) }
+    ensures { result ≡ spec.hash (flat_map (λ v. after_length (value_bytes v)) values.now) }
 {
     let mut hash = 0;
     for value in values {

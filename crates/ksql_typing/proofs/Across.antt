@@ -3,15 +3,15 @@ use Rattle.std.proofs.Common.{◌≡◌, ℕ, Bool, true, false, not, ◌&&◌, 
 use Rattle.std.specs.List.{AllByRecursion as Each}
 use Rattle.std.proofs.lemmas.Option.{same_Some}
 use Rattle.ksql_types.specs.declared.value.Value.TheVariants as value
-use Rattle.ksql_expressions.specs.declared.tree.Expr.{Expr}
-use Rattle.ksql_expressions.specs.declared.tree.WhenText.{WhenText}
+use Rattle.expression_trees.specs.declared.tree.Expr.{Expr}
+use Rattle.expression_trees.specs.declared.tree.WhenText.{WhenText}
 use Rattle.ksql_expr.specs.declared.typed.Typed.{Typed}
 use Rattle.ksql_expr.specs.Typing.{of}
-use Rattle.ksql_names.specs.declared.scope.Scope.{Scope}
-use Rattle.ksql_names.specs.Functions.{function_of, aggregate_of, is_aggregate}
-use Rattle.ksql_names.specs.Scope.{Meaning, meanings, inside, seen}
-use Rattle.ksql_names.proofs.Induction.{IfThere, InWhen, Steps, induction}
-use Rattle.ksql_expressions.proofs.Folds.{perhaps_folded}
+use Rattle.ksql_scopes.specs.declared.scope.Scope.{Scope}
+use Rattle.ksql_scopes.specs.Functions.{function_of, aggregate_of, is_aggregate}
+use Rattle.ksql_scopes.specs.Scope.{Meaning, meanings, inside, seen}
+use Rattle.ksql_scopes.proofs.Induction.{IfThere, InWhen, Steps, induction}
+use Rattle.expression_trees.proofs.Folds.{perhaps_folded}
 use Rattle.ksql_typing.specs.Judged.{after}
 use Rattle.ksql_typing.specs.Made as m
 use Rattle.ksql_typing.specs.Made.{made, all_there, perhaps_there, name_tree, named_tree, literal_tree, typed_when}

@@ -4,9 +4,9 @@ use Rattle.std.specs.Prelude.{option_map}
 use Rattle.std.specs.List.{list_all, AllByRecursion as Each}
 use Rattle.ksql_types.specs.declared.value.SqlType.{SqlType}
 use Rattle.ksql_types.specs.declared.value.SqlType.TheVariants as sql
-use Rattle.ksql_expressions.specs.declared.tree.Expr.{Expr}
-use Rattle.ksql_expressions.specs.declared.tree.Expr.TheVariants as e
-use Rattle.ksql_expressions.specs.declared.tree.WhenText.{WhenText}
+use Rattle.expression_trees.specs.declared.tree.Expr.{Expr}
+use Rattle.expression_trees.specs.declared.tree.Expr.TheVariants as e
+use Rattle.expression_trees.specs.declared.tree.WhenText.{WhenText}
 use Rattle.ksql_expr.specs.declared.typed.AggFun.{AggFun}
 use Rattle.ksql_expr.specs.declared.typed.AggFun.TheVariants as agg
 use Rattle.ksql_expr.specs.declared.typed.Fun.{Fun}
@@ -16,17 +16,17 @@ use Rattle.ksql_expr.specs.declared.typed.Typed.{Typed}
 use Rattle.ksql_expr.specs.declared.typed.TypedNode.TheVariants as n
 use Rattle.ksql_expr.specs.declared.typed.TypedWhen.{TypedWhen}
 use Rattle.ksql_expr.specs.Typing.{of, types}
-use Rattle.ksql_names.specs.declared.scope.Scope.{Scope}
-use Rattle.ksql_names.specs.Functions.{function_of, aggregate_of, is_unknown}
+use Rattle.ksql_scopes.specs.declared.scope.Scope.{Scope}
+use Rattle.ksql_scopes.specs.Functions.{function_of, aggregate_of, is_unknown}
 use Rattle.ksql_typing.specs.Possible.{possible, each_of, perhaps_of, conds_of, results_of, name_types}
 use Rattle.ksql_type_sets.specs.Sets.{has, collect, where_found, no_types, is_same, is_found, some_in, each_in, call_types, agg_call_types, fun_types, joint_types, can_be_whens, with_otherwise_types, is_some_in}
-use Rattle.ksql_names.specs.Scope.{Meaning, meanings, inside, seen}
+use Rattle.ksql_scopes.specs.Scope.{Meaning, meanings, inside, seen}
 use Rattle.ksql_typing.specs.Made.{typed_when}
 use Rattle.ksql_typing.specs.Standing as st
 use Rattle.ksql_typing.specs.Standing.{Stands, HasType, type_of_case, with_otherwise}
 use Rattle.ksql_typing.proofs.Equations as q
-use Rattle.ksql_expressions.proofs.Folds.{perhaps_folded}
-use Rattle.ksql_names.proofs.Induction.{IfThere, InWhen, Steps, induction}
+use Rattle.expression_trees.proofs.Folds.{perhaps_folded}
+use Rattle.ksql_scopes.proofs.Induction.{IfThere, InWhen, Steps, induction}
 use Rattle.ksql_typing.proofs.Possibly.{PerhapsHas}
 use Rattle.ksql_type_sets.proofs.Sets.{AllHave, has-collect, is-same, some-in, each-in, found-is, all-front, joint-is, fun-is}
 use Rattle.std.proofs.lemmas.Bool.{and_parts}

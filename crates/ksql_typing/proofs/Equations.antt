@@ -2,13 +2,13 @@
 use Rattle.std.proofs.Common.{◌≡◌, ℕ, Bool, List, map, Option, ap}
 use Rattle.ksql_types.specs.declared.operator.BinaryOp.{BinaryOp}
 use Rattle.ksql_types.specs.declared.value.SqlType.{SqlType}
-use Rattle.ksql_expressions.specs.declared.tree.Expr.{Expr}
-use Rattle.ksql_expressions.specs.declared.tree.Expr.TheVariants as e
-use Rattle.ksql_expressions.specs.declared.tree.Expr.TheOpen.{Expr-F}
-use Rattle.ksql_expressions.specs.declared.tree.WhenText.{WhenText}
-use Rattle.ksql_names.specs.declared.scope.Scope.{Scope}
-use Rattle.ksql_expressions.proofs.Folds as f
-use Rattle.ksql_expressions.proofs.Folds.{perhaps_folded}
+use Rattle.expression_trees.specs.declared.tree.Expr.{Expr}
+use Rattle.expression_trees.specs.declared.tree.Expr.TheVariants as e
+use Rattle.expression_trees.specs.declared.tree.Expr.TheOpen.{Expr-F}
+use Rattle.expression_trees.specs.declared.tree.WhenText.{WhenText}
+use Rattle.ksql_scopes.specs.declared.scope.Scope.{Scope}
+use Rattle.expression_trees.proofs.Folds as f
+use Rattle.expression_trees.proofs.Folds.{perhaps_folded}
 use Rattle.ksql_typing.specs.Possible.{possible, Sets, WhenSets, sets_step, when_sets}
 use Rattle.ksql_typing.specs.Made.{made, Tree, WhenTree, tree_step, when_step}
 

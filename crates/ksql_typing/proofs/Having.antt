@@ -2,16 +2,16 @@
 use Rattle.std.proofs.Common.{◌≡◌, ℕ, Bool, true, false, ◌||◌, if◌then◌else◌, List, [], ◌∷◌, ◌++◌, map, length, is_some, refl, ap, ◌∙◌}
 use Rattle.std.specs.List.{list_any}
 use Rattle.ksql_expr.specs.declared.typed.AggFun.TheVariants.{Count}
-use Rattle.ksql_names.specs.declared.scope.Scope.{Scope}
-use Rattle.ksql_names.specs.Scope.{inside}
+use Rattle.ksql_scopes.specs.declared.scope.Scope.{Scope}
+use Rattle.ksql_scopes.specs.Scope.{inside}
 use Rattle.ksql_typing.specs.Standing as st
 use Rattle.ksql_typing.specs.Standing.{Stands, Pair, one, perhaps, each, whens}
-use Rattle.ksql_names.specs.Uses.{names, meanings_of, all_of, in_aggregate}
-use Rattle.ksql_names.specs.Uses as uses
-use Rattle.ksql_names.proofs.Disjoint.{no-aggregate, is-aggregate, unknown-none}
-use Rattle.ksql_names.proofs.Equations as q
-use Rattle.ksql_expressions.proofs.Folds.{perhaps_folded}
-use Rattle.ksql_names.proofs.NameFlags.{counted, none-either, counted-inside}
+use Rattle.ksql_scopes.specs.Uses.{names, meanings_of, all_of, in_aggregate}
+use Rattle.ksql_scopes.specs.Uses as uses
+use Rattle.ksql_scopes.proofs.Disjoint.{no-aggregate, is-aggregate, unknown-none}
+use Rattle.ksql_scopes.proofs.Equations as q
+use Rattle.expression_trees.proofs.Folds.{perhaps_folded}
+use Rattle.ksql_scopes.proofs.NameFlags.{counted, none-either, counted-inside}
 
 -- no name is counted
 module _ (p : ℕ → Bool) (single : p 1 ≡ false) where

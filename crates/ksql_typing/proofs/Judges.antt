@@ -6,10 +6,10 @@ use Rattle.std.proofs.Math.Numerals.{suc-eq-add-one}
 use Rattle.std.proofs.lemmas.Bool.{false≢true}
 use Rattle.std.proofs.lemmas.List.{map-append}
 use Rattle.std.proofs.lemmas.List.Folds.{list_all_at}
-use Rattle.ksql_expressions.specs.declared.tree.Expr.{Expr}
-use Rattle.ksql_expressions.specs.declared.tree.WhenText.{WhenText}
-use Rattle.ksql_names.specs.declared.scope.Scope.{Scope}
-use Rattle.ksql_names.specs.Uses.{is_small, are_whens_small}
+use Rattle.expression_trees.specs.declared.tree.Expr.{Expr}
+use Rattle.expression_trees.specs.declared.tree.WhenText.{WhenText}
+use Rattle.ksql_scopes.specs.declared.scope.Scope.{Scope}
+use Rattle.ksql_scopes.specs.Uses.{is_small, are_whens_small}
 use Rattle.std.proofs.lemmas.Bool.{and_parts}
 use Rattle.ksql_typing.specs.declared.judged.Judged.{Judged}
 use Rattle.ksql_typing.specs.Judged.{judged}

@@ -8,22 +8,22 @@ use Rattle.ksql_types.specs.declared.operator.BinaryOp.{BinaryOp}
 use Rattle.ksql_types.specs.declared.value.SqlType.{SqlType}
 use Rattle.ksql_types.specs.declared.value.SqlType.TheVariants as sql
 use Rattle.ksql_types.specs.declared.value.Value.TheVariants as value
-use Rattle.ksql_expressions.specs.declared.tree.Expr.{Expr}
-use Rattle.ksql_expressions.specs.declared.tree.Expr.TheVariants as e
-use Rattle.ksql_expressions.specs.declared.tree.WhenText.{WhenText}
+use Rattle.expression_trees.specs.declared.tree.Expr.{Expr}
+use Rattle.expression_trees.specs.declared.tree.Expr.TheVariants as e
+use Rattle.expression_trees.specs.declared.tree.WhenText.{WhenText}
 use Rattle.ksql_expr.specs.declared.typed.Typed.{Typed}
 use Rattle.ksql_expr.specs.declared.typed.TypedWhen.{TypedWhen}
-use Rattle.ksql_names.specs.declared.scope.Scope.{Scope}
-use Rattle.ksql_names.specs.Functions.{is_aggregate, aggregate_of, function_of}
+use Rattle.ksql_scopes.specs.declared.scope.Scope.{Scope}
+use Rattle.ksql_scopes.specs.Functions.{is_aggregate, aggregate_of, function_of}
 use Rattle.ksql_type_sets.specs.Sets as t
 use Rattle.ksql_typing.specs.Possible.{possible, name_types, each_of, perhaps_of, scope_within, conds_of, results_of}
-use Rattle.ksql_names.specs.Scope.{Meaning, meanings, seen}
-use Rattle.ksql_names.specs.Senses.{sense}
-use Rattle.ksql_names.specs.Uses.{Use, names, meanings_of, all_of, in_aggregate}
-use Rattle.ksql_names.specs.Uses as uses
-use Rattle.ksql_names.proofs.Equations as q
-use Rattle.ksql_expressions.proofs.Folds.{perhaps_folded}
-use Rattle.ksql_names.proofs.NameFlags.{counted, counted-inside}
+use Rattle.ksql_scopes.specs.Scope.{Meaning, meanings, seen}
+use Rattle.ksql_scopes.specs.Senses.{sense}
+use Rattle.ksql_scopes.specs.Uses.{Use, names, meanings_of, all_of, in_aggregate}
+use Rattle.ksql_scopes.specs.Uses as uses
+use Rattle.ksql_scopes.proofs.Equations as q
+use Rattle.expression_trees.proofs.Folds.{perhaps_folded}
+use Rattle.ksql_scopes.proofs.NameFlags.{counted, counted-inside}
 use Rattle.ksql_typing.specs.declared.judged.Judged.{Judged}
 use Rattle.ksql_typing.specs.Judged as j
 use Rattle.ksql_typing.specs.Judged.{judged, judged_when, after}

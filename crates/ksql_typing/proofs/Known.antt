@@ -2,13 +2,13 @@
 use Rattle.std.proofs.Common.{◌≡◌, ℕ, Bool, false, ◌||◌, List, ◌++◌, map, ap, ap₂, sym, ◌∙◌}
 use Rattle.std.specs.List.{list_any}
 use Rattle.std.proofs.lemmas.Bool.{or_parts}
-use Rattle.ksql_expressions.specs.declared.tree.Expr.{Expr}
-use Rattle.ksql_expressions.specs.declared.tree.Expr.TheVariants as e
-use Rattle.ksql_names.specs.Functions.{is_unknown}
-use Rattle.ksql_names.specs.Uses.{calls, all_of, perhaps}
-use Rattle.ksql_names.proofs.Equations as q
-use Rattle.ksql_names.proofs.NameFlags.{none-of, none-either}
-use Rattle.ksql_expressions.proofs.Folds.{perhaps_folded}
+use Rattle.expression_trees.specs.declared.tree.Expr.{Expr}
+use Rattle.expression_trees.specs.declared.tree.Expr.TheVariants as e
+use Rattle.ksql_scopes.specs.Functions.{is_unknown}
+use Rattle.ksql_scopes.specs.Uses.{calls, all_of, perhaps}
+use Rattle.ksql_scopes.proofs.Equations as q
+use Rattle.ksql_scopes.proofs.NameFlags.{none-of, none-either}
+use Rattle.expression_trees.proofs.Folds.{perhaps_folded}
 use Rattle.ksql_typing.specs.Standing as st
 use Rattle.ksql_typing.specs.Standing.{Pair}
 

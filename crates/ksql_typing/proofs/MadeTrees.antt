@@ -4,9 +4,9 @@ use Rattle.std.specs.List.{AllByRecursion as Each}
 use Rattle.std.proofs.lemmas.Option.{same_Some}
 use Rattle.ksql_types.specs.declared.value.SqlType.{SqlType}
 use Rattle.ksql_types.specs.declared.value.SqlType.TheVariants as sql
-use Rattle.ksql_expressions.specs.declared.tree.Expr.{Expr}
-use Rattle.ksql_expressions.specs.declared.tree.Expr.TheVariants as ex
-use Rattle.ksql_expressions.specs.declared.tree.WhenText.{WhenText}
+use Rattle.expression_trees.specs.declared.tree.Expr.{Expr}
+use Rattle.expression_trees.specs.declared.tree.Expr.TheVariants as ex
+use Rattle.expression_trees.specs.declared.tree.WhenText.{WhenText}
 use Rattle.ksql_expr.specs.declared.typed.AggFun.{AggFun}
 use Rattle.ksql_expr.specs.declared.typed.AggFun.TheVariants as agg
 use Rattle.ksql_expr.specs.declared.typed.Fun.{Fun}
@@ -16,15 +16,15 @@ use Rattle.ksql_expr.specs.declared.typed.TypedNode.TheVariants as n
 use Rattle.ksql_expr.specs.declared.typed.TypedWhen.{TypedWhen}
 use Rattle.ksql_expr.specs.Rules.{fits, binary_type, sign_type, can_cast, fun_type, agg_type, is_between_typed, is_in_typed, typed}
 use Rattle.ksql_expr.specs.Typing.{of, truth, types}
-use Rattle.ksql_names.specs.declared.scope.Scope.{Scope}
-use Rattle.ksql_names.specs.Functions.{function_of, aggregate_of}
-use Rattle.ksql_names.specs.Scope.{Meaning, meanings, inside, seen}
-use Rattle.ksql_names.specs.Uses.{calls, all_of}
-use Rattle.ksql_names.specs.Uses as uses
-use Rattle.ksql_names.proofs.Disjoint.{known-function, known-aggregate}
-use Rattle.ksql_names.proofs.Equations as names
-use Rattle.ksql_names.proofs.Induction.{IfThere, InWhen, Steps, induction}
-use Rattle.ksql_expressions.proofs.Folds.{perhaps_folded}
+use Rattle.ksql_scopes.specs.declared.scope.Scope.{Scope}
+use Rattle.ksql_scopes.specs.Functions.{function_of, aggregate_of}
+use Rattle.ksql_scopes.specs.Scope.{Meaning, meanings, inside, seen}
+use Rattle.ksql_scopes.specs.Uses.{calls, all_of}
+use Rattle.ksql_scopes.specs.Uses as uses
+use Rattle.ksql_scopes.proofs.Disjoint.{known-function, known-aggregate}
+use Rattle.ksql_scopes.proofs.Equations as names
+use Rattle.ksql_scopes.proofs.Induction.{IfThere, InWhen, Steps, induction}
+use Rattle.expression_trees.proofs.Folds.{perhaps_folded}
 use Rattle.ksql_typing.specs.Judged.{after}
 use Rattle.ksql_typing.specs.Made as m
 use Rattle.ksql_typing.specs.Made.{made, all_there, perhaps_there, with_type, truth_where, name_tree, named_tree, agg_call_tree, fun_call_tree}

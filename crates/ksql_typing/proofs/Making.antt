@@ -7,8 +7,8 @@ use Rattle.std.proofs.lemmas.List.{map-append}
 use Rattle.ksql_types.specs.declared.value.SqlType.{SqlType}
 use Rattle.ksql_types.specs.declared.value.SqlType.TheVariants as sql
 use Rattle.ksql_types.specs.declared.value.Value.TheVariants as value
-use Rattle.ksql_expressions.specs.declared.tree.Expr.{Expr}
-use Rattle.ksql_expressions.specs.declared.tree.Expr.TheVariants as ex
+use Rattle.expression_trees.specs.declared.tree.Expr.{Expr}
+use Rattle.expression_trees.specs.declared.tree.Expr.TheVariants as ex
 use Rattle.ksql_expr.specs.declared.typed.AggFun.{AggFun}
 use Rattle.ksql_expr.specs.declared.typed.AggFun.TheVariants.{Count}
 use Rattle.ksql_expr.specs.declared.typed.Fun.{Fun}
@@ -19,14 +19,14 @@ use Rattle.ksql_expr.specs.declared.typed.TypedWhen.{TypedWhen}
 use Rattle.ksql_expr.specs.Rules.{type_of, case_type, typed}
 use Rattle.ksql_expr.specs.Typing as w
 use Rattle.ksql_expr.specs.Typing.{HasTypes, of, truth, types, results}
-use Rattle.ksql_names.specs.declared.scope.Scope.{Scope}
-use Rattle.ksql_names.specs.Functions.{function_of, aggregate_of, is_unknown}
-use Rattle.ksql_names.specs.Scope.{meanings, inside, seen}
-use Rattle.ksql_names.specs.Uses.{calls, all_of}
-use Rattle.ksql_names.specs.Uses as uses
-use Rattle.ksql_names.proofs.Disjoint.{no-aggregate}
-use Rattle.ksql_names.proofs.Equations as q
-use Rattle.ksql_expressions.proofs.Folds.{perhaps_folded}
+use Rattle.ksql_scopes.specs.declared.scope.Scope.{Scope}
+use Rattle.ksql_scopes.specs.Functions.{function_of, aggregate_of, is_unknown}
+use Rattle.ksql_scopes.specs.Scope.{meanings, inside, seen}
+use Rattle.ksql_scopes.specs.Uses.{calls, all_of}
+use Rattle.ksql_scopes.specs.Uses as uses
+use Rattle.ksql_scopes.proofs.Disjoint.{no-aggregate}
+use Rattle.ksql_scopes.proofs.Equations as q
+use Rattle.expression_trees.proofs.Folds.{perhaps_folded}
 use Rattle.ksql_typing.specs.Judged.{after}
 use Rattle.ksql_typing.specs.Made as m
 use Rattle.ksql_typing.specs.Made.{made, all_there, perhaps_there, with_type, truth_where, name_tree, named_tree}

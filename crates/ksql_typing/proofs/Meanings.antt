@@ -8,9 +8,9 @@ use Rattle.ksql_expr.specs.declared.typed.TypedNode.{TypedNode}
 use Rattle.ksql_expr.specs.declared.typed.TypedNode.TheVariants as node
 use Rattle.ksql_expr.specs.Typing as w
 use Rattle.ksql_expr.specs.Typing.{HasTypes, of}
-use Rattle.ksql_names.specs.declared.scope.Scope.{Scope}
-use Rattle.ksql_names.specs.declared.scope.ScopeColumn.{ScopeColumn}
-use Rattle.ksql_names.specs.Scope.{Meaning, is_known_as, is_qualified, columns_known_as, first_alias, row_time, window_bounds, meanings, inside, column_types}
+use Rattle.ksql_scopes.specs.declared.scope.Scope.{Scope}
+use Rattle.ksql_scopes.specs.declared.scope.ScopeColumn.{ScopeColumn}
+use Rattle.ksql_scopes.specs.Scope.{Meaning, is_known_as, is_qualified, columns_known_as, first_alias, row_time, window_bounds, meanings, inside, column_types}
 use Rattle.ksql_typing.proofs.Making.{AreMeaningsTyped}
 
 abbrev AreTyped : List (Option SqlType) → List Meaning → Type 0

@@ -3,12 +3,12 @@ use Rattle.std.proofs.Common.{◌≡◌, Some, refl, ap, sym, ◌∙◌}
 use Rattle.std.specs.Prelude.{◌==◌, nat_lt, Ok}
 use Rattle.std.proofs.lemmas.Bool.{both_ways}
 use Rattle.std.proofs.lemmas.Option.{same_Some}
-use Rattle.ksql_expressions.specs.declared.tree.Expr.{Expr}
+use Rattle.expression_trees.specs.declared.tree.Expr.{Expr}
 use Rattle.ksql_expr.specs.declared.typed.Typed.{Typed}
 use Rattle.ksql_expr.specs.Typing.{IsTyped}
-use Rattle.ksql_names.specs.declared.scope.Scope.{Scope}
-use Rattle.ksql_names.specs.Scope.{column_types}
-use Rattle.ksql_names.specs.Uses.{has_unknown_name, has_ambiguous_name, has_unknown_function}
+use Rattle.ksql_scopes.specs.declared.scope.Scope.{Scope}
+use Rattle.ksql_scopes.specs.Scope.{column_types}
+use Rattle.ksql_scopes.specs.Uses.{has_unknown_name, has_ambiguous_name, has_unknown_function}
 use Rattle.ksql_typing.specs.declared.judged.Judged.{Judged}
 use Rattle.ksql_typing.specs.declared.fault.TypeFault.{TypeFault}
 use Rattle.ksql_typing.specs.declared.fault.TypeFault.TheVariants.{UnknownColumn, AmbiguousColumn, TypeMismatch, Unsupported, OutOfMemory}

@@ -7,16 +7,16 @@ use Rattle.ksql_types.specs.declared.value.SqlType.TheVariants as sql
 use Rattle.ksql_expr.specs.Rules.{fits, binary_type, sign_type, can_cast, agg_type, can_be_when, joint_type, are_comparable, is_between_typed, typed}
 use Rattle.ksql_type_sets.specs.declared.possible.Types.{Types}
 use Rattle.ksql_expr.specs.Typing.{types}
-use Rattle.ksql_names.specs.declared.scope.Scope.{Scope}
-use Rattle.ksql_names.specs.Functions.{function_of, aggregate_of}
+use Rattle.ksql_scopes.specs.declared.scope.Scope.{Scope}
+use Rattle.ksql_scopes.specs.Functions.{function_of, aggregate_of}
 use Rattle.ksql_typing.specs.Possible.{possible, each_of, perhaps_of, conds_of, results_of, scope_within, name_types}
 use Rattle.ksql_type_sets.specs.Sets.{has, where_found, is_same, is_found, some_in, each_in, call_types, joint_types, can_be_whens, with_otherwise_types, is_some_in}
-use Rattle.ksql_names.specs.Scope.{inside, seen}
+use Rattle.ksql_scopes.specs.Scope.{inside, seen}
 use Rattle.ksql_typing.specs.Standing as st
 use Rattle.ksql_typing.specs.Standing.{Stands, Pair, one, perhaps, each, whens, digits_type, with_otherwise}
-use Rattle.ksql_names.proofs.Disjoint.{no-aggregate, unknown-none}
+use Rattle.ksql_scopes.proofs.Disjoint.{no-aggregate, unknown-none}
 use Rattle.ksql_typing.proofs.Equations as q
-use Rattle.ksql_expressions.proofs.Folds.{perhaps_folded}
+use Rattle.expression_trees.proofs.Folds.{perhaps_folded}
 use Rattle.ksql_type_sets.proofs.Sets.{AllHave, has-collect, some-from, each-from, found-from, same-self, all-behind, joint-from, fun-from}
 use Rattle.std.proofs.lemmas.Bool.{and_from}
 

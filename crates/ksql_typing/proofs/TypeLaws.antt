@@ -3,14 +3,14 @@ use Rattle.std.proofs.Common.{◌≡◌, true, false, Option, Some, None, is_som
 use Rattle.std.specs.Prelude.{◌==◌, ◌↔◌, nat_lt}
 use Rattle.ksql_types.specs.declared.value.SqlType.{SqlType}
 use Rattle.ksql_types.specs.declared.value.SqlType.TheVariants as sql
-use Rattle.ksql_expressions.specs.declared.tree.Expr.{Expr}
+use Rattle.expression_trees.specs.declared.tree.Expr.{Expr}
 use Rattle.ksql_expr.specs.declared.typed.Typed.{Typed}
 use Rattle.ksql_expr.specs.Rules.{fits}
-use Rattle.ksql_names.specs.declared.scope.Scope.{Scope}
+use Rattle.ksql_scopes.specs.declared.scope.Scope.{Scope}
 use Rattle.ksql_type_sets.specs.Decisions.{has_value, can_be_true, do_agree, can_agree}
 use Rattle.ksql_typing.specs.Possible.{possible}
 use Rattle.ksql_type_sets.specs.Sets.{has, is_some_in, some_in}
-use Rattle.ksql_names.specs.Uses.{has_unknown_name, has_ambiguous_name, has_unknown_function}
+use Rattle.ksql_scopes.specs.Uses.{has_unknown_name, has_ambiguous_name, has_unknown_function}
 use Rattle.ksql_typing.proofs.Deciding.{decides}
 use Rattle.ksql_typing.proofs.Having.{clear}
 use Rattle.ksql_type_sets.proofs.Sets.{some-in, some-from, type-same, same-type}

@@ -4,12 +4,12 @@ use Rattle.std.specs.List.{sum, sum_by}
 use Rattle.std.proofs.lemmas.List.Sums.{sum-map, get_or-le-sum_by}
 use Rattle.ksql_types.specs.declared.operator.BinaryOp.{BinaryOp}
 use Rattle.ksql_types.specs.declared.value.SqlType.{SqlType}
-use Rattle.ksql_expressions.specs.declared.tree.Expr.{Expr, fold-Expr}
-use Rattle.ksql_expressions.specs.declared.tree.Expr.TheVariants as e
-use Rattle.ksql_expressions.specs.declared.tree.Expr.TheOpen.{Expr-F, WhenText-F}
-use Rattle.ksql_expressions.specs.declared.tree.WhenText.{WhenText}
-use Rattle.ksql_expressions.proofs.Folds as f
-use Rattle.ksql_expressions.proofs.Folds.{perhaps_folded}
+use Rattle.expression_trees.specs.declared.tree.Expr.{Expr, fold-Expr}
+use Rattle.expression_trees.specs.declared.tree.Expr.TheVariants as e
+use Rattle.expression_trees.specs.declared.tree.Expr.TheOpen.{Expr-F, WhenText-F}
+use Rattle.expression_trees.specs.declared.tree.WhenText.{WhenText}
+use Rattle.expression_trees.proofs.Folds as f
+use Rattle.expression_trees.proofs.Folds.{perhaps_folded}
 
 abbrev or_zero : Option ℕ → ℕ
 or_zero None = 0

@@ -5,19 +5,19 @@ use Rattle.ksql_types.specs.declared.operator.BinaryOp.{BinaryOp}
 use Rattle.ksql_types.specs.declared.value.SqlType.{SqlType}
 use Rattle.ksql_types.specs.declared.value.SqlType.TheVariants as sql
 use Rattle.ksql_types.specs.declared.value.Value.TheVariants as value
-use Rattle.ksql_expressions.specs.declared.tree.Expr.{Expr}
-use Rattle.ksql_expressions.specs.declared.tree.WhenText.{WhenText}
-use Rattle.ksql_expressions.specs.Options.{◌>>=◌}
+use Rattle.expression_trees.specs.declared.tree.Expr.{Expr}
+use Rattle.expression_trees.specs.declared.tree.WhenText.{WhenText}
+use Rattle.expression_trees.specs.Options.{◌>>=◌}
 use Rattle.ksql_expr.specs.declared.typed.Typed.{Typed}
 use Rattle.ksql_expr.specs.declared.typed.TypedWhen.{TypedWhen}
 use Rattle.ksql_expr.specs.Typing.{of}
 use Rattle.ksql_type_sets.specs.declared.possible.Types.{Types}
-use Rattle.ksql_names.specs.declared.scope.Scope.{Scope}
-use Rattle.ksql_names.specs.Functions.{function_of, aggregate_of}
+use Rattle.ksql_scopes.specs.declared.scope.Scope.{Scope}
+use Rattle.ksql_scopes.specs.Functions.{function_of, aggregate_of}
 use Rattle.ksql_type_sets.specs.Sets as types
 use Rattle.ksql_typing.specs.Possible.{possible}
-use Rattle.ksql_names.specs.Scope.{Meaning}
-use Rattle.ksql_names.specs.Uses.{has_unknown_name, has_ambiguous_name}
+use Rattle.ksql_scopes.specs.Scope.{Meaning}
+use Rattle.ksql_scopes.specs.Uses.{has_unknown_name, has_ambiguous_name}
 use Rattle.ksql_typing.specs.declared.judged.Judged.{Judged}
 use Rattle.ksql_typing.specs.declared.judged.Parts.{Parts}
 use Rattle.ksql_typing.specs.declared.judged.Perhaps.{Perhaps}

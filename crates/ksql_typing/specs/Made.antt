@@ -5,9 +5,9 @@ use Rattle.ksql_types.specs.declared.value.SqlType.{SqlType}
 use Rattle.ksql_types.specs.declared.value.SqlType.TheVariants as sql
 use Rattle.ksql_types.specs.declared.value.Value.{Value}
 use Rattle.ksql_types.specs.declared.value.Value.TheVariants as value
-use Rattle.ksql_expressions.specs.declared.tree.Expr.{Expr, fold-Expr}
-use Rattle.ksql_expressions.specs.declared.tree.Expr.TheOpen.{Expr-F, WhenText-F}
-use Rattle.ksql_expressions.specs.Options.{◌>>=◌}
+use Rattle.expression_trees.specs.declared.tree.Expr.{Expr, fold-Expr}
+use Rattle.expression_trees.specs.declared.tree.Expr.TheOpen.{Expr-F, WhenText-F}
+use Rattle.expression_trees.specs.Options.{◌>>=◌}
 use Rattle.ksql_expr.specs.declared.typed.AggFun.{AggFun}
 use Rattle.ksql_expr.specs.declared.typed.AggFun.TheVariants.{CountAll, Count}
 use Rattle.ksql_expr.specs.declared.typed.Fun.{Fun}
@@ -17,9 +17,9 @@ use Rattle.ksql_expr.specs.declared.typed.TypedNode.TheVariants as n
 use Rattle.ksql_expr.specs.declared.typed.TypedWhen.{TypedWhen, roll-TypedWhen}
 use Rattle.ksql_expr.specs.Rules.{type_of, fits, binary_type, sign_type, can_cast, fun_type, agg_type, is_between_typed, is_in_typed, typed}
 use Rattle.ksql_expr.specs.Typing.{of, truth, types}
-use Rattle.ksql_names.specs.declared.scope.Scope.{Scope}
-use Rattle.ksql_names.specs.Functions.{function_of, aggregate_of}
-use Rattle.ksql_names.specs.Scope.{Meaning, meanings}
+use Rattle.ksql_scopes.specs.declared.scope.Scope.{Scope}
+use Rattle.ksql_scopes.specs.Functions.{function_of, aggregate_of}
+use Rattle.ksql_scopes.specs.Scope.{Meaning, meanings}
 use Rattle.ksql_typing.specs.Possible.{scope_within}
 use Rattle.ksql_typing.specs.Standing.{digits_value, type_of_case}
 

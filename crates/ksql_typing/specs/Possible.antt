@@ -1,11 +1,11 @@
 -- The set of types that an expression can have, made from those of its parts.
 use Rattle.std.specs.Prelude.{ℕ, true, not, ◌&&◌, List, [], ◌∷◌, map, Option, Some, None}
 use Rattle.ksql_types.specs.declared.value.SqlType.TheVariants as sql
-use Rattle.ksql_expressions.specs.declared.tree.Expr.{Expr, fold-Expr}
-use Rattle.ksql_expressions.specs.declared.tree.Expr.TheOpen.{Expr-F, WhenText-F}
-use Rattle.ksql_names.specs.declared.scope.Scope.{Scope}
-use Rattle.ksql_names.specs.Functions.{function_of, aggregate_of, is_aggregate}
-use Rattle.ksql_names.specs.Scope.{Meaning, meanings, seen}
+use Rattle.expression_trees.specs.declared.tree.Expr.{Expr, fold-Expr}
+use Rattle.expression_trees.specs.declared.tree.Expr.TheOpen.{Expr-F, WhenText-F}
+use Rattle.ksql_scopes.specs.declared.scope.Scope.{Scope}
+use Rattle.ksql_scopes.specs.Functions.{function_of, aggregate_of, is_aggregate}
+use Rattle.ksql_scopes.specs.Scope.{Meaning, meanings, seen}
 use Rattle.ksql_type_sets.specs.declared.possible.Types.{Types}
 use Rattle.ksql_type_sets.specs.Sets.{where_found, no_types, truth_where, sign_types, binary_types, fitting, is_some_in, between_types, one_of_types, cast_types, with_otherwise_types, case_types, call_types}
 use Rattle.ksql_typing.specs.Standing.{digits_type}

@@ -8,9 +8,9 @@ use Rattle.ksql_types.specs.declared.value.SqlType.{SqlType}
 use Rattle.ksql_types.specs.declared.value.SqlType.TheVariants as sql
 use Rattle.ksql_types.specs.declared.value.Value.{Value}
 use Rattle.ksql_types.specs.declared.value.Value.TheVariants as value
-use Rattle.ksql_expressions.specs.declared.tree.Expr.{Expr}
-use Rattle.ksql_expressions.specs.declared.tree.Expr.TheVariants as e
-use Rattle.ksql_expressions.specs.declared.tree.WhenText.{WhenText}
+use Rattle.expression_trees.specs.declared.tree.Expr.{Expr}
+use Rattle.expression_trees.specs.declared.tree.Expr.TheVariants as e
+use Rattle.expression_trees.specs.declared.tree.WhenText.{WhenText}
 use Rattle.ksql_expr.specs.declared.typed.AggFun.{AggFun}
 use Rattle.ksql_expr.specs.declared.typed.AggFun.TheVariants.{CountAll, Count}
 use Rattle.ksql_expr.specs.declared.typed.Fun.{Fun}
@@ -20,10 +20,10 @@ use Rattle.ksql_expr.specs.declared.typed.TypedNode.TheVariants as n
 use Rattle.ksql_expr.specs.declared.typed.TypedWhen.{TypedWhen}
 use Rattle.ksql_expr.specs.Rules.{fits, binary_type, sign_type, can_cast, fun_type, agg_type, case_type, is_between_typed, is_in_typed}
 use Rattle.ksql_expr.specs.Typing.{of, types}
-use Rattle.ksql_names.specs.declared.scope.Scope.{Scope}
-use Rattle.ksql_names.specs.Functions.{function_of, aggregate_of, is_unknown}
-use Rattle.ksql_names.specs.Scope.{meanings, inside}
-use Rattle.ksql_names.specs.Uses.{has_unknown_function}
+use Rattle.ksql_scopes.specs.declared.scope.Scope.{Scope}
+use Rattle.ksql_scopes.specs.Functions.{function_of, aggregate_of, is_unknown}
+use Rattle.ksql_scopes.specs.Scope.{meanings, inside}
+use Rattle.ksql_scopes.specs.Uses.{has_unknown_function}
 
 -- a part of an expression and what stands for it: an expression, one that may be left out, each of some, and WHENs
 pub data Pair : Type 0 where

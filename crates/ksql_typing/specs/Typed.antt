@@ -1,10 +1,10 @@
 -- Why an expression has no typed tree: the first of these that applies.
 use Rattle.std.specs.Prelude.{◌≡◌, true, false, Result, Err}
-use Rattle.ksql_expressions.specs.declared.tree.Expr.{Expr}
+use Rattle.expression_trees.specs.declared.tree.Expr.{Expr}
 use Rattle.ksql_expr.specs.declared.typed.Typed.{Typed}
-use Rattle.ksql_names.specs.declared.scope.Scope.{Scope}
+use Rattle.ksql_scopes.specs.declared.scope.Scope.{Scope}
 use Rattle.ksql_typing.specs.Standing.{HasSomeType}
-use Rattle.ksql_names.specs.Uses.{has_unknown_name, has_ambiguous_name, has_unknown_function}
+use Rattle.ksql_scopes.specs.Uses.{has_unknown_name, has_ambiguous_name, has_unknown_function}
 use Rattle.ksql_typing.specs.declared.fault.TypeFault.{TypeFault}
 use Rattle.ksql_typing.specs.declared.fault.TypeFault.TheVariants.{UnknownColumn, AmbiguousColumn, TypeMismatch, Unsupported, OutOfMemory}
 

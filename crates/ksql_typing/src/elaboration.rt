@@ -2,7 +2,7 @@
 
 ghost use Rattle.std.specs.Prelude.{◌≡◌, ◌≤◌, ◌-◌, ◌^◌, ◌⊎◌, length, IfOk, IfErr};
 ghost use Rattle.ksql_expr.specs.declared.typed.Typed.{Typed as OneTyped};
-ghost use Rattle.ksql_names.specs.Uses.{IsSmall};
+ghost use Rattle.ksql_scopes.specs.Uses.{IsSmall};
 ghost use Rattle.ksql_typing.specs.declared.fault.TypeFault.{TypeFault as OneFault};
 ghost use Rattle.ksql_typing.specs.Judged as spec;
 ghost use Rattle.ksql_typing.specs.Standing.{IsTypedTree};
@@ -12,8 +12,8 @@ use crate::fault::TypeFault;
 use crate::judge::judge;
 use crate::judged::Judged;
 use ksql_expr::Typed;
-use ksql_expressions::Expr;
-use ksql_names::Scope;
+use expression_trees::Expr;
+use ksql_scopes::Scope;
 use ksql_type_sets::{Types, has_some_type};
 use std::alloc::Global;
 

@@ -1,16 +1,16 @@
 //! What is found out of an expression in a scope.
 
 ghost use Rattle.std.specs.Prelude.{◌≡◌, ◌≤◌, ◌-◌, ◌^◌, ◌&&◌, not, IfOk, IsTrue, length, map};
-ghost use Rattle.ksql_names.specs.Functions.{is_aggregate};
-ghost use Rattle.ksql_names.specs.Scope.{seen};
-ghost use Rattle.ksql_names.specs.Uses.{IsSmall, are_small, are_whens_small, is_small_perhaps};
+ghost use Rattle.ksql_scopes.specs.Functions.{is_aggregate};
+ghost use Rattle.ksql_scopes.specs.Scope.{seen};
+ghost use Rattle.ksql_scopes.specs.Uses.{IsSmall, are_small, are_whens_small, is_small_perhaps};
 ghost use Rattle.ksql_typing.specs.Judged as spec;
 ghost use Rattle.ksql_typing.specs.Judged.{AreOf, AreOfWhens, judged, judged_when};
 
 use crate::found::{self, Found};
 use crate::judged::{self, Judged, Parts, Perhaps, WhenParts};
-use ksql_expressions::{Expr, WhenText};
-use ksql_names::{Scope, aggregate_of};
+use expression_trees::{Expr, WhenText};
+use ksql_scopes::{Scope, aggregate_of};
 use ksql_types::{BinaryOp, Boxed};
 use std::alloc::{AllocError, Global};
 

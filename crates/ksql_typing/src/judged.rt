@@ -2,10 +2,10 @@
 
 ghost use Rattle.std.specs.Prelude.{◌≡◌, ◌≤◌, ◌-◌, ◌^◌, ◌++◌, ◌∷◌, [], ◌||◌, List, length, option_map, Some, IfOk};
 ghost use Rattle.ksql_types.specs.declared.value.Value.TheVariants as value;
-ghost use Rattle.ksql_names.specs.Functions as functions;
+ghost use Rattle.ksql_scopes.specs.Functions as functions;
 ghost use Rattle.ksql_type_sets.specs.Sets as types;
-ghost use Rattle.ksql_names.specs.Senses.{sense, view};
-ghost use Rattle.ksql_names.specs.Scope.{meanings, seen};
+ghost use Rattle.ksql_scopes.specs.Senses.{sense, view};
+ghost use Rattle.ksql_scopes.specs.Scope.{meanings, seen};
 ghost use Rattle.ksql_typing.specs.declared.judged.Judged.{Judged as OneJudged};
 ghost use Rattle.ksql_typing.specs.Judged as spec;
 ghost use Rattle.ksql_typing.specs.Judged.{AreOf, AreOfWhens, JudgedWhen, after};
@@ -15,7 +15,7 @@ ghost use Rattle.ksql_typing.specs.Made as made;
 
 use crate::form::{self, HeldTree};
 use ksql_expr::{AggFun, Typed, TypedNode, TypedWhen};
-use ksql_names::{Scope, Sense, aggregate_of, function_of, sense_of};
+use ksql_scopes::{Scope, Sense, aggregate_of, function_of, sense_of};
 use ksql_type_sets::{Types, has_some_type, possible};
 use ksql_types::{BinaryOp, Boxed, Chars, SqlType};
 use std::alloc::{AllocError, Global};

@@ -2,14 +2,14 @@
 
 ghost use Rattle.std.specs.Prelude.{◌≡◌, ◌↔◌, false, IsTrue, Option, Some};
 ghost use Rattle.ksql_types.specs.declared.value.SqlType.{SqlType as OneType};
-ghost use Rattle.ksql_expressions.specs.declared.tree.Expr.{Expr as OneExpr};
+ghost use Rattle.expression_trees.specs.declared.tree.Expr.{Expr as OneExpr};
 ghost use Rattle.ksql_expr.specs.declared.typed.Typed.{Typed as OneTyped};
 ghost use Rattle.ksql_expr.specs.Typing.{IsTyped};
-ghost use Rattle.ksql_names.specs.declared.scope.Scope.{Scope as OneScope};
+ghost use Rattle.ksql_scopes.specs.declared.scope.Scope.{Scope as OneScope};
 ghost use Rattle.ksql_type_sets.specs.Decisions as decided;
 ghost use Rattle.ksql_type_sets.specs.Sets.{has, is_some_in};
-ghost use Rattle.ksql_names.specs.Scope.{column_types};
-ghost use Rattle.ksql_names.specs.Uses.{has_unknown_function};
+ghost use Rattle.ksql_scopes.specs.Scope.{column_types};
+ghost use Rattle.ksql_scopes.specs.Uses.{has_unknown_function};
 ghost use Rattle.ksql_typing.specs.Judged.{judged};
 ghost use Rattle.ksql_typing.specs.Standing.{HasType, HasSomeType, HasValue, CanBeTrue, CanAgree, IsTypedTree};
 ghost use Rattle.ksql_typing.specs.Typed.{AreNamesClear};

@@ -12,7 +12,7 @@ use crate::relations::{key_columns, kind_of};
 use crate::tree::Plan;
 use ksql_expr::{Exprs, Typed, TypedNode};
 use ksql_program::{Aggs, From, JoinKind, Program, Query, Shape};
-use ksql_trees::same_node;
+use grouped_expressions::same_node;
 use ksql_types::{Boxed, CopyOf, Items, Kind, Window};
 use std::alloc::{AllocError, Global};
 

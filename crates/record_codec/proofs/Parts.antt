@@ -287,16 +287,16 @@ reads-body true =
 
 -- ---- changes
 
-abbrev behind_text : Stamp × (List ℕ × (ℕ × (Option Span × (List Value × Body)))) → List ℕ
-behind_text = in_row stamp (in_row path (in_row eight (in_row (optional span) (in_row values body))))
+abbrev after_text : Stamp × (List ℕ × (ℕ × (Option Span × (List Value × Body)))) → List ℕ
+after_text = in_row stamp (in_row path (in_row eight (in_row (optional span) (in_row values body))))
 
-abbrev behind_fits : Bool → Stamp × (List ℕ × (ℕ × (Option Span × (List Value × Body)))) → Type 0
-behind_fits k = and_then IsStamp (λ _. and_then IsPath (λ _. and_then n64 (λ _. and_then (passing (if_some IsSpan) (is_allowed k)) (λ _. and_then IsKeyed (λ _. IsBodyOf k)))))
+abbrev after_fits : Bool → Stamp × (List ℕ × (ℕ × (Option Span × (List Value × Body)))) → Type 0
+after_fits k = and_then IsStamp (λ _. and_then IsPath (λ _. and_then n64 (λ _. and_then (passing (if_some IsSpan) (is_allowed k)) (λ _. and_then IsKeyed (λ _. IsBodyOf k)))))
 
-abbrev behind_at : Bool → Reader (Stamp × (List ℕ × (ℕ × (Option Span × (List Value × Body)))))
-behind_at k = both stamp_at (λ _. both path_at (λ _. both eight_at (λ _. both (window_at k) (λ _. both key_at (λ _. body_at k)))))
+abbrev after_at : Bool → Reader (Stamp × (List ℕ × (ℕ × (Option Span × (List Value × Body)))))
+after_at k = both stamp_at (λ _. both path_at (λ _. both eight_at (λ _. both (window_at k) (λ _. both key_at (λ _. body_at k)))))
 
-reads-behind : (k : Bool) → Reads behind_text (behind_fits k) (behind_at k)
+reads-behind : (k : Bool) → Reads after_text (after_fits k) (after_at k)
 reads-behind k =
     let window = passing (if_some IsSpan) (is_allowed k) in
     let r2 = reads-next values body IsKeyed (IsBodyOf k) key_at (body_at k) reads-key (reads-body k) in
@@ -326,7 +326,7 @@ abbrev parts_of : Change → Parts
 parts_of c = (is_turned c.body, (c.place.stamp, (c.place.path, (c.time, (c.span, (c.key, c.body))))))
 
 abbrev parts_fit : Parts → Type 0
-parts_fit = and_then anything behind_fits
+parts_fit = and_then anything after_fits
 
 -- ---- the limits, and what is so of every change that a program holds
 
@@ -369,11 +369,11 @@ span-of : (o : Option Span) → IfSome o rises → IfSome o IsTypedSpan → IfSo
 span-of None h g = tt
 span-of (Some s) h g = (h, g)
 
-parts-to : (p : Parts) → parts_fit p → (in_row head behind_text p ≡ spelling (change_of p)) × IsSpellable (change_of p)
+parts-to : (p : Parts) → parts_fit p → (in_row head after_text p ≡ spelling (change_of p)) × IsSpellable (change_of p)
 unfolding spelling
 parts-to p h =
     let kind : is_turned p.1.1.1.1.1.1 ≡ p.0 = h.1.1.1.1.1.1.0 in (
-      ap (λ (k : Bool). head k ++ behind_text p.1) (sym kind)
+      ap (λ (k : Bool). head k ++ after_text p.1) (sym kind)
           ∙ regroup (is_turned p.1.1.1.1.1.1) (stamp p.1.0) (path p.1.1.0) (eight p.1.1.1.0) (optional span p.1.1.1.1.0) (values p.1.1.1.1.1.0) (body p.1.1.1.1.1.1),
       record {
         limits = record {
@@ -405,5 +405,5 @@ parts-back c h =
 pub reads-change : Reads spelling IsSpellable change_at
 unfolding change_at
 reads-change =
-    reads-as (in_row head behind_text) spelling parts_fit IsSpellable change_of parts_of (both head_at behind_at) parts-to parts-back
-    (reads-both head behind_text anything behind_fits head_at behind_at reads-head (λ k _. reads-behind k))
+    reads-as (in_row head after_text) spelling parts_fit IsSpellable change_of parts_of (both head_at after_at) parts-to parts-back
+    (reads-both head after_text anything after_fits head_at after_at reads-head (λ k _. reads-behind k))

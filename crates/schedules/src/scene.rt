@@ -4,7 +4,7 @@ ghost use Rattle.cluster_core.specs.Cluster.{IsBuilt};
 
 use anyhow::Result;
 use cluster_core::Step;
-use cluster_rows::{Fault, Ran, run};
+use cluster_tests::{Fault, Ran, run};
 use ksql_types::TaskName;
 use std::alloc::{AllocError, Global};
 use std::fs;

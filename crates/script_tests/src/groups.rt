@@ -1,6 +1,6 @@
 use crate::texts::chars;
-use ksql_expressions::{Expr, WhenText};
-use ksql_grouping::{
+use expression_trees::{Expr, WhenText};
+use aggregate_rules::{
     has_aggregate, has_bare_column, has_nested_aggregate, has_ordered_aggregate,
     has_unknown_function,
 };

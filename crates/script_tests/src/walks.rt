@@ -1,4 +1,4 @@
-use ksql_expressions::{Decides, Expr, Replaces, becomes, passes};
+use expression_trees::{Decides, Expr, Replaces, becomes, passes};
 use ksql_types::Boxed;
 use std::alloc::{AllocError, Global};
 use std::test::Fail;
@@ -10,7 +10,7 @@ struct Nulls {
 
 impl Replaces for Nulls {
     ghost use Rattle.std.specs.Prelude.{Some, None, if◌then◌else◌};
-    ghost use Rattle.ksql_expressions.specs.declared.tree.Expr.TheVariants.{Null};
+    ghost use Rattle.expression_trees.specs.declared.tree.Expr.TheVariants.{Null};
 
     ghost decide = { λ nulls _. if nulls.all then Some Null else None };
 

@@ -9,7 +9,7 @@ use Rattle.std.proofs.lemmas.Str.Ascii.{IsAscii-cons, IsAscii-nil, uppercase_asc
 use Rattle.std.proofs.lemmas.Bool.Decides.{nat_tests}
 use Rattle.std.proofs.Math.Utf8.{low_scalar, scalar}
 use Rattle.std.proofs.lemmas.List.{length-reverse, map-append, reverse-append, reverse-reverse, take-append-drop}
-use Rattle.ksql_expr.specs.Value.{at_most, behind_spaces, index_of, part_of, trimmed, truth_text}
+use Rattle.ksql_expr.specs.Value.{at_most, after_spaces, index_of, part_of, trimmed, truth_text}
 
 both-true : (a b : Bool) → (a && b) ≡ true → (a ≡ true) × (b ≡ true)
 both-true true b h = (refl, h)
@@ -60,11 +60,11 @@ part-short t at len u =
 space-utf8 : IsUtf8 (32 ∷ [])
 space-utf8 = IsUtf8-from_ascii (32 ∷ []) (IsAscii-cons 32 [] (omega arith) IsAscii-nil)
 
-behind-utf8 : (t : List ℕ) → IsUtf8 t → IsUtf8 (behind_spaces t)
+behind-utf8 : (t : List ℕ) → IsUtf8 t → IsUtf8 (after_spaces t)
 behind-utf8 [] u = u
 behind-utf8 (c ∷ cs) u = by (c == 32) refl (behind-utf8 cs)
   where
-    by : (b : Bool) → (c == 32) ≡ b → (IsUtf8 cs → IsUtf8 (behind_spaces cs)) → IsUtf8 (if b then behind_spaces cs else c ∷ cs)
+    by : (b : Bool) → (c == 32) ≡ b → (IsUtf8 cs → IsUtf8 (after_spaces cs)) → IsUtf8 (if b then after_spaces cs else c ∷ cs)
     by true is rest =
         let same : c ≡ 32 = grind (arith, nat_tests) in
         let first : c ∷ cs ≡ encode_utf8 32 ++ cs = ap (λ x. x ∷ cs) same ∙ ap (λ e. e ++ cs) (sym (encode_ascii 32 (omega arith))) in
@@ -80,11 +80,11 @@ last-utf8 front u =
     subst IsUtf8 (take-front front (32 ∷ []))
     (IsUtf8-take (front ++ 32 ∷ []) (length front) u (IsCharBoundary-at_seam (front ++ 32 ∷ []) front (32 ∷ []) refl space-utf8))
 
-before-utf8 : (t : List ℕ) → IsUtf8 (reverse t) → IsUtf8 (reverse (behind_spaces t))
+before-utf8 : (t : List ℕ) → IsUtf8 (reverse t) → IsUtf8 (reverse (after_spaces t))
 before-utf8 [] u = u
 before-utf8 (c ∷ cs) u = by (c == 32) refl (before-utf8 cs)
   where
-    by : (b : Bool) → (c == 32) ≡ b → (IsUtf8 (reverse cs) → IsUtf8 (reverse (behind_spaces cs))) → IsUtf8 (reverse (if b then behind_spaces cs else c ∷ cs))
+    by : (b : Bool) → (c == 32) ≡ b → (IsUtf8 (reverse cs) → IsUtf8 (reverse (after_spaces cs))) → IsUtf8 (reverse (if b then after_spaces cs else c ∷ cs))
     by true is rest =
         let same : c ≡ 32 = grind (arith, nat_tests) in
         let last : reverse (c ∷ cs) ≡ reverse cs ++ 32 ∷ [] = reverse-append (c ∷ []) cs ∙ ap (λ x. reverse cs ++ x ∷ []) same in
@@ -92,7 +92,7 @@ before-utf8 (c ∷ cs) u = by (c == 32) refl (before-utf8 cs)
     by false is rest = u
 
 pub trimmed-utf8 : (t : List ℕ) → IsUtf8 t → IsUtf8 (trimmed t)
-trimmed-utf8 t u = before-utf8 (reverse (behind_spaces t)) (subst IsUtf8 (sym (reverse-reverse (behind_spaces t))) (behind-utf8 t u))
+trimmed-utf8 t u = before-utf8 (reverse (after_spaces t)) (subst IsUtf8 (sym (reverse-reverse (after_spaces t))) (behind-utf8 t u))
 
 -- ---- letters
 
@@ -197,18 +197,18 @@ unfolding encode_utf8
 truth-utf8 true = (omega arith, (codes "true", (refl, refl)))
 truth-utf8 false = (omega arith, (codes "false", (refl, refl)))
 
-behind-short : (t : List ℕ) → length (behind_spaces t) ≤ length t
+behind-short : (t : List ℕ) → length (after_spaces t) ≤ length t
 behind-short [] = omega arith
 behind-short (c ∷ cs) = by (c == 32) (behind-short cs)
   where
-    by : (b : Bool) → length (behind_spaces cs) ≤ length cs → length (if b then behind_spaces cs else c ∷ cs) ≤ length (c ∷ cs)
+    by : (b : Bool) → length (after_spaces cs) ≤ length cs → length (if b then after_spaces cs else c ∷ cs) ≤ length (c ∷ cs)
     by true rest = omega (arith, rest)
     by false rest = omega arith
 
 pub trimmed-short : (t : List ℕ) → length (trimmed t) ≤ length t
 trimmed-short t =
-    let first : length (behind_spaces t) ≤ length t = behind-short t in
-    let turned : length (reverse (behind_spaces t)) ≡ length (behind_spaces t) = length-reverse (behind_spaces t) in
-    let second : length (behind_spaces (reverse (behind_spaces t))) ≤ length (reverse (behind_spaces t)) = behind-short (reverse (behind_spaces t)) in
-    let last : length (trimmed t) ≡ length (behind_spaces (reverse (behind_spaces t))) = length-reverse (behind_spaces (reverse (behind_spaces t))) in
+    let first : length (after_spaces t) ≤ length t = behind-short t in
+    let turned : length (reverse (after_spaces t)) ≡ length (after_spaces t) = length-reverse (after_spaces t) in
+    let second : length (after_spaces (reverse (after_spaces t))) ≤ length (reverse (after_spaces t)) = behind-short (reverse (after_spaces t)) in
+    let last : length (trimmed t) ≡ length (after_spaces (reverse (after_spaces t))) = length-reverse (after_spaces (reverse (after_spaces t))) in
     omega (arith, first, turned, second, last)

@@ -27,8 +27,8 @@ use Rattle.ksql_expr.specs.declared.typed.TypedNode.{TypedNode, fold-TypedNode, 
 use Rattle.ksql_expr.specs.declared.typed.TypedWhen.{TypedWhen}
 use Rattle.ksql_expr.specs.declared.typed.TypedNode.TheOpen.{TypedNode-F}
 use Rattle.ksql_expr.specs.declared.typed.TypedNode.TheVariants as form
-use Rattle.ksql_trees.specs.Same.{same_form}
-use Rattle.ksql_trees.proofs.Equality.{decided}
+use Rattle.grouped_expressions.specs.Same.{same_form}
+use Rattle.grouped_expressions.proofs.Equality.{decided}
 use Rattle.ksql_program.specs.declared.program.Item.{Item}
 use Rattle.ksql_program.specs.declared.program.Item.TheVariants.{Declared, Started}
 use Rattle.ksql_program.specs.declared.query.Agg.{Agg}

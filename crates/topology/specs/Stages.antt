@@ -5,7 +5,7 @@ use Rattle.ksql_types.specs.declared.relation.Kind.{Kind}
 use Rattle.ksql_types.specs.declared.relation.Kind.TheVariants.{Stream, Table}
 use Rattle.ksql_expr.specs.declared.typed.Typed.{Typed}
 use Rattle.ksql_expr.specs.declared.typed.TypedNode.TheVariants.{Column}
-use Rattle.ksql_trees.specs.Same.{same_form, same_tree}
+use Rattle.grouped_expressions.specs.Same.{same_form, same_tree}
 use Rattle.ksql_program.specs.declared.program.Item.{Item}
 use Rattle.ksql_program.specs.declared.query.From.{From}
 use Rattle.ksql_program.specs.declared.query.From.TheVariants.{One, Join}

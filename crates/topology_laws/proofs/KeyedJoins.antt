@@ -18,8 +18,8 @@ use Rattle.ksql_expr.specs.Typing.{IsTyped}
 use Rattle.ksql_expr.specs.Value.{value_of}
 use Rattle.ksql_expr.specs.declared.typed.Typed.{Typed}
 use Rattle.ksql_expr.specs.declared.typed.TypedNode.TheVariants as form
-use Rattle.ksql_trees.specs.Same.{same_tree}
-use Rattle.ksql_trees.proofs.Equality.{equal, equal-trees}
+use Rattle.grouped_expressions.specs.Same.{same_tree}
+use Rattle.grouped_expressions.proofs.Equality.{equal, equal-trees}
 use Rattle.ksql_program.specs.declared.query.JoinKind.{JoinKind}
 use Rattle.ksql_program.specs.declared.query.JoinKind.TheVariants.{Inner, Left, Full}
 use Rattle.ksql_nodes.specs.declared.node.Node.TheVariants.{JoinStreamTable, JoinTables}

@@ -20,7 +20,7 @@ use Rattle.ksql_place.specs.declared.change.Change.{Change}
 use Rattle.ksql_expr.specs.Value.{is_true_value, value_of}
 use Rattle.ksql_expr.specs.declared.typed.Typed.{Typed}
 use Rattle.ksql_expr.specs.declared.typed.TypedNode.TheVariants as form
-use Rattle.ksql_trees.proofs.Equality.{equal}
+use Rattle.grouped_expressions.proofs.Equality.{equal}
 use Rattle.ksql_program.specs.Sound.{column_types}
 use Rattle.ksql_nodes.specs.declared.node.Node.TheVariants.{Filter}
 use Rattle.ksql_nodes.specs.Entries.{Row}

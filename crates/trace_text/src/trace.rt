@@ -12,7 +12,7 @@ use topology::{Lined, Step};
 
 /// Appends the trace of a run: the line `trace`, and then each step of its journal with what happened up to the next one.
 /// The first step of the journal is the first assignment and none of the schedule, and each later one is that of the next
-/// line. Where they don't fit, steps behind the last line have only what their entries say, and lines that the journal
+/// line. Where they don't fit, steps after the last line have only what their entries say, and lines that the journal
 /// doesn't come to are left out, as is what it has before its first step.
 #[tactic(auto, using(crate::proofs::Texts::appends), unfolding(crate::specs::Trace::trace_of))]
 pub fn push_trace(

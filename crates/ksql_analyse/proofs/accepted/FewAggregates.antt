@@ -5,24 +5,24 @@ use Rattle.std.specs.List.{flat_map, list_any, AllByRecursion as Each}
 use Rattle.std.proofs.lemmas.Bool.{ltb-false}
 use Rattle.std.proofs.lemmas.List.{length-append, length-map}
 use Rattle.ksql_types.specs.declared.relation.Relation.{Relation}
-use Rattle.ksql_expressions.specs.declared.tree.Expr.{Expr}
-use Rattle.ksql_expressions.specs.declared.tree.Expr.TheVariants as e
-use Rattle.ksql_statements.specs.declared.tree.Property.{Property}
-use Rattle.ksql_statements.specs.declared.tree.Select.{Select}
-use Rattle.ksql_expressions.specs.declared.tree.WhenText.{WhenText}
-use Rattle.ksql_names.specs.Functions.{is_aggregate}
-use Rattle.ksql_names.specs.Uses.{calls, all_of, perhaps}
-use Rattle.ksql_names.proofs.Equations as equation
-use Rattle.ksql_names.proofs.Equations.{calls_when, calls-when}
-use Rattle.ksql_expressions.proofs.Folds.{perhaps_folded}
-use Rattle.ksql_names.proofs.Induction.{IfThere, InWhen, induction}
+use Rattle.expression_trees.specs.declared.tree.Expr.{Expr}
+use Rattle.expression_trees.specs.declared.tree.Expr.TheVariants as e
+use Rattle.statement_trees.specs.declared.tree.Property.{Property}
+use Rattle.statement_trees.specs.declared.tree.Select.{Select}
+use Rattle.expression_trees.specs.declared.tree.WhenText.{WhenText}
+use Rattle.ksql_scopes.specs.Functions.{is_aggregate}
+use Rattle.ksql_scopes.specs.Uses.{calls, all_of, perhaps}
+use Rattle.ksql_scopes.proofs.Equations as equation
+use Rattle.ksql_scopes.proofs.Equations.{calls_when, calls-when}
+use Rattle.expression_trees.proofs.Folds.{perhaps_folded}
+use Rattle.ksql_scopes.proofs.Induction.{IfThere, InWhen, induction}
 use Rattle.ksql_clauses.specs.declared.items.Named.{Named}
 use Rattle.ksql_clauses.specs.declared.sources.Known.{Known}
 use Rattle.ksql_clauses.specs.Items.{result_columns}
-use Rattle.ksql_names.specs.Resolved.{resolved}
+use Rattle.ksql_scopes.specs.Resolved.{resolved}
 use Rattle.ksql_clauses.specs.Sources.{from_scope, item_scope, late_exprs, there}
-use Rattle.ksql_grouping.specs.Grouping.{aggregates_of, once_from}
-use Rattle.ksql_expressions.specs.Same.{same_expr}
+use Rattle.aggregate_rules.specs.Grouping.{aggregates_of, once_from}
+use Rattle.expression_trees.specs.Same.{same_expr}
 use Rattle.ksql_rules.specs.Breaks.{group_exprs, shown_exprs}
 use Rattle.ksql_analyse.specs.Few.{CallsFew}
 use Rattle.ksql_analyse.specs.Judgement.{aggregate_exprs, exprs}

@@ -5,16 +5,16 @@ use Rattle.std.proofs.lemmas.List.{length-map}
 use Rattle.std.proofs.lemmas.List.Elements.{All-from_recursion}
 use Rattle.std.specs.List.{list_any, AllByRecursion as Each}
 use Rattle.ksql_types.specs.declared.relation.Relation.{Relation}
-use Rattle.ksql_expressions.specs.declared.tree.Expr.{Expr}
-use Rattle.ksql_statements.specs.declared.tree.Property.{Property}
-use Rattle.ksql_statements.specs.declared.tree.Select.{Select}
-use Rattle.ksql_names.specs.declared.scope.Scope.{Scope}
+use Rattle.expression_trees.specs.declared.tree.Expr.{Expr}
+use Rattle.statement_trees.specs.declared.tree.Property.{Property}
+use Rattle.statement_trees.specs.declared.tree.Select.{Select}
+use Rattle.ksql_scopes.specs.declared.scope.Scope.{Scope}
 use Rattle.ksql_clauses.specs.declared.items.Named.{Named}
 use Rattle.ksql_clauses.specs.declared.sources.Known.{Known}
 use Rattle.ksql_clauses.specs.Items.{result_columns}
-use Rattle.ksql_names.specs.Resolved.{resolved}
+use Rattle.ksql_scopes.specs.Resolved.{resolved}
 use Rattle.ksql_clauses.specs.Sources.{from_scope, item_scope, there, joined_streams, late_exprs}
-use Rattle.ksql_grouping.specs.Grouping.{has_bare_column}
+use Rattle.aggregate_rules.specs.Grouping.{has_bare_column}
 use Rattle.ksql_clauses.specs.Keys.{key_columns}
 use Rattle.ksql_rules.specs.Breaks.{group_exprs, shown_exprs, is_grouped, is_stream_join, has_stream_side, is_not_on_key}
 use Rattle.ksql_clauses.specs.Keys.{needs, alone, key_places}

@@ -4,21 +4,21 @@ use Rattle.std.specs.Prelude.{option_map}
 use Rattle.std.specs.List.{flat_map}
 use Rattle.std.proofs.lemmas.List.{length-append, length-map}
 use Rattle.ksql_types.specs.declared.relation.Window.{Window}
-use Rattle.ksql_expressions.specs.declared.tree.Expr.{Expr}
-use Rattle.ksql_statements.specs.declared.tree.Select.{Select}
+use Rattle.expression_trees.specs.declared.tree.Expr.{Expr}
+use Rattle.statement_trees.specs.declared.tree.Select.{Select}
 use Rattle.ksql_expr.specs.declared.typed.Typed.{Typed}
 use Rattle.ksql_expr.specs.declared.typed.TypedNode.{TypedNode}
 use Rattle.ksql_expr.specs.declared.typed.TypedNode.TheVariants as n
 use Rattle.ksql_program.specs.declared.query.Agg.{Agg}
 use Rattle.ksql_program.specs.declared.query.Shape.TheVariants as shape
-use Rattle.ksql_names.specs.declared.scope.Scope.{Scope}
+use Rattle.ksql_scopes.specs.declared.scope.Scope.{Scope}
 use Rattle.ksql_clauses.specs.declared.items.Named.{Named}
 use Rattle.ksql_clauses.specs.declared.sources.Known.{Known}
 use Rattle.ksql_clauses.specs.Items.{result_columns}
-use Rattle.ksql_names.specs.Resolved.{resolved}
+use Rattle.ksql_scopes.specs.Resolved.{resolved}
 use Rattle.ksql_clauses.specs.Sources.{from_scope, item_scope, there}
 use Rattle.ksql_clauses.specs.Windows.{window_of}
-use Rattle.ksql_grouping.specs.Grouping.{aggregates_of, once_from}
+use Rattle.aggregate_rules.specs.Grouping.{aggregates_of, once_from}
 use Rattle.ksql_clauses.specs.Keys.{value_columns}
 use Rattle.ksql_rules.specs.Breaks.{group_exprs, is_grouped}
 use Rattle.ksql_analyse.specs.Judgement.{AreAggs, AreTreesAfter, AreTypedTrees, IsPartAfter, IsShape, agg_form, aggregate_exprs, bound_forms, exprs, grouped_columns}

@@ -2,8 +2,8 @@
 use Rattle.std.proofs.Common.{◌≡◌, ℕ, Bool, true, false, List, [], ◌∷◌, Some}
 use Rattle.std.specs.Prelude.{slice_get, codes}
 use Rattle.ksql_types.specs.Names.{is_among}
-use Rattle.ksql_names.specs.declared.scope.Scope.{Scope}
-use Rattle.ksql_names.specs.declared.scope.ScopeColumn.{ScopeColumn}
+use Rattle.ksql_scopes.specs.declared.scope.Scope.{Scope}
+use Rattle.ksql_scopes.specs.declared.scope.ScopeColumn.{ScopeColumn}
 
 abbrev pub time_names : List (List ℕ)
 time_names = codes "ROWTIME" ∷ codes "WINDOWSTART" ∷ codes "WINDOWEND" ∷ []

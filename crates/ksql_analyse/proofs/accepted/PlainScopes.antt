@@ -6,11 +6,11 @@ use Rattle.std.proofs.lemmas.List.Elements.{recursion_from_All}
 use Rattle.ksql_types.specs.Catalog.{find_named, has_name}
 use Rattle.ksql_types.specs.declared.relation.Column.{Column}
 use Rattle.ksql_types.specs.declared.relation.Relation.{Relation}
-use Rattle.ksql_statements.specs.declared.tree.Select.{Select}
-use Rattle.ksql_statements.specs.declared.tree.Source.{Source}
+use Rattle.statement_trees.specs.declared.tree.Select.{Select}
+use Rattle.statement_trees.specs.declared.tree.Source.{Source}
 use Rattle.ksql_types.specs.Names.{is_among, reserved_columns}
 use Rattle.ksql_types.specs.Columns.{columns}
-use Rattle.ksql_names.specs.declared.scope.ScopeColumn.{ScopeColumn}
+use Rattle.ksql_scopes.specs.declared.scope.ScopeColumn.{ScopeColumn}
 use Rattle.ksql_clauses.specs.declared.sources.Known.{Known}
 use Rattle.ksql_clauses.specs.Sources.{known, all_known, sources, scope_column, scope_columns, rowkey, rowkey_of, from_columns, from_scope, item_scope, is_full, alias_of, key_columns_of}
 use Rattle.ksql_rules.proofs.Within.{All-find}

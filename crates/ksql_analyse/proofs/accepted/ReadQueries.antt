@@ -3,16 +3,16 @@ use Rattle.std.proofs.Common.{◌≡◌, ◌⊎◌, ℕ, Bool, true, false, not,
 use Rattle.std.specs.List.{list_any, AllByRecursion as Each}
 use Rattle.ksql_types.specs.declared.relation.Relation.{Relation}
 use Rattle.ksql_types.specs.declared.operator.BinaryOp.TheVariants as op
-use Rattle.ksql_expressions.specs.declared.tree.Expr.{Expr}
-use Rattle.ksql_statements.specs.declared.tree.JoinText.{JoinText}
-use Rattle.ksql_statements.specs.declared.tree.Property.{Property}
-use Rattle.ksql_statements.specs.declared.tree.Select.{Select}
-use Rattle.ksql_names.specs.declared.scope.Scope.{Scope}
-use Rattle.ksql_names.specs.Functions.{is_unknown}
-use Rattle.ksql_names.specs.Uses.{calls}
+use Rattle.expression_trees.specs.declared.tree.Expr.{Expr}
+use Rattle.statement_trees.specs.declared.tree.JoinText.{JoinText}
+use Rattle.statement_trees.specs.declared.tree.Property.{Property}
+use Rattle.statement_trees.specs.declared.tree.Select.{Select}
+use Rattle.ksql_scopes.specs.declared.scope.Scope.{Scope}
+use Rattle.ksql_scopes.specs.Functions.{is_unknown}
+use Rattle.ksql_scopes.specs.Uses.{calls}
 use Rattle.ksql_typing.specs.Standing.{CanAgree}
-use Rattle.ksql_names.proofs.Equations as equation
-use Rattle.ksql_names.proofs.NameFlags.{none-of}
+use Rattle.ksql_scopes.proofs.Equations as equation
+use Rattle.ksql_scopes.proofs.NameFlags.{none-of}
 use Rattle.ksql_typing.proofs.TypeLaws as laws
 use Rattle.ksql_clauses.specs.declared.sources.Known.{Known}
 use Rattle.ksql_clauses.specs.Items.{is_join}

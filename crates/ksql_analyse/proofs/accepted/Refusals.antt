@@ -5,20 +5,20 @@ use Rattle.std.specs.List.{list_any}
 use Rattle.std.proofs.lemmas.Bool.{ltb-false}
 use Rattle.ksql_types.specs.declared.relation.Format.TheVariants.{Json}
 use Rattle.ksql_types.specs.declared.relation.Relation.{Relation}
-use Rattle.ksql_statements.specs.declared.tree.ColumnText.{ColumnText}
-use Rattle.ksql_statements.specs.declared.tree.Property.{Property}
-use Rattle.ksql_statements.specs.declared.tree.Select.{Select}
-use Rattle.ksql_statements.specs.declared.tree.Statement.{Statement}
-use Rattle.ksql_statements.specs.declared.tree.StatementBody.{StatementBody}
-use Rattle.ksql_statements.specs.declared.tree.StatementBody.TheVariants.{Declared, Query}
+use Rattle.statement_trees.specs.declared.tree.ColumnText.{ColumnText}
+use Rattle.statement_trees.specs.declared.tree.Property.{Property}
+use Rattle.statement_trees.specs.declared.tree.Select.{Select}
+use Rattle.statement_trees.specs.declared.tree.Statement.{Statement}
+use Rattle.statement_trees.specs.declared.tree.StatementBody.{StatementBody}
+use Rattle.statement_trees.specs.declared.tree.StatementBody.TheVariants.{Declared, Query}
 use Rattle.ksql_types.specs.Names.{are_column_names}
 use Rattle.ksql_clauses.specs.declared.sources.Known.{Known}
 use Rattle.ksql_clauses.specs.Items.{result_columns}
 use Rattle.ksql_clauses.specs.Properties.{are_bad, digits_in, format_in, name_of, partitions_in, topic_in}
 use Rattle.ksql_clauses.specs.Sources.{all_known, has_unknown_source, have_one_alias, is_full, is_windowed, reads_stream, joined_streams, on_exprs, front_exprs, early_exprs, late_exprs, on_scope, from_scope, item_scope}
-use Rattle.ksql_grouping.specs.Grouping.{has_aggregate, has_nested_aggregate, has_bare_column, ordered_aggregates}
+use Rattle.aggregate_rules.specs.Grouping.{has_aggregate, has_nested_aggregate, has_bare_column, ordered_aggregates}
 use Rattle.ksql_types.specs.Names.{is_among}
-use Rattle.ksql_names.specs.Uses.{has_unknown_function, has_ambiguous_name, calls}
+use Rattle.ksql_scopes.specs.Uses.{has_unknown_function, has_ambiguous_name, calls}
 use Rattle.ksql_clauses.specs.Keys.{value_columns}
 use Rattle.ksql_rules.specs.Breaks.{has_many_partitions, wants_many_partitions, has_long_name, has_large_window, is_taken, topic_of, has_bad_names, IsQueryTyped, is_primary, is_key, has_only_keys, has_bad_topic, is_delimited, result_format, is_wrong_join, lacks_key, is_not_on_key, have_other_partitions, is_bad_window, joins_itself, is_stream_join, is_grouped, group_exprs, shown_exprs, makes_table, same}
 use Rattle.ksql_rules.specs.Lowest.{IsAccepted}

@@ -4,25 +4,25 @@ use Rattle.std.specs.Prelude.{option_map}
 use Rattle.std.specs.List.{list_any, flat_map, AllByRecursion as Each}
 use Rattle.std.proofs.lemmas.List.Elements.{recursion_from_All}
 use Rattle.ksql_types.specs.declared.relation.Relation.{Relation}
-use Rattle.ksql_expressions.specs.declared.tree.Expr.{Expr}
-use Rattle.ksql_expressions.specs.declared.tree.Expr.TheVariants as e
-use Rattle.ksql_statements.specs.declared.tree.Property.{Property}
-use Rattle.ksql_statements.specs.declared.tree.Select.{Select}
-use Rattle.ksql_names.specs.declared.scope.Scope.{Scope}
+use Rattle.expression_trees.specs.declared.tree.Expr.{Expr}
+use Rattle.expression_trees.specs.declared.tree.Expr.TheVariants as e
+use Rattle.statement_trees.specs.declared.tree.Property.{Property}
+use Rattle.statement_trees.specs.declared.tree.Select.{Select}
+use Rattle.ksql_scopes.specs.declared.scope.Scope.{Scope}
 use Rattle.ksql_type_sets.specs.Decisions as decided
 use Rattle.ksql_type_sets.specs.Sets.{is_some_in}
 use Rattle.ksql_typing.specs.Standing.{HasSomeType, HasValue, CanBeTrue, CanAgree}
-use Rattle.ksql_names.specs.Uses.{IsSmall, has_unknown_function}
-use Rattle.ksql_names.specs.Functions.{is_unknown}
-use Rattle.ksql_names.proofs.Equations as equation
+use Rattle.ksql_scopes.specs.Uses.{IsSmall, has_unknown_function}
+use Rattle.ksql_scopes.specs.Functions.{is_unknown}
+use Rattle.ksql_scopes.proofs.Equations as equation
 use Rattle.ksql_typing.specs.Judged.{judged}
 use Rattle.ksql_typing.proofs.TypeLaws.{accepted, tree_type, known, some_type, value, truth, agreement}
 use Rattle.ksql_clauses.specs.declared.items.Named.{Named}
 use Rattle.ksql_clauses.specs.declared.sources.Known.{Known}
 use Rattle.ksql_clauses.specs.Items.{result_columns}
-use Rattle.ksql_names.specs.Resolved.{resolved}
+use Rattle.ksql_scopes.specs.Resolved.{resolved}
 use Rattle.ksql_clauses.specs.Sources.{from_scope, item_scope, on_scope, early_exprs, front_exprs, late_exprs, there, on_exprs}
-use Rattle.ksql_grouping.specs.Grouping.{aggregates_of}
+use Rattle.aggregate_rules.specs.Grouping.{aggregates_of}
 use Rattle.ksql_rules.specs.Breaks as rules
 use Rattle.ksql_rules.specs.Breaks.{IsQueryTyped, IfThere, group_exprs, shown_exprs}
 use Rattle.ksql_clauses.specs.Keys.{on_sides}

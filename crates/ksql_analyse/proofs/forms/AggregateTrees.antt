@@ -3,24 +3,24 @@ use Rattle.std.proofs.Common.{◌≡◌, true, false, ◌&&◌, List, [], ◌∷
 use Rattle.std.specs.Prelude.{option_map}
 use Rattle.std.specs.List.{AllByRecursion as Each}
 use Rattle.ksql_types.specs.declared.value.SqlType.TheVariants as sql
-use Rattle.ksql_expressions.specs.declared.tree.Expr.{Expr}
-use Rattle.ksql_expressions.specs.declared.tree.Expr.TheVariants as e
+use Rattle.expression_trees.specs.declared.tree.Expr.{Expr}
+use Rattle.expression_trees.specs.declared.tree.Expr.TheVariants as e
 use Rattle.ksql_expr.specs.declared.typed.AggFun.TheVariants.{CountAll}
 use Rattle.ksql_expr.specs.declared.typed.Typed.{Typed}
 use Rattle.ksql_expr.specs.declared.typed.TypedNode.TheVariants as n
 use Rattle.ksql_expr.specs.Typing.{of}
-use Rattle.ksql_names.specs.declared.scope.Scope.{Scope}
-use Rattle.ksql_names.specs.Functions.{is_aggregate, is_unknown}
-use Rattle.ksql_names.specs.Uses.{IsSmall, is_small, are_small, are_whens_small, is_small_perhaps, all_of, calls, perhaps}
-use Rattle.ksql_names.proofs.Disjoint.{no-aggregate}
+use Rattle.ksql_scopes.specs.declared.scope.Scope.{Scope}
+use Rattle.ksql_scopes.specs.Functions.{is_aggregate, is_unknown}
+use Rattle.ksql_scopes.specs.Uses.{IsSmall, is_small, are_small, are_whens_small, is_small_perhaps, all_of, calls, perhaps}
+use Rattle.ksql_scopes.proofs.Disjoint.{no-aggregate}
 use Rattle.std.proofs.lemmas.Bool.{and_parts, both_ways}
-use Rattle.ksql_names.proofs.Small as small
+use Rattle.ksql_scopes.proofs.Small as small
 use Rattle.ksql_typing.specs.Standing as st
 use Rattle.ksql_typing.specs.Standing.{Stands, Pair, IsTypedTree}
 use Rattle.ksql_typing.proofs.Known.{Known, one-known, two-known, three-known, call-known}
-use Rattle.ksql_names.proofs.Equations as q
-use Rattle.ksql_expressions.proofs.Folds.{perhaps_folded}
-use Rattle.ksql_grouping.specs.Grouping.{aggregates_of}
+use Rattle.ksql_scopes.proofs.Equations as q
+use Rattle.expression_trees.proofs.Folds.{perhaps_folded}
+use Rattle.aggregate_rules.specs.Grouping.{aggregates_of}
 use Rattle.ksql_analyse.specs.Typable.{IsAggregateNode}
 use Rattle.ksql_analyse.proofs.forms.AggregatesIn as within
 use Rattle.ksql_analyse.proofs.sound.SoundColumns.{each-append}

@@ -5,16 +5,16 @@ use Rattle.std.specs.Prelude.{option_map}
 use Rattle.std.specs.List.{AllByRecursion as Each}
 use Rattle.ksql_types.specs.declared.operator.BinaryOp.{BinaryOp}
 use Rattle.ksql_types.specs.declared.value.SqlType.{SqlType}
-use Rattle.ksql_expressions.specs.declared.tree.Expr.{Expr}
-use Rattle.ksql_expressions.specs.declared.tree.Expr.TheVariants as e
-use Rattle.ksql_expressions.specs.declared.tree.WhenText.{WhenText}
-use Rattle.ksql_names.specs.Functions.{is_aggregate}
-use Rattle.ksql_names.specs.Uses.{all_of, perhaps}
-use Rattle.ksql_names.proofs.Induction.{IfThere, InWhen, induction}
-use Rattle.ksql_expressions.specs.Parts.{any_of, any_perhaps}
-use Rattle.ksql_grouping.specs.Grouping.{aggregates_of, whole_aggregate, is_aggregate_call, has_aggregate}
-use Rattle.ksql_grouping.proofs.Calls as called
-use Rattle.ksql_grouping.proofs.Gives as given
+use Rattle.expression_trees.specs.declared.tree.Expr.{Expr}
+use Rattle.expression_trees.specs.declared.tree.Expr.TheVariants as e
+use Rattle.expression_trees.specs.declared.tree.WhenText.{WhenText}
+use Rattle.ksql_scopes.specs.Functions.{is_aggregate}
+use Rattle.ksql_scopes.specs.Uses.{all_of, perhaps}
+use Rattle.ksql_scopes.proofs.Induction.{IfThere, InWhen, induction}
+use Rattle.expression_trees.specs.Parts.{any_of, any_perhaps}
+use Rattle.aggregate_rules.specs.Grouping.{aggregates_of, whole_aggregate, is_aggregate_call, has_aggregate}
+use Rattle.aggregate_rules.proofs.Calls as called
+use Rattle.aggregate_rules.proofs.Gives as given
 use Rattle.ksql_analyse.proofs.sound.SoundColumns.{each-append}
 use Rattle.ksql_analyse.proofs.forms.Bearing.{some, some-append}
 

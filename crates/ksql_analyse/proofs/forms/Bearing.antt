@@ -7,8 +7,8 @@ use Rattle.ksql_types.specs.declared.value.SqlType.{SqlType}
 use Rattle.ksql_types.specs.declared.value.SqlType.TheVariants as sql
 use Rattle.ksql_types.specs.declared.value.Value.{Value}
 use Rattle.ksql_types.specs.declared.value.Value.TheVariants as value
-use Rattle.ksql_expressions.specs.declared.tree.Expr.{Expr}
-use Rattle.ksql_expressions.specs.declared.tree.Expr.TheVariants as e
+use Rattle.expression_trees.specs.declared.tree.Expr.{Expr}
+use Rattle.expression_trees.specs.declared.tree.Expr.TheVariants as e
 use Rattle.ksql_expr.specs.declared.typed.AggFun.{AggFun}
 use Rattle.ksql_expr.specs.declared.typed.AggFun.TheVariants.{CountAll, Count}
 use Rattle.ksql_expr.specs.declared.typed.Typed.{Typed}
@@ -17,18 +17,18 @@ use Rattle.ksql_expr.specs.declared.typed.TypedNode.TheVariants as n
 use Rattle.ksql_expr.specs.declared.typed.TypedNode.TheOpen.{TypedNode-F}
 use Rattle.ksql_expr.specs.Aggregates.{holds, is_aggregate as is_aggregate_node, is_long_text, is_column, holds_aggregate, holds_long_text, holds_column, HoldsNoAggregate, HoldsShortTexts, HoldsColumn}
 use Rattle.ksql_expr.specs.Typing.{of}
-use Rattle.ksql_names.specs.declared.scope.Scope.{Scope}
-use Rattle.ksql_names.specs.Functions.{is_aggregate, is_unknown}
-use Rattle.ksql_names.specs.Scope.{meanings}
-use Rattle.ksql_names.specs.Uses.{Use, names, calls, is_small, IsSmall, are_small, are_whens_small, is_small_perhaps, all_of, in_aggregate, small_step}
-use Rattle.ksql_names.specs.Uses as uses
-use Rattle.ksql_names.proofs.Disjoint.{no-aggregate}
-use Rattle.ksql_names.proofs.Disjoint as disjoint
-use Rattle.ksql_names.proofs.Equations as q
-use Rattle.ksql_expressions.proofs.Folds as folds
-use Rattle.ksql_expressions.proofs.Folds.{perhaps_folded}
+use Rattle.ksql_scopes.specs.declared.scope.Scope.{Scope}
+use Rattle.ksql_scopes.specs.Functions.{is_aggregate, is_unknown}
+use Rattle.ksql_scopes.specs.Scope.{meanings}
+use Rattle.ksql_scopes.specs.Uses.{Use, names, calls, is_small, IsSmall, are_small, are_whens_small, is_small_perhaps, all_of, in_aggregate, small_step}
+use Rattle.ksql_scopes.specs.Uses as uses
+use Rattle.ksql_scopes.proofs.Disjoint.{no-aggregate}
+use Rattle.ksql_scopes.proofs.Disjoint as disjoint
+use Rattle.ksql_scopes.proofs.Equations as q
+use Rattle.expression_trees.proofs.Folds as folds
+use Rattle.expression_trees.proofs.Folds.{perhaps_folded}
 use Rattle.std.proofs.lemmas.Bool.{and_from, and_parts}
-use Rattle.ksql_names.proofs.Small as small
+use Rattle.ksql_scopes.proofs.Small as small
 use Rattle.ksql_typing.specs.Standing as st
 use Rattle.ksql_typing.specs.Standing.{Pair, Stands, IsTypedTree, digits_type, digits_value, one, perhaps, each, whens}
 use Rattle.ksql_typing.proofs.Known.{Known, one-known, two-known, three-known, call-known}

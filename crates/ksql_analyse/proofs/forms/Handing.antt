@@ -4,22 +4,22 @@ use Rattle.std.specs.Prelude.{option_map}
 use Rattle.std.specs.List.{list_any, AllByRecursion as Each}
 use Rattle.ksql_types.specs.declared.operator.BinaryOp.{BinaryOp}
 use Rattle.ksql_types.specs.declared.value.SqlType.{SqlType}
-use Rattle.ksql_expressions.specs.declared.tree.Expr.{Expr}
-use Rattle.ksql_expressions.specs.declared.tree.Expr.TheVariants as e
-use Rattle.ksql_expressions.specs.declared.tree.WhenText.{WhenText}
-use Rattle.ksql_names.specs.declared.scope.Scope.{Scope}
-use Rattle.ksql_names.specs.Functions.{is_aggregate}
-use Rattle.ksql_names.specs.Uses.{IsSmall, is_small, are_small, are_whens_small, is_small_perhaps}
+use Rattle.expression_trees.specs.declared.tree.Expr.{Expr}
+use Rattle.expression_trees.specs.declared.tree.Expr.TheVariants as e
+use Rattle.expression_trees.specs.declared.tree.WhenText.{WhenText}
+use Rattle.ksql_scopes.specs.declared.scope.Scope.{Scope}
+use Rattle.ksql_scopes.specs.Functions.{is_aggregate}
+use Rattle.ksql_scopes.specs.Uses.{IsSmall, is_small, are_small, are_whens_small, is_small_perhaps}
 use Rattle.std.proofs.lemmas.Bool.{and_parts}
-use Rattle.ksql_names.proofs.Small as small
-use Rattle.ksql_names.proofs.Induction.{IfThere, InWhen, induction}
-use Rattle.ksql_names.specs.Resolved.{resolved, resolved_when}
-use Rattle.ksql_names.proofs.Resolving as r
-use Rattle.ksql_expressions.specs.Parts.{any_of, any_perhaps}
-use Rattle.ksql_grouping.specs.Grouping.{has_aggregate, has_nested_aggregate, holds_inner}
-use Rattle.ksql_grouping.proofs.Calls as called
-use Rattle.ksql_grouping.proofs.Calls.{calls_one}
-use Rattle.ksql_expressions.proofs.Passing as passed
+use Rattle.ksql_scopes.proofs.Small as small
+use Rattle.ksql_scopes.proofs.Induction.{IfThere, InWhen, induction}
+use Rattle.ksql_scopes.specs.Resolved.{resolved, resolved_when}
+use Rattle.ksql_scopes.proofs.Resolving as r
+use Rattle.expression_trees.specs.Parts.{any_of, any_perhaps}
+use Rattle.aggregate_rules.specs.Grouping.{has_aggregate, has_nested_aggregate, holds_inner}
+use Rattle.aggregate_rules.proofs.Calls as called
+use Rattle.aggregate_rules.proofs.Calls.{calls_one}
+use Rattle.expression_trees.proofs.Passing as passed
 use Rattle.ksql_analyse.proofs.forms.AggregatesIn.{Inherits}
 use Rattle.ksql_analyse.proofs.forms.Resolution.{resolved-name, calls-resolved}
 use Rattle.ksql_analyse.proofs.lists.Distinct.{or-false}

@@ -7,25 +7,25 @@ use Rattle.std.proofs.lemmas.Slice.Eq.{bytes_eq-Decides}
 use Rattle.ksql_types.specs.declared.operator.BinaryOp.TheVariants as op
 use Rattle.ksql_types.specs.declared.relation.Column.{Column}
 use Rattle.ksql_types.specs.declared.value.SqlType.{SqlType}
-use Rattle.ksql_expressions.specs.declared.tree.Expr.{Expr, out-Expr, roll-Expr, roll-out-Expr}
-use Rattle.ksql_expressions.specs.declared.tree.Expr.TheVariants as e
-use Rattle.ksql_expressions.specs.declared.tree.Expr.TheOpen.{Expr-F}
-use Rattle.ksql_expressions.specs.declared.tree.WhenText.{WhenText}
+use Rattle.expression_trees.specs.declared.tree.Expr.{Expr, out-Expr, roll-Expr, roll-out-Expr}
+use Rattle.expression_trees.specs.declared.tree.Expr.TheVariants as e
+use Rattle.expression_trees.specs.declared.tree.Expr.TheOpen.{Expr-F}
+use Rattle.expression_trees.specs.declared.tree.WhenText.{WhenText}
 use Rattle.ksql_expr.specs.declared.typed.Typed.{Typed}
 use Rattle.ksql_expr.specs.declared.typed.TypedNode.TheVariants as n
 use Rattle.ksql_expr.specs.Typing.{of}
-use Rattle.ksql_names.specs.declared.scope.Scope.{Scope}
-use Rattle.ksql_names.specs.declared.scope.ScopeColumn.{ScopeColumn}
-use Rattle.ksql_names.specs.Scope.{is_known_as, is_qualified}
+use Rattle.ksql_scopes.specs.declared.scope.Scope.{Scope}
+use Rattle.ksql_scopes.specs.declared.scope.ScopeColumn.{ScopeColumn}
+use Rattle.ksql_scopes.specs.Scope.{is_known_as, is_qualified}
 use Rattle.std.proofs.lemmas.Bool.{and_parts, and_from}
 use Rattle.ksql_typing.specs.Standing as st
 use Rattle.ksql_typing.specs.Standing.{Stands, HasType}
 use Rattle.ksql_clauses.specs.declared.sources.Known.{Known}
-use Rattle.ksql_names.specs.Resolved.{resolved, full_name, written_for, is_row_time}
+use Rattle.ksql_scopes.specs.Resolved.{resolved, full_name, written_for, is_row_time}
 use Rattle.ksql_clauses.specs.Sources.{scope_column}
-use Rattle.ksql_names.proofs.Resolving as r
+use Rattle.ksql_scopes.proofs.Resolving as r
 use Rattle.ksql_clauses.specs.Keys.{on_sides, equated_sides, is_only_key, is_left_side, are_sides, key_sides}
-use Rattle.ksql_expressions.proofs.Equality.{equal}
+use Rattle.expression_trees.proofs.Equality.{equal}
 use Rattle.ksql_analyse.proofs.forms.Meant.{meant-known}
 use Rattle.ksql_analyse.proofs.forms.Resolution.{IsName}
 use Rattle.ksql_analyse.proofs.sound.SoundColumns.{name-or-not}

@@ -4,19 +4,19 @@ use Rattle.std.specs.Prelude.{option_map, slice_get, codes, bytes_eq, filter}
 use Rattle.std.specs.Cmp.Lexicographic.{bytes_decides, nat_list_eq_equiv}
 use Rattle.ksql_types.specs.declared.value.SqlType.{SqlType}
 use Rattle.ksql_types.specs.declared.value.SqlType.TheVariants as sql
-use Rattle.ksql_expressions.specs.declared.tree.Expr.{Expr}
-use Rattle.ksql_expressions.specs.declared.tree.Expr.TheVariants as e
+use Rattle.expression_trees.specs.declared.tree.Expr.{Expr}
+use Rattle.expression_trees.specs.declared.tree.Expr.TheVariants as e
 use Rattle.ksql_expr.specs.declared.typed.Typed.{Typed}
 use Rattle.ksql_expr.specs.declared.typed.TypedNode.TheVariants as n
 use Rattle.ksql_expr.specs.Typing.{of}
 use Rattle.ksql_types.specs.Names.{is_among}
-use Rattle.ksql_names.specs.declared.scope.Scope.{Scope}
-use Rattle.ksql_names.specs.declared.scope.ScopeColumn.{ScopeColumn}
-use Rattle.ksql_names.specs.Scope.{Meaning, is_qualified, is_known_as, columns_known_as, first_alias, row_time, window_bounds, meanings, seen, inside}
+use Rattle.ksql_scopes.specs.declared.scope.Scope.{Scope}
+use Rattle.ksql_scopes.specs.declared.scope.ScopeColumn.{ScopeColumn}
+use Rattle.ksql_scopes.specs.Scope.{Meaning, is_qualified, is_known_as, columns_known_as, first_alias, row_time, window_bounds, meanings, seen, inside}
 use Rattle.ksql_typing.specs.Standing as h
 use Rattle.ksql_typing.specs.Standing.{Stands, Pair, one, perhaps, each, whens, HasType}
-use Rattle.ksql_names.specs.Resolved.{resolved, resolved_when, full_name, written_for, is_row_time}
-use Rattle.ksql_names.proofs.Resolving as form
+use Rattle.ksql_scopes.specs.Resolved.{resolved, resolved_when, full_name, written_for, is_row_time}
+use Rattle.ksql_scopes.proofs.Resolving as form
 use Rattle.std.proofs.lemmas.Bool.{and_parts}
 use Rattle.ksql_analyse.proofs.accepted.PlainColumns.{time_names, HasPlainColumns, never}
 use Rattle.ksql_analyse.proofs.lists.EqualLists.{heads, tails}

@@ -4,11 +4,11 @@ use Rattle.std.specs.Prelude.{slice_get}
 use Rattle.std.specs.List.{list_any, flat_map, AllByRecursion as Each}
 use Rattle.std.proofs.lemmas.List.Folds.{list_any-append}
 use Rattle.std.proofs.lemmas.Option.{same_Some}
-use Rattle.ksql_expressions.specs.declared.tree.Expr.{Expr}
-use Rattle.ksql_grouping.specs.Grouping.{add_once, once_from, place_from}
-use Rattle.ksql_expressions.specs.Same.{same_expr}
+use Rattle.expression_trees.specs.declared.tree.Expr.{Expr}
+use Rattle.aggregate_rules.specs.Grouping.{add_once, once_from, place_from}
+use Rattle.expression_trees.specs.Same.{same_expr}
 use Rattle.std.proofs.lemmas.Bool.{or_left, or_right}
-use Rattle.ksql_expressions.proofs.Equality.{equal, same}
+use Rattle.expression_trees.proofs.Equality.{equal, same}
 use Rattle.ksql_analyse.proofs.sound.SoundTrees.{each-front, each-behind}
 use Rattle.ksql_analyse.proofs.forms.Bearing.{some}
 

@@ -9,28 +9,28 @@ use Rattle.std.proofs.lemmas.Slice.Eq.{bytes_eq-Decides}
 use Rattle.ksql_types.specs.declared.value.SqlType.{SqlType}
 use Rattle.ksql_types.specs.declared.value.SqlType.TheVariants as sql
 use Rattle.ksql_types.specs.Names.{is_among, reserved_columns}
-use Rattle.ksql_expressions.specs.declared.tree.Expr.{Expr}
-use Rattle.ksql_expressions.specs.declared.tree.Expr.TheVariants as e
-use Rattle.ksql_statements.specs.declared.tree.Select.{Select}
+use Rattle.expression_trees.specs.declared.tree.Expr.{Expr}
+use Rattle.expression_trees.specs.declared.tree.Expr.TheVariants as e
+use Rattle.statement_trees.specs.declared.tree.Select.{Select}
 use Rattle.ksql_expr.specs.declared.typed.Typed.{Typed}
 use Rattle.ksql_expr.specs.declared.typed.TypedNode.{TypedNode}
 use Rattle.ksql_expr.specs.declared.typed.TypedNode.TheVariants as n
 use Rattle.ksql_expr.specs.Typing as w
 use Rattle.ksql_expr.specs.Typing.{HasTypes, of}
 use Rattle.ksql_program.specs.declared.query.Agg.{Agg}
-use Rattle.ksql_names.specs.declared.scope.Scope.{Scope}
-use Rattle.ksql_names.specs.declared.scope.ScopeColumn.{ScopeColumn}
-use Rattle.ksql_names.specs.Scope.{Meaning, column_types}
+use Rattle.ksql_scopes.specs.declared.scope.Scope.{Scope}
+use Rattle.ksql_scopes.specs.declared.scope.ScopeColumn.{ScopeColumn}
+use Rattle.ksql_scopes.specs.Scope.{Meaning, column_types}
 use Rattle.ksql_typing.specs.Standing.{IsTypedTree}
 use Rattle.ksql_typing.proofs.OneTyping.{checked, one-tree}
-use Rattle.ksql_grouping.specs.Grouping as exprs
-use Rattle.ksql_grouping.specs.Grouping.{is_window_bound}
+use Rattle.aggregate_rules.specs.Grouping as exprs
+use Rattle.aggregate_rules.specs.Grouping.{is_window_bound}
 use Rattle.ksql_clauses.specs.declared.sources.Known.{Known}
 use Rattle.ksql_clauses.specs.Sources.{from_scope, item_scope, from_columns}
 use Rattle.ksql_rules.specs.Breaks.{group_exprs}
-use Rattle.ksql_trees.specs.Grouped.{place_from, place_among}
-use Rattle.ksql_trees.specs.Same.{same_form}
-use Rattle.ksql_trees.proofs.Equality.{equal, same}
+use Rattle.grouped_expressions.specs.Grouped.{place_from, place_among}
+use Rattle.grouped_expressions.specs.Same.{same_form}
+use Rattle.grouped_expressions.proofs.Equality.{equal, same}
 use Rattle.ksql_analyse.specs.Judgement.{AreTypedTrees, AreAggs, agg_form, aggregate_exprs, bound_forms, grouped_columns}
 use Rattle.ksql_analyse.proofs.lists.Appended.{behind-at, front-at}
 use Rattle.ksql_analyse.proofs.forms.Meant.{IsMeant, meant}

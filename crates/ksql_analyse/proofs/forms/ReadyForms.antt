@@ -5,15 +5,15 @@ use Rattle.std.specs.List.{list_all}
 use Rattle.std.proofs.lemmas.List.Folds.{list_all-append}
 use Rattle.ksql_types.specs.declared.operator.BinaryOp.{BinaryOp}
 use Rattle.ksql_types.specs.declared.value.SqlType.{SqlType}
-use Rattle.ksql_expressions.specs.declared.tree.Expr.{Expr}
-use Rattle.ksql_expressions.specs.declared.tree.Expr.TheVariants as e
-use Rattle.ksql_expressions.specs.declared.tree.WhenText.{WhenText}
+use Rattle.expression_trees.specs.declared.tree.Expr.{Expr}
+use Rattle.expression_trees.specs.declared.tree.Expr.TheVariants as e
+use Rattle.expression_trees.specs.declared.tree.WhenText.{WhenText}
 use Rattle.std.proofs.lemmas.Bool.{and_parts}
-use Rattle.ksql_names.specs.Functions.{is_aggregate}
-use Rattle.ksql_names.specs.Uses.{all_of, perhaps}
-use Rattle.ksql_expressions.specs.Parts.{passes, any_of, any_perhaps}
-use Rattle.ksql_grouping.specs.Grouping.{aggregates_of, place_among, is_bare, is_window_bound}
-use Rattle.ksql_expressions.proofs.Passing.{passes-decided, passes-Sign, passes-Binary, passes-Not, passes-IsNull, passes-Between, passes-OneOf, passes-Like, passes-Cast, passes-Case, passes-Call}
+use Rattle.ksql_scopes.specs.Functions.{is_aggregate}
+use Rattle.ksql_scopes.specs.Uses.{all_of, perhaps}
+use Rattle.expression_trees.specs.Parts.{passes, any_of, any_perhaps}
+use Rattle.aggregate_rules.specs.Grouping.{aggregates_of, place_among, is_bare, is_window_bound}
+use Rattle.expression_trees.proofs.Passing.{passes-decided, passes-Sign, passes-Binary, passes-Not, passes-IsNull, passes-Between, passes-OneOf, passes-Like, passes-Cast, passes-Case, passes-Call}
 use Rattle.ksql_analyse.proofs.forms.AggregatesIn as within
 use Rattle.ksql_analyse.proofs.lists.Distinct.{or-false}
 

@@ -8,7 +8,7 @@ use Rattle.ksql_types.specs.declared.relation.Relation.{Relation}
 use Rattle.ksql_types.specs.Names.{is_among, are_distinct, reserved_columns}
 use Rattle.ksql_types.specs.Columns.{columns}
 use Rattle.ksql_program.specs.Sound.{IsSoundRelation}
-use Rattle.ksql_statements.specs.declared.tree.Select.{Select}
+use Rattle.statement_trees.specs.declared.tree.Select.{Select}
 use Rattle.std.proofs.lemmas.Bool.{and_parts}
 use Rattle.ksql_clauses.specs.declared.sources.Known.{Known}
 use Rattle.ksql_clauses.specs.Sources.{from_columns, key_columns_of, scope_column, scope_columns, rowkey, rowkey_of, is_full}

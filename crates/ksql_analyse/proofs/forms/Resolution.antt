@@ -2,19 +2,19 @@
 use Rattle.std.proofs.Common.{◌≡◌, ℕ, Bool, true, false, ◌&&◌, if◌then◌else◌, List, [], ◌∷◌, map, Option, Some, None, refl, ap, ap₂, sym, ◌∙◌}
 use Rattle.std.specs.Prelude.{option_map, filter}
 use Rattle.std.specs.List.{AllByRecursion as Each}
-use Rattle.ksql_expressions.specs.declared.tree.Expr.{Expr}
-use Rattle.ksql_expressions.specs.declared.tree.Expr.TheVariants as e
-use Rattle.ksql_expressions.specs.declared.tree.Expr.TheOpen.{Expr-F, WhenText-F}
-use Rattle.ksql_expressions.specs.declared.tree.WhenText.{WhenText}
-use Rattle.ksql_names.specs.declared.scope.Scope.{Scope}
-use Rattle.ksql_names.specs.declared.scope.ScopeColumn.{ScopeColumn}
-use Rattle.ksql_names.specs.Scope.{is_known_as}
-use Rattle.ksql_names.specs.Uses.{calls, calls_step, of_when, is_small, small_step}
-use Rattle.ksql_names.specs.Resolved.{resolved, resolved_when, written_for, is_row_time}
-use Rattle.ksql_names.proofs.Resolving as r
-use Rattle.ksql_expressions.proofs.Folds as f
-use Rattle.ksql_expressions.proofs.Folds.{perhaps_folded}
-use Rattle.ksql_names.proofs.Induction.{IfThere, InWhen, induction}
+use Rattle.expression_trees.specs.declared.tree.Expr.{Expr}
+use Rattle.expression_trees.specs.declared.tree.Expr.TheVariants as e
+use Rattle.expression_trees.specs.declared.tree.Expr.TheOpen.{Expr-F, WhenText-F}
+use Rattle.expression_trees.specs.declared.tree.WhenText.{WhenText}
+use Rattle.ksql_scopes.specs.declared.scope.Scope.{Scope}
+use Rattle.ksql_scopes.specs.declared.scope.ScopeColumn.{ScopeColumn}
+use Rattle.ksql_scopes.specs.Scope.{is_known_as}
+use Rattle.ksql_scopes.specs.Uses.{calls, calls_step, of_when, is_small, small_step}
+use Rattle.ksql_scopes.specs.Resolved.{resolved, resolved_when, written_for, is_row_time}
+use Rattle.ksql_scopes.proofs.Resolving as r
+use Rattle.expression_trees.proofs.Folds as f
+use Rattle.expression_trees.proofs.Folds.{perhaps_folded}
+use Rattle.ksql_scopes.proofs.Induction.{IfThere, InWhen, induction}
 
 -- ---- a name stays a name
 

@@ -8,16 +8,16 @@ use Rattle.ksql_types.specs.declared.value.SqlType.{SqlType}
 use Rattle.ksql_types.specs.declared.value.SqlType.TheVariants as sql
 use Rattle.ksql_expr.specs.declared.typed.Typed.{Typed}
 use Rattle.ksql_expr.specs.declared.typed.TypedNode.TheVariants as n
-use Rattle.ksql_expressions.specs.declared.tree.Expr.{Expr}
-use Rattle.ksql_expressions.specs.declared.tree.Expr.TheVariants as e
-use Rattle.ksql_names.specs.declared.scope.Scope.{Scope}
-use Rattle.ksql_names.specs.declared.scope.ScopeColumn.{ScopeColumn}
-use Rattle.ksql_names.specs.Scope.{Meaning, meanings, inside, seen, columns_known_as, is_known_as, is_qualified, first_alias, row_time, window_bounds}
+use Rattle.expression_trees.specs.declared.tree.Expr.{Expr}
+use Rattle.expression_trees.specs.declared.tree.Expr.TheVariants as e
+use Rattle.ksql_scopes.specs.declared.scope.Scope.{Scope}
+use Rattle.ksql_scopes.specs.declared.scope.ScopeColumn.{ScopeColumn}
+use Rattle.ksql_scopes.specs.Scope.{Meaning, meanings, inside, seen, columns_known_as, is_known_as, is_qualified, first_alias, row_time, window_bounds}
 use Rattle.std.proofs.lemmas.Bool.{and_parts}
 use Rattle.ksql_typing.specs.Standing as h
 use Rattle.ksql_typing.specs.Standing.{Stands, HasType, Pair, one, perhaps, each, whens}
-use Rattle.ksql_names.specs.Resolved.{resolved, resolved_when, full_name, written_for, is_row_time}
-use Rattle.ksql_names.proofs.Resolving as r
+use Rattle.ksql_scopes.specs.Resolved.{resolved, resolved_when, full_name, written_for, is_row_time}
+use Rattle.ksql_scopes.proofs.Resolving as r
 use Rattle.ksql_analyse.proofs.forms.KeySides.{first-passes}
 
 -- a name written in full stands for what the name stands for

@@ -7,22 +7,22 @@ use Rattle.ksql_types.specs.declared.relation.Kind.TheVariants as kind
 use Rattle.ksql_types.specs.declared.value.SqlType.{SqlType}
 use Rattle.ksql_types.specs.declared.value.SqlType.TheVariants as sql
 use Rattle.ksql_types.specs.declared.value.Value.TheVariants as value
-use Rattle.ksql_expressions.specs.declared.tree.Expr.{Expr}
+use Rattle.expression_trees.specs.declared.tree.Expr.{Expr}
 use Rattle.ksql_expr.specs.declared.typed.AggFun.TheVariants.{CountAll}
 use Rattle.ksql_expr.specs.declared.typed.Typed.{Typed}
 use Rattle.ksql_expr.specs.declared.typed.TypedNode.{TypedNode}
 use Rattle.ksql_expr.specs.Aggregates.{holds, is_row_time, holds_row_time, IsTimeless}
 use Rattle.ksql_expr.specs.Typing.{of}
-use Rattle.ksql_names.specs.declared.scope.Scope.{Scope}
-use Rattle.ksql_names.specs.Functions.{is_unknown}
-use Rattle.ksql_names.specs.Scope.{row_time}
-use Rattle.ksql_names.specs.Uses.{calls, all_of}
-use Rattle.ksql_names.specs.Uses as uses
-use Rattle.ksql_names.proofs.Equations as q
+use Rattle.ksql_scopes.specs.declared.scope.Scope.{Scope}
+use Rattle.ksql_scopes.specs.Functions.{is_unknown}
+use Rattle.ksql_scopes.specs.Scope.{row_time}
+use Rattle.ksql_scopes.specs.Uses.{calls, all_of}
+use Rattle.ksql_scopes.specs.Uses as uses
+use Rattle.ksql_scopes.proofs.Equations as q
 use Rattle.ksql_typing.specs.Standing as st
 use Rattle.ksql_typing.specs.Standing.{Pair, Stands, IsTypedTree, digits_type, digits_value, one, perhaps, each, whens}
 use Rattle.ksql_typing.proofs.Known.{Known, one-known, two-known, three-known, call-known}
-use Rattle.ksql_expressions.proofs.Folds.{perhaps_folded}
+use Rattle.expression_trees.proofs.Folds.{perhaps_folded}
 use Rattle.ksql_analyse.proofs.forms.Holding as hold
 use Rattle.ksql_analyse.proofs.forms.Holding.{each_holds, whens_hold, part_holds}
 use Rattle.ksql_analyse.proofs.forms.Meant.{IsMeant, meant}

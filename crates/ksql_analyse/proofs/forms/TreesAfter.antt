@@ -4,8 +4,8 @@ use Rattle.std.specs.Prelude.{option_map, slice_get}
 use Rattle.ksql_types.specs.declared.value.SqlType.{SqlType}
 use Rattle.ksql_types.specs.declared.value.SqlType.TheVariants as sql
 use Rattle.ksql_types.specs.declared.value.Value.TheVariants as value
-use Rattle.ksql_expressions.specs.declared.tree.Expr.{Expr}
-use Rattle.ksql_expressions.specs.declared.tree.Expr.TheVariants as e
+use Rattle.expression_trees.specs.declared.tree.Expr.{Expr}
+use Rattle.expression_trees.specs.declared.tree.Expr.TheVariants as e
 use Rattle.ksql_expr.specs.declared.typed.AggFun.TheVariants.{CountAll}
 use Rattle.ksql_expr.specs.declared.typed.Typed.{Typed}
 use Rattle.ksql_expr.specs.declared.typed.TypedNode.{TypedNode}
@@ -16,25 +16,25 @@ use Rattle.ksql_expr.specs.Aggregates.{holds}
 use Rattle.ksql_expr.specs.Rules.{fits, binary_type, sign_type, can_cast, fun_type, case_type, is_between_typed, is_in_typed}
 use Rattle.ksql_expr.specs.Typing as w
 use Rattle.ksql_expr.specs.Typing.{HasTypes, of, types}
-use Rattle.ksql_names.specs.declared.scope.Scope.{Scope}
-use Rattle.ksql_names.specs.Functions.{is_aggregate, is_unknown}
-use Rattle.ksql_names.specs.Scope.{column_types}
-use Rattle.ksql_names.specs.Uses.{IsSmall, is_small, are_small, are_whens_small, is_small_perhaps, all_of, calls, perhaps}
-use Rattle.ksql_names.proofs.Disjoint.{no-aggregate}
+use Rattle.ksql_scopes.specs.declared.scope.Scope.{Scope}
+use Rattle.ksql_scopes.specs.Functions.{is_aggregate, is_unknown}
+use Rattle.ksql_scopes.specs.Scope.{column_types}
+use Rattle.ksql_scopes.specs.Uses.{IsSmall, is_small, are_small, are_whens_small, is_small_perhaps, all_of, calls, perhaps}
+use Rattle.ksql_scopes.proofs.Disjoint.{no-aggregate}
 use Rattle.std.proofs.lemmas.Bool.{and_parts, both_ways}
-use Rattle.ksql_names.proofs.Small as small
+use Rattle.ksql_scopes.proofs.Small as small
 use Rattle.ksql_typing.specs.Made.{typed_when}
 use Rattle.ksql_typing.specs.Standing as st
 use Rattle.ksql_typing.specs.Standing.{Stands, Pair, IsTypedTree, digits_type, digits_value, type_of_case, with_otherwise}
 use Rattle.ksql_typing.proofs.Known.{AreKnown, Known, one-known, two-known, three-known, call-known}
 use Rattle.ksql_typing.proofs.Making.{case-typed, digits-tree}
 use Rattle.ksql_typing.proofs.OneTyping.{checked}
-use Rattle.ksql_names.proofs.Equations as q
-use Rattle.ksql_expressions.proofs.Folds.{perhaps_folded}
-use Rattle.ksql_grouping.specs.Grouping.{place_among, is_window_bound}
-use Rattle.ksql_trees.specs.Grouped as trees
-use Rattle.ksql_trees.specs.Grouped.{after, node_after, when_after}
-use Rattle.ksql_trees.proofs.Becoming as becoming
+use Rattle.ksql_scopes.proofs.Equations as q
+use Rattle.expression_trees.proofs.Folds.{perhaps_folded}
+use Rattle.aggregate_rules.specs.Grouping.{place_among, is_window_bound}
+use Rattle.grouped_expressions.specs.Grouped as trees
+use Rattle.grouped_expressions.specs.Grouped.{after, node_after, when_after}
+use Rattle.grouped_expressions.proofs.Becoming as becoming
 use Rattle.ksql_analyse.proofs.lists.Distinct.{false-or}
 use Rattle.ksql_analyse.proofs.forms.Holding as hold
 use Rattle.ksql_analyse.proofs.forms.Holding.{each_holds, whens_hold, part_holds}

@@ -3,11 +3,11 @@ use Rattle.std.proofs.Common.{◌≡◌, ◌∙◌, suc, List, [], ◌∷◌, Al
 use Rattle.std.proofs.lemmas.List.{length-map}
 use Rattle.std.proofs.lemmas.List.Elements.{All-nil, All-cons, All-head, All-tail, All-map, All-weaker, All-from_recursion, recursion_from_All}
 use denote.Bor.{Bor}
-use Rattle.ksql_expressions.specs.declared.tree.Expr.{Expr}
-use Rattle.ksql_statements.specs.declared.tree.Select.{Select}
+use Rattle.expression_trees.specs.declared.tree.Expr.{Expr}
+use Rattle.statement_trees.specs.declared.tree.Select.{Select}
 use Rattle.ksql_expr.specs.declared.typed.Typed.{Typed}
 use Rattle.ksql_expr.specs.declared.typed.TypedNode.{TypedNode}
-use Rattle.ksql_names.specs.declared.scope.Scope.{Scope}
+use Rattle.ksql_scopes.specs.declared.scope.Scope.{Scope}
 use Rattle.ksql_typing.specs.Standing.{IsTypedTree}
 use Rattle.ksql_typing.proofs.OneTyping.{one-tree}
 use Rattle.ksql_clauses.specs.declared.items.Named.{Named}
@@ -16,7 +16,7 @@ use Rattle.ksql_clauses.specs.Items.{result_columns}
 use Rattle.ksql_clauses.specs.Keys.{key_columns, value_columns}
 use Rattle.ksql_clauses.specs.Keys.{key_places}
 use Rattle.ksql_rules.proofs.Within.{All-unmap}
-use Rattle.ksql_trees.specs.Grouped.{after}
+use Rattle.grouped_expressions.specs.Grouped.{after}
 use Rattle.ksql_analyse.specs.Judgement.{AreTypedTrees, exprs}
 use Rattle.ksql_analyse.specs.Typable.{AreColumnTrees, IsValue, IsValued}
 use Rattle.ksql_analyse.proofs.sound.SoundColumns.{besides-each, places-each}

@@ -2,12 +2,12 @@
 -- of the expression without them.
 use Rattle.std.proofs.Common.{◌≡◌, Bool, false, List, [], ◌∷◌, ◌++◌, Option, Some, None, sym, ◌∙◌}
 use Rattle.ksql_types.specs.declared.value.SqlType.{SqlType}
-use Rattle.ksql_expressions.specs.declared.tree.Expr.{Expr}
+use Rattle.expression_trees.specs.declared.tree.Expr.{Expr}
 use Rattle.ksql_expr.specs.declared.typed.Typed.{Typed}
 use Rattle.ksql_expr.specs.Typing as w
 use Rattle.ksql_expr.specs.Typing.{HasTypes, Part}
-use Rattle.ksql_names.specs.declared.scope.Scope.{Scope}
-use Rattle.ksql_names.specs.Scope.{Meaning, meanings, columns_known_as, row_time, window_bounds, seen, inside}
+use Rattle.ksql_scopes.specs.declared.scope.Scope.{Scope}
+use Rattle.ksql_scopes.specs.Scope.{Meaning, meanings, columns_known_as, row_time, window_bounds, seen, inside}
 use Rattle.ksql_typing.specs.Standing.{IsTypedTree}
 use Rattle.ksql_analyse.proofs.lists.Appended.{front-at}
 use Rattle.ksql_typing.proofs.Across.{Agree, agree-itself, one-across}

@@ -8,22 +8,22 @@ use Rattle.std.proofs.lemmas.List.Elements.{All-from_recursion}
 use Rattle.ksql_types.specs.declared.operator.BinaryOp.{BinaryOp}
 use Rattle.ksql_lexer.specs.declared.token.TokenKind.{TokenKind}
 use Rattle.ksql_grammar.specs.declared.symbol.Symbol.{Symbol}
-use Rattle.ksql_expressions.specs.declared.tree.Expr.{Expr}
-use Rattle.ksql_expressions.specs.declared.tree.Expr.TheVariants as e
-use Rattle.ksql_statements.specs.declared.tree.Statement.{Statement}
-use Rattle.ksql_statements.specs.declared.tree.StatementBody.{StatementBody}
-use Rattle.ksql_statements.specs.declared.tree.StatementBody.TheVariants.{Declared, Query}
-use Rattle.ksql_expressions.specs.declared.tree.WhenText.{WhenText}
+use Rattle.expression_trees.specs.declared.tree.Expr.{Expr}
+use Rattle.expression_trees.specs.declared.tree.Expr.TheVariants as e
+use Rattle.statement_trees.specs.declared.tree.Statement.{Statement}
+use Rattle.statement_trees.specs.declared.tree.StatementBody.{StatementBody}
+use Rattle.statement_trees.specs.declared.tree.StatementBody.TheVariants.{Declared, Query}
+use Rattle.expression_trees.specs.declared.tree.WhenText.{WhenText}
 use Rattle.ksql_grammar.specs.Grammar.{Phrase as PhraseExpr, Spells as SpellsExpr}
 use Rattle.ksql_grammar.specs.Grammar as ge
 use Rattle.ksql_parser.specs.Grammar as g
 use Rattle.ksql_parser.specs.Grammar.{Spells, Phrase}
 use Rattle.ksql_grammar.specs.Symbols.{symbol_of}
 use Rattle.ksql_parser.specs.Script.{AreTrees, IsTreeOf}
-use Rattle.ksql_names.specs.Uses.{calls, all_of, perhaps}
-use Rattle.ksql_names.proofs.Equations as equation
-use Rattle.ksql_names.proofs.Equations.{calls_when, calls-when}
-use Rattle.ksql_expressions.proofs.Folds.{perhaps_folded}
+use Rattle.ksql_scopes.specs.Uses.{calls, all_of, perhaps}
+use Rattle.ksql_scopes.proofs.Equations as equation
+use Rattle.ksql_scopes.proofs.Equations.{calls_when, calls-when}
+use Rattle.expression_trees.proofs.Folds.{perhaps_folded}
 use Rattle.ksql_clauses.specs.Sources.{item_exprs, late_exprs, there}
 use Rattle.ksql_analyse.specs.Few.{CallsFew, HasFewCalls}
 use Rattle.ksql_analyse.specs.Judgement.{AreParsed}

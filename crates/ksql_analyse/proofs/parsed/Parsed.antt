@@ -13,21 +13,21 @@ use Rattle.ksql_lexer.specs.declared.token.TokenKind.TheVariants as kind
 use Rattle.ksql_grammar.specs.declared.symbol.Keyword.{Keyword}
 use Rattle.ksql_grammar.specs.declared.symbol.Symbol.{Symbol}
 use Rattle.ksql_grammar.specs.declared.symbol.Symbol.TheVariants as sym
-use Rattle.ksql_statements.specs.declared.tree.ColumnText.{ColumnText}
-use Rattle.ksql_expressions.specs.declared.tree.Expr.{Expr, out-Expr}
-use Rattle.ksql_expressions.specs.declared.tree.Expr.TheVariants as e
-use Rattle.ksql_expressions.specs.declared.tree.Expr.TheVariants.{outs-Name}
-use Rattle.ksql_expressions.specs.declared.tree.Expr.TheOpen.{Expr-F}
-use Rattle.ksql_statements.specs.declared.tree.JoinText.{JoinText}
-use Rattle.ksql_statements.specs.declared.tree.Select.{Select}
-use Rattle.ksql_statements.specs.declared.tree.SelectItem.{SelectItem}
-use Rattle.ksql_statements.specs.declared.tree.SelectItem.TheVariants.{Star, StarOf, One}
-use Rattle.ksql_statements.specs.declared.tree.Source.{Source}
-use Rattle.ksql_statements.specs.declared.tree.Statement.{Statement}
-use Rattle.ksql_statements.specs.declared.tree.StatementBody.{StatementBody}
-use Rattle.ksql_statements.specs.declared.tree.StatementBody.TheVariants.{Declared, Query}
-use Rattle.ksql_expressions.specs.declared.tree.WhenText.{WhenText}
-use Rattle.ksql_statements.specs.declared.tree.WindowText.{WindowText}
+use Rattle.statement_trees.specs.declared.tree.ColumnText.{ColumnText}
+use Rattle.expression_trees.specs.declared.tree.Expr.{Expr, out-Expr}
+use Rattle.expression_trees.specs.declared.tree.Expr.TheVariants as e
+use Rattle.expression_trees.specs.declared.tree.Expr.TheVariants.{outs-Name}
+use Rattle.expression_trees.specs.declared.tree.Expr.TheOpen.{Expr-F}
+use Rattle.statement_trees.specs.declared.tree.JoinText.{JoinText}
+use Rattle.statement_trees.specs.declared.tree.Select.{Select}
+use Rattle.statement_trees.specs.declared.tree.SelectItem.{SelectItem}
+use Rattle.statement_trees.specs.declared.tree.SelectItem.TheVariants.{Star, StarOf, One}
+use Rattle.statement_trees.specs.declared.tree.Source.{Source}
+use Rattle.statement_trees.specs.declared.tree.Statement.{Statement}
+use Rattle.statement_trees.specs.declared.tree.StatementBody.{StatementBody}
+use Rattle.statement_trees.specs.declared.tree.StatementBody.TheVariants.{Declared, Query}
+use Rattle.expression_trees.specs.declared.tree.WhenText.{WhenText}
+use Rattle.statement_trees.specs.declared.tree.WindowText.{WindowText}
 use Rattle.ksql_grammar.specs.Symbols.{symbol_of, word_symbol, keyword_of, name_of}
 use Rattle.ksql_grammar.specs.Grammar.{Phrase as PhraseExpr, Spells as SpellsExpr}
 use Rattle.ksql_grammar.specs.Grammar as ge
@@ -35,10 +35,10 @@ use Rattle.ksql_parser.specs.Grammar as g
 use Rattle.ksql_parser.specs.Grammar.{Spells, Phrase}
 use Rattle.ksql_parser.specs.Limits.{is_too_large, HasTooLarge}
 use Rattle.ksql_parser.specs.Script.{IsTreeOf}
-use Rattle.ksql_names.specs.Uses.{is_small, IsSmall, small_step, are_small, are_whens_small, is_small_perhaps}
-use Rattle.ksql_expressions.proofs.Folds as f
+use Rattle.ksql_scopes.specs.Uses.{is_small, IsSmall, small_step, are_small, are_whens_small, is_small_perhaps}
+use Rattle.expression_trees.proofs.Folds as f
 use Rattle.std.proofs.lemmas.Bool.{and_from, and_parts}
-use Rattle.ksql_names.proofs.Small.{is_small-OneOf, is_small-Case, is_small-Call}
+use Rattle.ksql_scopes.proofs.Small.{is_small-OneOf, is_small-Case, is_small-Call}
 use Rattle.ksql_clauses.specs.Items.{IsShortName, IsShortItem}
 use Rattle.ksql_clauses.specs.Sources.{alias_of, sources, there, item_exprs, on_exprs}
 use Rattle.ksql_rules.specs.Limits.{HasShortAlias, IsQueryWithin, IsWithinLimits}

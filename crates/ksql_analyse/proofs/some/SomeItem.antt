@@ -3,11 +3,11 @@ use Rattle.std.proofs.Common.{◌≡◌, ℕ, Bool, false, List, length, Option,
 use Rattle.std.specs.Prelude.{unwrap_or}
 use Rattle.std.specs.List.{AllByRecursion as Each}
 use Rattle.ksql_types.specs.declared.relation.Relation.{Relation}
-use Rattle.ksql_statements.specs.declared.tree.Property.{Property}
-use Rattle.ksql_statements.specs.declared.tree.Select.{Select}
-use Rattle.ksql_statements.specs.declared.tree.Statement.{Statement}
-use Rattle.ksql_statements.specs.declared.tree.StatementBody.{StatementBody}
-use Rattle.ksql_statements.specs.declared.tree.StatementBody.TheVariants as body
+use Rattle.statement_trees.specs.declared.tree.Property.{Property}
+use Rattle.statement_trees.specs.declared.tree.Select.{Select}
+use Rattle.statement_trees.specs.declared.tree.Statement.{Statement}
+use Rattle.statement_trees.specs.declared.tree.StatementBody.{StatementBody}
+use Rattle.statement_trees.specs.declared.tree.StatementBody.TheVariants as body
 use Rattle.ksql_program.specs.declared.program.Item.{Item}
 use Rattle.ksql_program.specs.declared.program.Item.TheVariants.{Declared, Started}
 use Rattle.ksql_program.specs.declared.query.Query.{Query}

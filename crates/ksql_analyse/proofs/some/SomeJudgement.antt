@@ -5,7 +5,7 @@ use Rattle.std.proofs.lemmas.List.{map_push}
 use Rattle.std.proofs.lemmas.List.Elements.{All-head, All-nil, All-push}
 use Rattle.ksql_types.specs.declared.code.Code.{Code}
 use Rattle.ksql_lexer.specs.declared.token.TokenKind.{TokenKind}
-use Rattle.ksql_statements.specs.declared.tree.Statement.{Statement}
+use Rattle.statement_trees.specs.declared.tree.Statement.{Statement}
 use Rattle.ksql_parser.specs.Script.{AreTrees, IsTreeOf}
 use Rattle.ksql_program.specs.declared.program.Item.{Item}
 use Rattle.ksql_program.specs.Program.{relation_of, relations}

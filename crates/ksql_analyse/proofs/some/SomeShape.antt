@@ -2,17 +2,17 @@
 use Rattle.std.proofs.Common.{◌≡◌, Bool, true, false, not, List, [], ◌∷◌, map, All, refl, ap, ◌∙◌}
 use Rattle.std.specs.Prelude.{option_map}
 use Rattle.std.proofs.lemmas.List.Elements.{All-from_recursion, All-map, All-weaker, recursion_from_All}
-use Rattle.ksql_statements.specs.declared.tree.Select.{Select}
+use Rattle.statement_trees.specs.declared.tree.Select.{Select}
 use Rattle.ksql_expr.specs.declared.typed.Typed.{Typed}
 use Rattle.ksql_program.specs.declared.query.From.{From}
 use Rattle.ksql_program.specs.declared.query.From.TheVariants as from
 use Rattle.ksql_program.specs.declared.query.Shape.{Shape}
 use Rattle.ksql_program.specs.declared.query.Shape.TheVariants as shape
-use Rattle.ksql_names.specs.declared.scope.Scope.{Scope}
+use Rattle.ksql_scopes.specs.declared.scope.Scope.{Scope}
 use Rattle.ksql_clauses.specs.declared.items.Named.{Named}
 use Rattle.ksql_clauses.specs.declared.sources.Known.{Known}
 use Rattle.ksql_clauses.specs.Items.{result_columns}
-use Rattle.ksql_names.specs.Resolved.{resolved}
+use Rattle.ksql_scopes.specs.Resolved.{resolved}
 use Rattle.ksql_clauses.specs.Sources.{from_scope, item_scope}
 use Rattle.ksql_clauses.specs.Windows.{window_of}
 use Rattle.ksql_clauses.specs.Keys.{key_columns, value_columns}
@@ -20,7 +20,7 @@ use Rattle.ksql_rules.specs.Breaks.{group_exprs, is_grouped}
 use Rattle.ksql_clauses.specs.Keys.{key_places}
 use Rattle.ksql_analyse.specs.Accepted.{IsMade}
 use Rattle.ksql_analyse.specs.Judgement.{AreTypedTrees, IsFrom, aggregate_exprs, exprs, grouped_columns, join_kind}
-use Rattle.ksql_trees.specs.Grouped.{after}
+use Rattle.grouped_expressions.specs.Grouped.{after}
 use Rattle.ksql_analyse.specs.Readable.{IsReadable}
 use Rattle.ksql_analyse.specs.Typable.{AreColumnTrees, IsGroupTypable, IsQueryTypable, IsTypable, IsValued}
 use Rattle.ksql_analyse.proofs.some.SomeTrees.{some-aggs, some-part, some-trees}

@@ -9,7 +9,7 @@ use Rattle.std.proofs.lemmas.List.Sums.{AllPass-from_list_all}
 use Rattle.ksql_types.specs.Catalog.{has_name, has_topic, is_taken}
 use Rattle.ksql_types.specs.declared.relation.Column.{Column}
 use Rattle.ksql_types.specs.declared.relation.Relation.{Relation}
-use Rattle.ksql_statements.specs.declared.tree.Statement.{Statement}
+use Rattle.statement_trees.specs.declared.tree.Statement.{Statement}
 use Rattle.ksql_lexer.specs.declared.token.TokenKind.{TokenKind}
 use Rattle.ksql_parser.specs.Script.{IsTreeOf}
 use Rattle.ksql_program.specs.declared.program.Item.{Item}

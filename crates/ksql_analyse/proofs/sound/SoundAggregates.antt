@@ -8,11 +8,11 @@ use Rattle.std.proofs.lemmas.Option.{same_Some}
 use Rattle.std.proofs.lemmas.Slice.Eq.{bytes_eq-Decides}
 use Rattle.ksql_types.specs.declared.relation.Kind.{Kind}
 use Rattle.ksql_types.specs.declared.relation.Kind.TheVariants as kind
-use Rattle.ksql_expressions.specs.declared.tree.Expr.{Expr, out-Expr, roll-Expr, roll-out-Expr}
-use Rattle.ksql_expressions.specs.declared.tree.Expr.TheVariants as e
-use Rattle.ksql_expressions.specs.declared.tree.Expr.TheOpen.{Expr-F}
-use Rattle.ksql_expressions.specs.declared.tree.WhenText.{WhenText}
-use Rattle.ksql_expressions.specs.Words.{beside}
+use Rattle.expression_trees.specs.declared.tree.Expr.{Expr, out-Expr, roll-Expr, roll-out-Expr}
+use Rattle.expression_trees.specs.declared.tree.Expr.TheVariants as e
+use Rattle.expression_trees.specs.declared.tree.Expr.TheOpen.{Expr-F}
+use Rattle.expression_trees.specs.declared.tree.WhenText.{WhenText}
+use Rattle.expression_trees.specs.Words.{beside}
 use Rattle.ksql_expr.specs.declared.typed.AggFun.{AggFun}
 use Rattle.ksql_expr.specs.declared.typed.AggFun.TheVariants.{CountAll}
 use Rattle.ksql_expr.specs.declared.typed.Typed.{Typed}
@@ -25,21 +25,21 @@ use Rattle.ksql_expr.specs.Typing.{HasTypes}
 use Rattle.ksql_program.specs.declared.query.Agg.{Agg}
 use Rattle.ksql_types.specs.Names.{is_among}
 use Rattle.ksql_program.specs.Sound.{IsAggOver, IsOverTable, IsArgument, IsSoundOver, argument_type}
-use Rattle.ksql_names.specs.declared.scope.Scope.{Scope}
-use Rattle.ksql_names.specs.Functions.{aggregates, aggregate_of, is_aggregate}
-use Rattle.ksql_names.specs.Scope.{column_types, inside}
-use Rattle.ksql_names.specs.Uses.{IsSmall, is_small, are_small, calls, all_of}
-use Rattle.ksql_names.proofs.Small as small
+use Rattle.ksql_scopes.specs.declared.scope.Scope.{Scope}
+use Rattle.ksql_scopes.specs.Functions.{aggregates, aggregate_of, is_aggregate}
+use Rattle.ksql_scopes.specs.Scope.{column_types, inside}
+use Rattle.ksql_scopes.specs.Uses.{IsSmall, is_small, are_small, calls, all_of}
+use Rattle.ksql_scopes.proofs.Small as small
 use Rattle.std.proofs.lemmas.Bool.{and_parts}
 use Rattle.ksql_typing.specs.Standing.{IsTypedTree}
 use Rattle.ksql_typing.proofs.Known.{AreKnown, two-known, call-known}
 use Rattle.ksql_typing.proofs.OneTyping.{checked}
-use Rattle.ksql_names.proofs.Disjoint.{unknown-none}
+use Rattle.ksql_scopes.proofs.Disjoint.{unknown-none}
 use Rattle.ksql_typing.proofs.Inversion.{Checks, checks}
-use Rattle.ksql_expressions.specs.Parts.{any_of}
-use Rattle.ksql_grouping.specs.Grouping.{has_aggregate, has_nested_aggregate, is_aggregate_call, ordered_aggregates}
-use Rattle.ksql_grouping.proofs.Calls as called
-use Rattle.ksql_grouping.proofs.Calls.{calls_one}
+use Rattle.expression_trees.specs.Parts.{any_of}
+use Rattle.aggregate_rules.specs.Grouping.{has_aggregate, has_nested_aggregate, is_aggregate_call, ordered_aggregates}
+use Rattle.aggregate_rules.proofs.Calls as called
+use Rattle.aggregate_rules.proofs.Calls.{calls_one}
 use Rattle.ksql_analyse.proofs.forms.Bearing.{no-aggregate-held, short-texts-held}
 use Rattle.ksql_analyse.proofs.forms.Handing.{IsFlat, CallsNone, nested-Call}
 use Rattle.ksql_analyse.proofs.sound.SoundTrees.{IsPlain}

@@ -8,11 +8,11 @@ use Rattle.std.proofs.lemmas.List.{length-append, length-map}
 use Rattle.ksql_types.specs.declared.relation.Column.{Column}
 use Rattle.ksql_types.specs.declared.relation.Format.{Format}
 use Rattle.ksql_types.specs.declared.relation.Format.TheVariants.{Json, Delimited}
-use Rattle.ksql_statements.specs.declared.tree.ColumnText.{ColumnText}
-use Rattle.ksql_statements.specs.declared.tree.KeyMark.{KeyMark}
-use Rattle.ksql_statements.specs.declared.tree.KeyMark.TheVariants as mark
-use Rattle.ksql_statements.specs.declared.tree.Property.{Property}
-use Rattle.ksql_statements.specs.declared.tree.StatementBody.TheVariants.{Declared}
+use Rattle.statement_trees.specs.declared.tree.ColumnText.{ColumnText}
+use Rattle.statement_trees.specs.declared.tree.KeyMark.{KeyMark}
+use Rattle.statement_trees.specs.declared.tree.KeyMark.TheVariants as mark
+use Rattle.statement_trees.specs.declared.tree.Property.{Property}
+use Rattle.statement_trees.specs.declared.tree.StatementBody.TheVariants.{Declared}
 use Rattle.ksql_types.specs.Names.{are_column_names, are_distinct, is_among, is_topic_name, reserved_columns}
 use Rattle.ksql_program.specs.Sound.{IsSoundRelation, IsSoundDeclaration, HasDeclaredKey}
 use Rattle.ksql_clauses.specs.Properties.{are_bad, topic_in, partitions_in, format_in, is_zero, name_of, has_kind, is_bad_format, is_bad_key_format, value_of}

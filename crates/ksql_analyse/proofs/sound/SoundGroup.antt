@@ -6,14 +6,14 @@ use Rattle.std.proofs.lemmas.Bool.{false≢true}
 use Rattle.ksql_types.specs.declared.relation.Kind.{Kind}
 use Rattle.ksql_types.specs.declared.relation.Kind.TheVariants as kind
 use Rattle.ksql_types.specs.declared.value.SqlType.{SqlType}
-use Rattle.ksql_expressions.specs.declared.tree.Expr.{Expr}
-use Rattle.ksql_expressions.specs.declared.tree.Expr.TheVariants as e
-use Rattle.ksql_statements.specs.declared.tree.Select.{Select}
-use Rattle.ksql_statements.specs.declared.tree.SelectItem.{SelectItem}
-use Rattle.ksql_statements.specs.declared.tree.SelectItem.TheVariants.{Star, StarOf, One}
-use Rattle.ksql_statements.specs.declared.tree.SpanText.{SpanText}
-use Rattle.ksql_statements.specs.declared.tree.WindowText.{WindowText}
-use Rattle.ksql_statements.specs.declared.tree.WindowText.TheVariants.{Tumbling, Hopping}
+use Rattle.expression_trees.specs.declared.tree.Expr.{Expr}
+use Rattle.expression_trees.specs.declared.tree.Expr.TheVariants as e
+use Rattle.statement_trees.specs.declared.tree.Select.{Select}
+use Rattle.statement_trees.specs.declared.tree.SelectItem.{SelectItem}
+use Rattle.statement_trees.specs.declared.tree.SelectItem.TheVariants.{Star, StarOf, One}
+use Rattle.statement_trees.specs.declared.tree.SpanText.{SpanText}
+use Rattle.statement_trees.specs.declared.tree.WindowText.{WindowText}
+use Rattle.statement_trees.specs.declared.tree.WindowText.TheVariants.{Tumbling, Hopping}
 use Rattle.ksql_expr.specs.declared.typed.Typed.{Typed}
 use Rattle.ksql_expr.specs.declared.typed.TypedNode.{TypedNode}
 use Rattle.ksql_expr.specs.declared.typed.TypedNode.TheOpen.{TypedNode-F}
@@ -26,22 +26,22 @@ use Rattle.ksql_program.specs.declared.query.Agg.{Agg}
 use Rattle.ksql_types.specs.Names.{is_among}
 use Rattle.ksql_program.specs.Sound as sound
 use Rattle.ksql_program.specs.Sound.{IsSoundWindow, IsSoundOver, AreColumns, Aggregates}
-use Rattle.ksql_names.specs.declared.scope.Scope.{Scope}
-use Rattle.ksql_names.specs.Functions.{is_aggregate}
-use Rattle.ksql_names.specs.Uses.{IsSmall}
+use Rattle.ksql_scopes.specs.declared.scope.Scope.{Scope}
+use Rattle.ksql_scopes.specs.Functions.{is_aggregate}
+use Rattle.ksql_scopes.specs.Uses.{IsSmall}
 use Rattle.ksql_typing.specs.Standing.{IsTypedTree}
 use Rattle.ksql_typing.proofs.OneTyping.{checked}
-use Rattle.ksql_grouping.specs.Grouping.{has_aggregate, has_bare_column, aggregates_of, ordered_aggregates, place_among}
-use Rattle.ksql_grouping.proofs.Calls as called
+use Rattle.aggregate_rules.specs.Grouping.{has_aggregate, has_bare_column, aggregates_of, ordered_aggregates, place_among}
+use Rattle.aggregate_rules.proofs.Calls as called
 use Rattle.ksql_clauses.specs.declared.items.Named.{Named}
 use Rattle.ksql_clauses.specs.declared.sources.Known.{Known}
 use Rattle.ksql_clauses.specs.Items.{result_columns, named_from, all_stars, stars_of, plain_name, numbered_name, named}
-use Rattle.ksql_names.specs.Resolved.{resolved}
+use Rattle.ksql_scopes.specs.Resolved.{resolved}
 use Rattle.ksql_clauses.specs.Sources.{item_scope, late_exprs, item_exprs, there}
 use Rattle.ksql_clauses.specs.Windows.{window_of, is_bad, is_too_large, millis, grace_millis, has_long, has_many}
 use Rattle.ksql_clauses.proofs.Naming as naming
 use Rattle.ksql_rules.specs.Breaks.{shown_exprs}
-use Rattle.ksql_trees.specs.Grouped.{after}
+use Rattle.grouped_expressions.specs.Grouped.{after}
 use Rattle.ksql_analyse.specs.Judgement.{AreTypedTrees, agg_form, aggregate_exprs}
 use Rattle.ksql_analyse.proofs.forms.AggregatesIn.{aggregates-inherit, aggregates-seen, Kept}
 use Rattle.ksql_analyse.proofs.forms.Bearing.{some, some-append, short-digits, text-small, pattern-short}

@@ -10,11 +10,11 @@ use Rattle.ksql_types.specs.declared.relation.Kind.TheVariants as kind
 use Rattle.ksql_types.specs.declared.relation.Relation.{Relation}
 use Rattle.ksql_types.specs.declared.value.SqlType.{SqlType}
 use Rattle.ksql_types.specs.declared.value.SqlType.TheVariants as sql
-use Rattle.ksql_expressions.specs.declared.tree.Expr.{Expr}
-use Rattle.ksql_statements.specs.declared.tree.Property.{Property}
-use Rattle.ksql_statements.specs.declared.tree.Select.{Select}
-use Rattle.ksql_statements.specs.declared.tree.StatementBody.TheVariants.{Query}
-use Rattle.ksql_statements.specs.declared.tree.WindowText.{WindowText}
+use Rattle.expression_trees.specs.declared.tree.Expr.{Expr}
+use Rattle.statement_trees.specs.declared.tree.Property.{Property}
+use Rattle.statement_trees.specs.declared.tree.Select.{Select}
+use Rattle.statement_trees.specs.declared.tree.StatementBody.TheVariants.{Query}
+use Rattle.statement_trees.specs.declared.tree.WindowText.{WindowText}
 use Rattle.ksql_expr.specs.declared.typed.Typed.{Typed}
 use Rattle.ksql_expr.specs.declared.typed.TypedNode.{TypedNode}
 use Rattle.ksql_expr.specs.Rules.{fits}
@@ -26,20 +26,20 @@ use Rattle.ksql_types.specs.declared.relation.Window.{Window}
 use Rattle.ksql_types.specs.Names.{is_among}
 use Rattle.ksql_program.specs.Sound as sound
 use Rattle.ksql_program.specs.Sound.{AreColumns, IsWindowed, IsCondition, Makes, window_types, grouped_kind}
-use Rattle.ksql_names.specs.declared.scope.Scope.{Scope}
-use Rattle.ksql_names.specs.Uses.{IsSmall, calls}
+use Rattle.ksql_scopes.specs.declared.scope.Scope.{Scope}
+use Rattle.ksql_scopes.specs.Uses.{IsSmall, calls}
 use Rattle.ksql_typing.specs.Standing.{CanBeTrue}
-use Rattle.ksql_grouping.specs.Grouping.{has_aggregate, has_nested_aggregate, has_bare_column, aggregates_of, ordered_aggregates}
+use Rattle.aggregate_rules.specs.Grouping.{has_aggregate, has_nested_aggregate, has_bare_column, aggregates_of, ordered_aggregates}
 use Rattle.ksql_clauses.specs.declared.items.Named.{Named}
 use Rattle.ksql_clauses.specs.declared.sources.Known.{Known}
 use Rattle.ksql_clauses.specs.Items.{result_columns}
-use Rattle.ksql_names.specs.Resolved.{resolved}
+use Rattle.ksql_scopes.specs.Resolved.{resolved}
 use Rattle.ksql_clauses.specs.Sources.{from_scope, item_scope, from_columns, reads_stream, late_exprs, there}
 use Rattle.ksql_clauses.specs.Windows.{window_of, is_bad}
 use Rattle.ksql_clauses.specs.Keys.{value_columns}
 use Rattle.ksql_rules.specs.Breaks.{is_grouped, group_exprs, shown_exprs, is_bad_window, has_large_window, IfThere}
 use Rattle.ksql_rules.specs.Limits.{IsQueryWithin}
-use Rattle.ksql_trees.specs.Grouped.{after}
+use Rattle.grouped_expressions.specs.Grouped.{after}
 use Rattle.ksql_analyse.specs.Judgement.{IsShape, IsResult, IsTypedPart, aggregate_exprs, exprs, grouped_columns}
 use Rattle.ksql_analyse.proofs.forms.Handing.{IsFlat, CallsNone}
 use Rattle.ksql_analyse.proofs.forms.Once.{IsAmong}

@@ -10,8 +10,8 @@ use Rattle.ksql_types.specs.declared.relation.Column.{Column}
 use Rattle.ksql_types.specs.declared.relation.Kind.TheVariants as kind
 use Rattle.ksql_types.specs.declared.relation.Relation.{Relation}
 use Rattle.ksql_types.specs.declared.value.SqlType.{SqlType}
-use Rattle.ksql_expressions.specs.declared.tree.Expr.{Expr}
-use Rattle.ksql_statements.specs.declared.tree.Select.{Select}
+use Rattle.expression_trees.specs.declared.tree.Expr.{Expr}
+use Rattle.statement_trees.specs.declared.tree.Select.{Select}
 use Rattle.ksql_expr.specs.declared.typed.Typed.{Typed}
 use Rattle.ksql_expr.specs.Aggregates.{holds, is_aggregate}
 use Rattle.ksql_expr.specs.Rules.{same_type}
@@ -22,11 +22,11 @@ use Rattle.ksql_program.specs.declared.query.JoinKind.TheVariants as join
 use Rattle.ksql_program.specs.Sound as sound
 use Rattle.ksql_types.specs.Columns.{columns}
 use Rattle.ksql_program.specs.Sound.{IsJoined, JoinsStream, JoinsTable, IsSoundOver, row_key}
-use Rattle.ksql_names.specs.declared.scope.Scope.{Scope}
-use Rattle.ksql_names.specs.declared.scope.ScopeColumn.{ScopeColumn}
-use Rattle.ksql_names.specs.Scope.{is_known_as}
+use Rattle.ksql_scopes.specs.declared.scope.Scope.{Scope}
+use Rattle.ksql_scopes.specs.declared.scope.ScopeColumn.{ScopeColumn}
+use Rattle.ksql_scopes.specs.Scope.{is_known_as}
 use Rattle.ksql_typing.specs.Standing.{HasType, Agree, CanAgree}
-use Rattle.ksql_names.specs.Uses.{names}
+use Rattle.ksql_scopes.specs.Uses.{names}
 use Rattle.std.proofs.lemmas.Bool.{and_parts}
 use Rattle.ksql_typing.specs.Standing.{IsTypedTree}
 use Rattle.ksql_typing.proofs.OneTyping.{checked}

@@ -10,12 +10,12 @@ use Rattle.ksql_types.specs.declared.relation.Kind.{Kind}
 use Rattle.ksql_types.specs.declared.relation.Kind.TheVariants as kind
 use Rattle.ksql_types.specs.declared.relation.Relation.{Relation}
 use Rattle.ksql_types.specs.declared.value.SqlType.{SqlType}
-use Rattle.ksql_expressions.specs.declared.tree.Expr.{Expr}
-use Rattle.ksql_expressions.specs.declared.tree.Expr.TheVariants as e
-use Rattle.ksql_statements.specs.declared.tree.Select.{Select}
-use Rattle.ksql_statements.specs.declared.tree.SelectItem.{SelectItem}
-use Rattle.ksql_statements.specs.declared.tree.SelectItem.TheVariants.{Star, StarOf, One}
-use Rattle.ksql_statements.specs.declared.tree.WindowText.{WindowText}
+use Rattle.expression_trees.specs.declared.tree.Expr.{Expr}
+use Rattle.expression_trees.specs.declared.tree.Expr.TheVariants as e
+use Rattle.statement_trees.specs.declared.tree.Select.{Select}
+use Rattle.statement_trees.specs.declared.tree.SelectItem.{SelectItem}
+use Rattle.statement_trees.specs.declared.tree.SelectItem.TheVariants.{Star, StarOf, One}
+use Rattle.statement_trees.specs.declared.tree.WindowText.{WindowText}
 use Rattle.ksql_expr.specs.declared.typed.Typed.{Typed}
 use Rattle.ksql_expr.specs.declared.typed.TypedNode.TheVariants as n
 use Rattle.ksql_program.specs.declared.program.Item.{Item}
@@ -25,24 +25,24 @@ use Rattle.ksql_program.specs.Program.{relation_at}
 use Rattle.ksql_program.specs.Sound as sound
 use Rattle.ksql_types.specs.Columns.{columns}
 use Rattle.ksql_program.specs.Sound.{Reads, IsKeyed, AreColumnsFrom}
-use Rattle.ksql_names.specs.declared.scope.Scope.{Scope}
-use Rattle.ksql_names.specs.declared.scope.ScopeColumn.{ScopeColumn}
-use Rattle.ksql_names.specs.Scope.{column_types, is_known_as}
-use Rattle.ksql_names.specs.Functions.{is_aggregate}
-use Rattle.ksql_names.proofs.Equations as equation
+use Rattle.ksql_scopes.specs.declared.scope.Scope.{Scope}
+use Rattle.ksql_scopes.specs.declared.scope.ScopeColumn.{ScopeColumn}
+use Rattle.ksql_scopes.specs.Scope.{column_types, is_known_as}
+use Rattle.ksql_scopes.specs.Functions.{is_aggregate}
+use Rattle.ksql_scopes.proofs.Equations as equation
 use Rattle.std.proofs.lemmas.Bool.{and_from}
 use Rattle.ksql_typing.specs.Standing as st
 use Rattle.ksql_typing.specs.Standing.{Stands}
-use Rattle.ksql_expressions.specs.Same.{same_expr}
+use Rattle.expression_trees.specs.Same.{same_expr}
 use Rattle.ksql_clauses.specs.declared.items.Named.{Named}
 use Rattle.ksql_clauses.specs.declared.sources.Known.{Known}
 use Rattle.ksql_clauses.specs.Items.{result_columns, star_column, star_of, is_join}
-use Rattle.ksql_names.specs.Resolved.{resolved}
+use Rattle.ksql_scopes.specs.Resolved.{resolved}
 use Rattle.ksql_clauses.specs.Sources.{is_stream, is_windowed, is_full, reads_stream, scope_column, scope_columns, rowkey_of, from_scope, item_scope, from_columns, item_exprs, key_columns_of, there}
 use Rattle.ksql_clauses.specs.Keys.{key_columns}
 use Rattle.ksql_rules.specs.Breaks.{is_grouped, is_bad_window, lacks_key}
 use Rattle.ksql_clauses.specs.Keys.{key_exprs, key_places, needs, alone}
-use Rattle.ksql_expressions.proofs.Equality.{equal}
+use Rattle.expression_trees.proofs.Equality.{equal}
 use Rattle.ksql_analyse.specs.Judgement.{IsFrom, AreTypedTrees, exprs}
 use Rattle.ksql_analyse.proofs.lists.Appended.{front-at}
 use Rattle.ksql_analyse.proofs.lists.Distinct.{or-false}

@@ -5,10 +5,10 @@ use Rattle.std.proofs.lemmas.List.Elements.{recursion_from_All}
 use Rattle.ksql_types.specs.declared.relation.Kind.TheVariants as kind
 use Rattle.ksql_types.specs.declared.relation.Relation.{Relation}
 use Rattle.ksql_types.specs.declared.value.SqlType.{SqlType}
-use Rattle.ksql_expressions.specs.declared.tree.Expr.{Expr}
-use Rattle.ksql_statements.specs.declared.tree.Property.{Property}
-use Rattle.ksql_statements.specs.declared.tree.Select.{Select}
-use Rattle.ksql_statements.specs.declared.tree.StatementBody.TheVariants.{Query}
+use Rattle.expression_trees.specs.declared.tree.Expr.{Expr}
+use Rattle.statement_trees.specs.declared.tree.Property.{Property}
+use Rattle.statement_trees.specs.declared.tree.Select.{Select}
+use Rattle.statement_trees.specs.declared.tree.StatementBody.TheVariants.{Query}
 use Rattle.ksql_expr.specs.declared.typed.Typed.{Typed}
 use Rattle.ksql_program.specs.declared.program.Item.{Item}
 use Rattle.ksql_program.specs.declared.query.From.{From}
@@ -16,9 +16,9 @@ use Rattle.ksql_program.specs.declared.query.Query.{Query as OneQuery}
 use Rattle.ksql_program.specs.declared.query.Shape.TheVariants as shape
 use Rattle.ksql_program.specs.Sound as sound
 use Rattle.ksql_program.specs.Sound.{IsSoundRelation, IsSoundQuery, IsCondition, Reads, Makes, HasItsKey}
-use Rattle.ksql_names.specs.Scope.{column_types}
-use Rattle.ksql_names.specs.Uses.{IsSmall}
-use Rattle.ksql_grouping.specs.Grouping.{has_aggregate}
+use Rattle.ksql_scopes.specs.Scope.{column_types}
+use Rattle.ksql_scopes.specs.Uses.{IsSmall}
+use Rattle.aggregate_rules.specs.Grouping.{has_aggregate}
 use Rattle.ksql_clauses.specs.declared.items.Named.{Named}
 use Rattle.ksql_clauses.specs.declared.sources.Known.{Known}
 use Rattle.ksql_clauses.specs.Items.{result_columns}

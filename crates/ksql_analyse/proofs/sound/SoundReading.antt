@@ -11,13 +11,13 @@ use Rattle.ksql_types.specs.declared.operator.BinaryOp.TheVariants as op
 use Rattle.ksql_types.specs.declared.relation.Column.{Column}
 use Rattle.ksql_types.specs.declared.relation.Kind.TheVariants as kind
 use Rattle.ksql_types.specs.declared.relation.Relation.{Relation}
-use Rattle.ksql_expressions.specs.declared.tree.Expr.{Expr}
-use Rattle.ksql_expressions.specs.declared.tree.Expr.TheVariants as e
-use Rattle.ksql_statements.specs.declared.tree.JoinText.{JoinText}
-use Rattle.ksql_statements.specs.declared.tree.JoinWord.{JoinWord}
-use Rattle.ksql_statements.specs.declared.tree.JoinWord.TheVariants as word
-use Rattle.ksql_statements.specs.declared.tree.Property.{Property}
-use Rattle.ksql_statements.specs.declared.tree.Select.{Select}
+use Rattle.expression_trees.specs.declared.tree.Expr.{Expr}
+use Rattle.expression_trees.specs.declared.tree.Expr.TheVariants as e
+use Rattle.statement_trees.specs.declared.tree.JoinText.{JoinText}
+use Rattle.statement_trees.specs.declared.tree.JoinWord.{JoinWord}
+use Rattle.statement_trees.specs.declared.tree.JoinWord.TheVariants as word
+use Rattle.statement_trees.specs.declared.tree.Property.{Property}
+use Rattle.statement_trees.specs.declared.tree.Select.{Select}
 use Rattle.ksql_expr.specs.declared.typed.Typed.{Typed}
 use Rattle.ksql_expr.specs.declared.typed.TypedNode.TheVariants as n
 use Rattle.ksql_program.specs.declared.program.Item.{Item}
@@ -29,23 +29,23 @@ use Rattle.ksql_program.specs.Program.{relation_at}
 use Rattle.ksql_program.specs.Sound as sound
 use Rattle.ksql_types.specs.Columns.{columns}
 use Rattle.ksql_program.specs.Sound.{IsKeyed, IsTablesKey}
-use Rattle.ksql_names.specs.Functions.{is_aggregate}
-use Rattle.ksql_names.specs.Uses.{calls}
+use Rattle.ksql_scopes.specs.Functions.{is_aggregate}
+use Rattle.ksql_scopes.specs.Uses.{calls}
 use Rattle.ksql_typing.specs.Standing.{CanAgree}
-use Rattle.ksql_names.proofs.Equations as equation
-use Rattle.ksql_names.proofs.Small as small
+use Rattle.ksql_scopes.proofs.Equations as equation
+use Rattle.ksql_scopes.proofs.Small as small
 use Rattle.ksql_typing.specs.Standing as st
 use Rattle.ksql_typing.specs.Standing.{Stands}
-use Rattle.ksql_expressions.specs.Same.{same_expr}
+use Rattle.expression_trees.specs.Same.{same_expr}
 use Rattle.ksql_clauses.specs.declared.items.Named.{Named}
 use Rattle.ksql_clauses.specs.declared.sources.Known.{Known}
-use Rattle.ksql_names.specs.Resolved.{resolved}
+use Rattle.ksql_scopes.specs.Resolved.{resolved}
 use Rattle.ksql_clauses.specs.Items.{result_columns}
 use Rattle.ksql_clauses.specs.Sources.{is_stream, is_windowed, is_full, is_full_word, joined_streams, from_scope, item_scope, on_scope, on_exprs, early_exprs, rowkey_of}
 use Rattle.ksql_clauses.specs.Keys.{key_columns}
 use Rattle.ksql_rules.specs.Breaks.{same, is_grouped, is_not_on_key, is_stream_join, has_stream_side, IfThere}
 use Rattle.ksql_clauses.specs.Keys.{on_sides, join_key, key_sides, needs, alone, key_exprs, key_places, is_only_key, is_of_left, tables_need, stream_needs, sources_need, beside}
-use Rattle.ksql_expressions.proofs.Equality.{equal}
+use Rattle.expression_trees.proofs.Equality.{equal}
 use Rattle.ksql_analyse.specs.Judgement.{IsFrom, AreTypedTrees, exprs, join_kind}
 use Rattle.ksql_analyse.proofs.forms.KeySides.{only-key, AreSides, sides-are, equation-is}
 use Rattle.ksql_analyse.proofs.forms.Meant.{meant-known}

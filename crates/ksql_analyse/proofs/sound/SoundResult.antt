@@ -9,11 +9,11 @@ use Rattle.std.proofs.lemmas.List.Folds.{list_any-append}
 use Rattle.std.proofs.lemmas.Option.{same_Some}
 use Rattle.ksql_types.specs.declared.relation.Column.{Column}
 use Rattle.ksql_types.specs.declared.relation.Relation.{Relation}
-use Rattle.ksql_statements.specs.declared.tree.Property.{Property}
-use Rattle.ksql_statements.specs.declared.tree.Select.{Select}
-use Rattle.ksql_statements.specs.declared.tree.SelectItem.{SelectItem}
-use Rattle.ksql_statements.specs.declared.tree.SelectItem.TheVariants.{Star, StarOf, One}
-use Rattle.ksql_statements.specs.declared.tree.StatementBody.TheVariants.{Query}
+use Rattle.statement_trees.specs.declared.tree.Property.{Property}
+use Rattle.statement_trees.specs.declared.tree.Select.{Select}
+use Rattle.statement_trees.specs.declared.tree.SelectItem.{SelectItem}
+use Rattle.statement_trees.specs.declared.tree.SelectItem.TheVariants.{Star, StarOf, One}
+use Rattle.statement_trees.specs.declared.tree.StatementBody.TheVariants.{Query}
 use Rattle.ksql_program.specs.declared.query.Shape.{Shape}
 use Rattle.ksql_types.specs.Names.{are_column_names, are_distinct, is_among, is_topic_name, reserved_columns}
 use Rattle.ksql_types.specs.Columns.{columns}
@@ -28,7 +28,7 @@ use Rattle.ksql_clauses.specs.Keys.{key_columns, value_columns}
 use Rattle.ksql_rules.specs.Breaks.{has_long_name, result_format, topic_of}
 use Rattle.ksql_clauses.specs.Keys.{key_places}
 use Rattle.ksql_rules.specs.Limits.{HasShortAlias}
-use Rattle.ksql_names.specs.declared.scope.Scope.{Scope}
+use Rattle.ksql_scopes.specs.declared.scope.Scope.{Scope}
 use Rattle.std.proofs.lemmas.Bool.{and_parts, and_from}
 use Rattle.ksql_analyse.specs.Judgement.{IsResult, left_partitions}
 use Rattle.ksql_analyse.proofs.parsed.Parsed.{IsPlainShort}

@@ -5,17 +5,17 @@ use Rattle.ksql_types.specs.declared.relation.Column.{Column}
 use Rattle.ksql_types.specs.declared.relation.Kind.{Kind}
 use Rattle.ksql_types.specs.declared.value.SqlType.{SqlType}
 use Rattle.ksql_types.specs.declared.value.SqlType.TheVariants as sql
-use Rattle.ksql_expressions.specs.declared.tree.Expr.{Expr}
+use Rattle.expression_trees.specs.declared.tree.Expr.{Expr}
 use Rattle.ksql_expr.specs.declared.typed.Typed.{Typed}
 use Rattle.ksql_expr.specs.Rules.{fits}
 use Rattle.ksql_program.specs.Sound.{IsSoundOver, AreColumns, IsCondition}
-use Rattle.ksql_names.specs.declared.scope.Scope.{Scope}
-use Rattle.ksql_names.specs.Scope.{column_types}
+use Rattle.ksql_scopes.specs.declared.scope.Scope.{Scope}
+use Rattle.ksql_scopes.specs.Scope.{column_types}
 use Rattle.ksql_typing.specs.Standing.{HasType, CanBeTrue}
-use Rattle.ksql_names.specs.Uses.{IsSmall}
+use Rattle.ksql_scopes.specs.Uses.{IsSmall}
 use Rattle.ksql_typing.specs.Standing.{IsTypedTree}
 use Rattle.ksql_typing.proofs.OneTyping.{checked, one-tree}
-use Rattle.ksql_grouping.specs.Grouping.{has_aggregate}
+use Rattle.aggregate_rules.specs.Grouping.{has_aggregate}
 use Rattle.ksql_clauses.specs.Sources.{there}
 use Rattle.ksql_rules.specs.Breaks.{IfThere}
 use Rattle.ksql_analyse.specs.Judgement.{IsTypedPart, AreTypedTrees}

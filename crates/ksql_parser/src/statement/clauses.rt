@@ -4,19 +4,19 @@
 ghost use Rattle.std.specs.Prelude.{◌≡◌, List, Option, Some, IfOk};
 ghost use Rattle.std.specs.Option.{option_copied};
 ghost use Rattle.ksql_grammar.specs.declared.symbol.Symbol.{Symbol as OneSymbol};
-ghost use Rattle.ksql_expressions.specs.declared.tree.Expr.{Expr as Tree};
+ghost use Rattle.expression_trees.specs.declared.tree.Expr.{Expr as Tree};
 ghost use Rattle.ksql_grammar.specs.Grammar.{Spells as SpellsExpr, at, expr};
-ghost use Rattle.ksql_statements.specs.declared.tree.JoinText.{JoinText as OneJoin};
+ghost use Rattle.statement_trees.specs.declared.tree.JoinText.{JoinText as OneJoin};
 ghost use Rattle.ksql_parser.specs.Grammar.{Spells, joined, filter, group, partition, having};
 ghost use Rattle.ksql_grammar.specs.Reading.{EndsExpr, Gives, with_rest, option_with_rest};
 ghost use Rattle.ksql_parser.specs.Queries as query;
 ghost use Rattle.ksql_parser.specs.Statements.{BeginsFrom};
 ghost use Rattle.ksql_parser.specs.Statements as part;
 
-use crate::statement::step::{alias, behind_by, behind_word, key, name};
-use ksql_expressions::{Expr, ExprTexts};
-use ksql_grammar::{Keyword, ReadError, Symbol, behind_key, read_expression, read_expressions};
-use ksql_statements::{JoinText, JoinWord, Source};
+use crate::statement::step::{alias, after_by, after_word, key, name};
+use expression_trees::{Expr, ExprTexts};
+use ksql_grammar::{Keyword, ReadError, Symbol, after_key, read_expression, read_expressions};
+use statement_trees::{JoinText, JoinWord, Source};
 use ksql_types::{Boxed, CopyOf, Items};
 use std::alloc::Global;
 
@@ -48,13 +48,13 @@ pub(crate) fn read_source(
 }
 
 /// The symbols after JOIN, before which this reserved word may stand.
-#[tactic(auto, unfolding(crate::specs::Queries::behind_join))]
-fn behind_join(word: Keyword, symbols: &[Symbol]) -> Option<&[Symbol]>
-    ensures { option_copied result ≡ query.behind_join word symbols.now }
+#[tactic(auto, unfolding(crate::specs::Queries::after_join))]
+fn after_join(word: Keyword, symbols: &[Symbol]) -> Option<&[Symbol]>
+    ensures { option_copied result ≡ query.after_join word symbols.now }
 {
-    match behind_key(word, symbols) {
-        Some(rest) => behind_key(Keyword::Join, rest),
-        None => behind_key(Keyword::Join, symbols),
+    match after_key(word, symbols) {
+        Some(rest) => after_key(Keyword::Join, rest),
+        None => after_key(Keyword::Join, symbols),
     }
 }
 
@@ -62,13 +62,13 @@ fn behind_join(word: Keyword, symbols: &[Symbol]) -> Option<&[Symbol]>
 fn join_words(symbols: &[Symbol]) -> Option<(JoinWord, &[Symbol])>
     ensures { option_with_rest result ≡ part.join_words symbols.now }
 {
-    if let Some(rest) = behind_key(Keyword::Left, symbols) {
-        return Some((JoinWord::Left, behind_join(Keyword::Outer, rest)?));
+    if let Some(rest) = after_key(Keyword::Left, symbols) {
+        return Some((JoinWord::Left, after_join(Keyword::Outer, rest)?));
     }
-    if let Some(rest) = behind_key(Keyword::Full, symbols) {
-        return Some((JoinWord::Full, behind_join(Keyword::Outer, rest)?));
+    if let Some(rest) = after_key(Keyword::Full, symbols) {
+        return Some((JoinWord::Full, after_join(Keyword::Outer, rest)?));
     }
-    Some((JoinWord::Inner, behind_join(Keyword::Inner, symbols)?))
+    Some((JoinWord::Inner, after_join(Keyword::Inner, symbols)?))
 }
 
 pub(crate) fn read_join(
@@ -97,7 +97,7 @@ pub(crate) fn read_filter(
     ensures only { (f : Option Tree) (rest : List OneSymbol) → Spells (filter f) symbols.now rest → BeginsFrom 4 rest
         → Gives with_rest result (Some (f, rest)) }
 {
-    let Some(rest) = behind_key(Keyword::Where, symbols) else {
+    let Some(rest) = after_key(Keyword::Where, symbols) else {
         return Ok((None, symbols));
     };
     let (condition, rest) = boxed_expression(alloc, rest)?;
@@ -112,7 +112,7 @@ pub(crate) fn read_group(
     ensures only { (g : List Tree) (rest : List OneSymbol) → Spells (group g) symbols.now rest → BeginsFrom 5 rest
         → Gives with_rest result (Some (g, rest)) }
 {
-    match behind_by(Keyword::Group, symbols) {
+    match after_by(Keyword::Group, symbols) {
         Some(rest) => read_expressions(alloc, rest),
         None => Ok((Items::of(Vec::new(alloc)), symbols)),
     }
@@ -126,7 +126,7 @@ pub(crate) fn read_partition(
     ensures only { (p : Option Tree) (rest : List OneSymbol) → Spells (partition p) symbols.now rest → BeginsFrom 6 rest
         → Gives with_rest result (Some (p, rest)) }
 {
-    let Some(rest) = behind_by(Keyword::Partition, symbols) else {
+    let Some(rest) = after_by(Keyword::Partition, symbols) else {
         return Ok((None, symbols));
     };
     let (column, rest) = boxed_expression(alloc, rest)?;
@@ -141,27 +141,27 @@ pub(crate) fn read_having(
     ensures only { (h : Option Tree) (rest : List OneSymbol) → Spells (having h) symbols.now rest → BeginsFrom 7 rest
         → Gives with_rest result (Some (h, rest)) }
 {
-    let Some(rest) = behind_key(Keyword::Having, symbols) else {
+    let Some(rest) = after_key(Keyword::Having, symbols) else {
         return Ok((None, symbols));
     };
     let (condition, rest) = boxed_expression(alloc, rest)?;
     Ok((Some(condition), rest))
 }
 
-#[tactic(auto, unfolding(crate::specs::Statements::behind_changes))]
-fn behind_changes(symbols: &[Symbol]) -> Option<&[Symbol]>
-    ensures { option_copied result ≡ part.behind_changes symbols.now }
+#[tactic(auto, unfolding(crate::specs::Statements::after_changes))]
+fn after_changes(symbols: &[Symbol]) -> Option<&[Symbol]>
+    ensures { option_copied result ≡ part.after_changes symbols.now }
 {
-    let rest = behind_key(Keyword::Emit, symbols)?;
-    behind_word("CHANGES", rest)
+    let rest = after_key(Keyword::Emit, symbols)?;
+    after_word("CHANGES", rest)
 }
 
 /// The symbols after EMIT CHANGES, where it is there.
 #[tactic(auto, unfolding(crate::specs::Statements::emit))]
-pub(crate) fn behind_emit(symbols: &[Symbol]) -> &[Symbol]
+pub(crate) fn after_emit(symbols: &[Symbol]) -> &[Symbol]
     ensures { result.now ≡ part.emit symbols.now }
 {
-    match behind_changes(symbols) {
+    match after_changes(symbols) {
         Some(rest) => rest,
         None => symbols,
     }

@@ -5,16 +5,16 @@ ghost use Rattle.ksql_lexer.specs.declared.token.Mark.TheVariants as mark;
 ghost use Rattle.ksql_grammar.specs.declared.symbol.Symbol.{Symbol as OneSymbol};
 ghost use Rattle.ksql_grammar.specs.declared.symbol.Symbol.TheVariants.{Key, Sign};
 ghost use Rattle.ksql_grammar.specs.declared.symbol.Keyword.TheVariants as key;
-ghost use Rattle.ksql_statements.specs.declared.tree.ColumnText.{ColumnText as OneColumn};
-ghost use Rattle.ksql_statements.specs.declared.tree.Property.{Property as OneProperty};
+ghost use Rattle.statement_trees.specs.declared.tree.ColumnText.{ColumnText as OneColumn};
+ghost use Rattle.statement_trees.specs.declared.tree.Property.{Property as OneProperty};
 ghost use Rattle.ksql_parser.specs.Grammar.{Spells, columns, prop_list, props, with_props};
 ghost use Rattle.ksql_grammar.specs.Reading.{Gives, with_rest};
 ghost use Rattle.ksql_parser.specs.Statements as part;
 
-use crate::statement::step::{behind_word, behind_words, name, sign, sql_type};
-use ksql_grammar::{Keyword, ReadError, Symbol, behind_key, behind_sign};
+use crate::statement::step::{after_word, after_words, name, sign, sql_type};
+use ksql_grammar::{Keyword, ReadError, Symbol, after_key, after_sign};
 use ksql_lexer::Mark;
-use ksql_statements::{ColumnText, ColumnTexts, KeyMark, Properties, Property, PropertyValue};
+use statement_trees::{ColumnText, ColumnTexts, KeyMark, Properties, Property, PropertyValue};
 use ksql_types::{CopyOf, Items};
 use std::alloc::Global;
 
@@ -23,10 +23,10 @@ use std::alloc::Global;
 fn key_mark(symbols: &[Symbol]) -> (KeyMark, &[Symbol])
     ensures { with_rest result ≡ part.key_mark symbols.now }
 {
-    if let Some(rest) = behind_word("KEY", symbols) {
+    if let Some(rest) = after_word("KEY", symbols) {
         return (KeyMark::Key, rest);
     }
-    if let Some(rest) = behind_words("PRIMARY", "KEY", symbols) {
+    if let Some(rest) = after_words("PRIMARY", "KEY", symbols) {
         return (KeyMark::PrimaryKey, rest);
     }
     (KeyMark::Plain, symbols)
@@ -58,7 +58,7 @@ pub(crate) fn read_columns(
     loop {
         let (column, behind) = read_column(alloc, rest)?;
         columns.push(column)?;
-        match behind_sign(Mark::Comma, behind) {
+        match after_sign(Mark::Comma, behind) {
             Some(after) => rest = after,
             None => return Ok((Items::of(columns), behind)),
         }
@@ -104,7 +104,7 @@ fn property_list(alloc: Global, symbols: &[Symbol]) -> Result<(Properties, &[Sym
     loop {
         let (property, behind) = read_property(alloc, rest)?;
         properties.push(property)?;
-        match behind_sign(Mark::Comma, behind) {
+        match after_sign(Mark::Comma, behind) {
             Some(after) => rest = after,
             None => return Ok((Items::of(properties), behind)),
         }
@@ -136,7 +136,7 @@ pub(crate) fn optional_properties(
         → Spells (with_props ps) symbols.now (Key key.As ∷ rest)
         → Gives with_rest result (Some (ps, Key key.As ∷ rest)) }
 {
-    match behind_key(Keyword::With, symbols) {
+    match after_key(Keyword::With, symbols) {
         Some(rest) => read_properties(alloc, rest),
         None => Ok((Items::of(Vec::new(alloc)), symbols)),
     }

@@ -4,8 +4,8 @@ ghost use Rattle.std.specs.Prelude.{◌≡◌, List, [], ◌∷◌, Some, IfOk, 
 ghost use Rattle.ksql_grammar.specs.declared.symbol.Keyword.TheVariants as key;
 ghost use Rattle.ksql_grammar.specs.declared.symbol.Symbol.{Symbol as OneSymbol};
 ghost use Rattle.ksql_grammar.specs.declared.symbol.Symbol.TheVariants.{Key};
-ghost use Rattle.ksql_statements.specs.declared.tree.Select.{Select as OneSelect};
-ghost use Rattle.ksql_statements.specs.declared.tree.SelectItem.{SelectItem as OneItem};
+ghost use Rattle.statement_trees.specs.declared.tree.Select.{Select as OneSelect};
+ghost use Rattle.statement_trees.specs.declared.tree.SelectItem.{SelectItem as OneItem};
 ghost use Rattle.ksql_parser.specs.Grammar.{Spells, select, items, item};
 ghost use Rattle.ksql_grammar.specs.Reading.{Gives, with_rest};
 ghost use Rattle.ksql_parser.specs.declared.statement.queries.Clauses.{Clauses as OneClauses};
@@ -16,24 +16,24 @@ ghost use Rattle.ksql_parser.specs.Statements.{BeginsFrom, EndsItem, lent};
 ghost use Rattle.ksql_parser.specs.Statements as part;
 
 use crate::statement::clauses::{
-    behind_emit, read_filter, read_group, read_having, read_join, read_partition, read_source,
+    after_emit, read_filter, read_group, read_having, read_join, read_partition, read_source,
 };
-use crate::statement::step::{alias, behind_name, key};
+use crate::statement::step::{alias, after_name, key};
 use crate::statement::windows::read_window;
-use ksql_expressions::{Expr, ExprTexts};
-use ksql_grammar::{Keyword, ReadError, Symbol, behind_sign, read_expression};
+use expression_trees::{Expr, ExprTexts};
+use ksql_grammar::{Keyword, ReadError, Symbol, after_sign, read_expression};
 use ksql_lexer::Mark;
-use ksql_statements::{JoinText, Select, SelectItem, SelectItems, Source, WindowText};
+use statement_trees::{JoinText, Select, SelectItem, SelectItems, Source, WindowText};
 use ksql_types::{Boxed, Chars, CopyOf, Items};
 use std::alloc::Global;
 
 /// The name before `. *`, and the symbols after.
-fn behind_star_of(symbols: &[Symbol]) -> Option<(&Chars, &[Symbol])>
+fn after_star_of(symbols: &[Symbol]) -> Option<(&Chars, &[Symbol])>
     ensures { option_map lent result ≡ part.star_of symbols.now }
 {
-    let (name, rest) = behind_name(symbols)?;
-    let rest = behind_sign(Mark::Dot, rest)?;
-    let rest = behind_sign(Mark::Star, rest)?;
+    let (name, rest) = after_name(symbols)?;
+    let rest = after_sign(Mark::Dot, rest)?;
+    let rest = after_sign(Mark::Star, rest)?;
     Some((name, rest))
 }
 
@@ -43,10 +43,10 @@ fn read_item(alloc: Global, symbols: &[Symbol]) -> Result<(SelectItem, &[Symbol]
     ensures only { (i : OneItem) (rest : List OneSymbol) → Spells (item i) symbols.now rest → EndsItem rest
         → Gives with_rest result (Some (i, rest)) }
 {
-    if let Some(rest) = behind_sign(Mark::Star, symbols) {
+    if let Some(rest) = after_sign(Mark::Star, symbols) {
         return Ok((SelectItem::Star, rest));
     }
-    if let Some((name, rest)) = behind_star_of(symbols) {
+    if let Some((name, rest)) = after_star_of(symbols) {
         return Ok((SelectItem::StarOf(name.copy(alloc)?), rest));
     }
     let (expr, rest) = read_expression(alloc, symbols)?;
@@ -65,7 +65,7 @@ fn read_items(alloc: Global, symbols: &[Symbol]) -> Result<(SelectItems, &[Symbo
     loop {
         let (item, behind) = read_item(alloc, rest)?;
         items.push(item)?;
-        match behind_sign(Mark::Comma, behind) {
+        match after_sign(Mark::Comma, behind) {
             Some(after) => rest = after,
             None => return Ok((Items::of(items), behind)),
         }
@@ -163,5 +163,5 @@ pub(crate) fn read_select(
 {
     let (front, rest) = read_front(alloc, symbols)?;
     let (clauses, rest) = read_clauses(alloc, rest)?;
-    Ok((select_of(front, clauses), behind_emit(rest)))
+    Ok((select_of(front, clauses), after_emit(rest)))
 }

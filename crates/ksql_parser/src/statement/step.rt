@@ -7,29 +7,29 @@ ghost use Rattle.ksql_grammar.specs.Reading.{Gives, with_rest};
 ghost use Rattle.ksql_grammar.specs.Expressions as read;
 ghost use Rattle.ksql_parser.specs.Statements as part;
 
-use ksql_grammar::{Keyword, ReadError, Symbol, behind_key, behind_sign, name_of, type_of};
+use ksql_grammar::{Keyword, ReadError, Symbol, after_key, after_sign, name_of, type_of};
 use ksql_lexer::Mark;
 use ksql_types::{Chars, CopyOf, SqlType};
 use std::alloc::Global;
 
 /// The symbols after this reserved word, which has to stand there.
 pub(crate) fn key(key: Keyword, symbols: &[Symbol]) -> Result<&[Symbol], ReadError>
-    ensures { Gives (λ rest. rest.now) result (read.behind_key key symbols.now) }
+    ensures { Gives (λ rest. rest.now) result (read.after_key key symbols.now) }
 {
-    behind_key(key, symbols).ok_or(ReadError::Unspelled)
+    after_key(key, symbols).ok_or(ReadError::Unspelled)
 }
 
 /// The symbols after this sign, which has to stand there.
 pub(crate) fn sign(sign: Mark, symbols: &[Symbol]) -> Result<&[Symbol], ReadError>
-    ensures { Gives (λ rest. rest.now) result (read.behind_sign sign symbols.now) }
+    ensures { Gives (λ rest. rest.now) result (read.after_sign sign symbols.now) }
 {
-    behind_sign(sign, symbols).ok_or(ReadError::Unspelled)
+    after_sign(sign, symbols).ok_or(ReadError::Unspelled)
 }
 
 /// The symbols after this word.
-#[tactic(auto, unfolding(crate::specs::Statements::behind_word))]
-pub(crate) fn behind_word<'a>(word: &str, symbols: &'a [Symbol]) -> Option<&'a [Symbol]>
-    ensures { option_copied result ≡ part.behind_word word.now symbols.now }
+#[tactic(auto, unfolding(crate::specs::Statements::after_word))]
+pub(crate) fn after_word<'a>(word: &str, symbols: &'a [Symbol]) -> Option<&'a [Symbol]>
+    ensures { option_copied result ≡ part.after_word word.now symbols.now }
 {
     match symbols {
         [Symbol::Word(found), rest @ ..] if found.items() == word => Some(rest),
@@ -38,37 +38,37 @@ pub(crate) fn behind_word<'a>(word: &str, symbols: &'a [Symbol]) -> Option<&'a [
 }
 
 /// The symbols after these two words.
-#[tactic(auto, unfolding(crate::specs::Statements::behind_words))]
-pub(crate) fn behind_words<'a>(
+#[tactic(auto, unfolding(crate::specs::Statements::after_words))]
+pub(crate) fn after_words<'a>(
     word: &str,
     next: &str,
     symbols: &'a [Symbol],
 ) -> Option<&'a [Symbol]>
-    ensures { option_copied result ≡ part.behind_words word.now next.now symbols.now }
+    ensures { option_copied result ≡ part.after_words word.now next.now symbols.now }
 {
-    let rest = behind_word(word, symbols)?;
-    behind_word(next, rest)
+    let rest = after_word(word, symbols)?;
+    after_word(next, rest)
 }
 
 /// The symbols after this reserved word and BY.
-#[tactic(auto, unfolding(crate::specs::Statements::behind_by))]
-pub(crate) fn behind_by(key: Keyword, symbols: &[Symbol]) -> Option<&[Symbol]>
-    ensures { option_copied result ≡ part.behind_by key symbols.now }
+#[tactic(auto, unfolding(crate::specs::Statements::after_by))]
+pub(crate) fn after_by(key: Keyword, symbols: &[Symbol]) -> Option<&[Symbol]>
+    ensures { option_copied result ≡ part.after_by key symbols.now }
 {
-    let rest = behind_key(key, symbols)?;
-    behind_key(Keyword::By, rest)
+    let rest = after_key(key, symbols)?;
+    after_key(Keyword::By, rest)
 }
 
 /// The symbols after this word, which has to stand there.
 pub(crate) fn word<'a>(word: &str, symbols: &'a [Symbol]) -> Result<&'a [Symbol], ReadError>
-    ensures { Gives (λ rest. rest.now) result (part.behind_word word.now symbols.now) }
+    ensures { Gives (λ rest. rest.now) result (part.after_word word.now symbols.now) }
 {
-    behind_word(word, symbols).ok_or(ReadError::Unspelled)
+    after_word(word, symbols).ok_or(ReadError::Unspelled)
 }
 
 /// A name, and the symbols after it.
 #[tactic(auto, unfolding(ksql_grammar::specs::Expressions::first))]
-pub(crate) fn behind_name(symbols: &[Symbol]) -> Option<(&Chars, &[Symbol])>
+pub(crate) fn after_name(symbols: &[Symbol]) -> Option<(&Chars, &[Symbol])>
     ensures { option_map part.lent result ≡ read.first named symbols.now }
 {
     let (symbol, rest) = symbols.split_first()?;
@@ -79,7 +79,7 @@ pub(crate) fn behind_name(symbols: &[Symbol]) -> Option<(&Chars, &[Symbol])>
 pub(crate) fn name(symbols: &[Symbol]) -> Result<(&Chars, &[Symbol]), ReadError>
     ensures { Gives part.lent result (read.first named symbols.now) }
 {
-    behind_name(symbols).ok_or(ReadError::Unspelled)
+    after_name(symbols).ok_or(ReadError::Unspelled)
 }
 
 /// A type, and the symbols after it.
@@ -93,12 +93,12 @@ pub(crate) fn sql_type(symbols: &[Symbol]) -> Result<(SqlType, &[Symbol]), ReadE
 }
 
 /// The name after AS, and the symbols after it.
-#[tactic(auto, unfolding(crate::specs::Statements::behind_as))]
-fn behind_as(symbols: &[Symbol]) -> Option<(&Chars, &[Symbol])>
-    ensures { option_map part.lent result ≡ part.behind_as symbols.now }
+#[tactic(auto, unfolding(crate::specs::Statements::after_as))]
+fn after_as(symbols: &[Symbol]) -> Option<(&Chars, &[Symbol])>
+    ensures { option_map part.lent result ≡ part.after_as symbols.now }
 {
-    let rest = behind_key(Keyword::As, symbols)?;
-    behind_name(rest)
+    let rest = after_key(Keyword::As, symbols)?;
+    after_name(rest)
 }
 
 /// An alias, where there is one, and the symbols after it.
@@ -109,10 +109,10 @@ pub(crate) fn alias(
 ) -> Result<(Option<Chars>, &[Symbol]), ReadError>
     ensures { Gives with_rest result (part.alias symbols.now) }
 {
-    if let Some((name, rest)) = behind_as(symbols) {
+    if let Some((name, rest)) = after_as(symbols) {
         return Ok((Some(name.copy(alloc)?), rest));
     }
-    if let Some((name, rest)) = behind_name(symbols) {
+    if let Some((name, rest)) = after_name(symbols) {
         return Ok((Some(name.copy(alloc)?), rest));
     }
     Ok((None, symbols))

@@ -2,16 +2,16 @@
 
 ghost use Rattle.std.specs.Prelude.{◌≡◌};
 ghost use Rattle.std.specs.Option.{option_copied};
-ghost use Rattle.ksql_expressions.specs.Words.{beside};
+ghost use Rattle.expression_trees.specs.Words.{beside};
 ghost use Rattle.ksql_grammar.specs.Reading.{Gives, with_rest};
 ghost use Rattle.ksql_grammar.specs.Expressions as read;
 ghost use Rattle.ksql_parser.specs.Grammar as spec;
 ghost use Rattle.ksql_parser.specs.Statements as part;
 
-use crate::statement::step::{behind_word, behind_words, key, sign, word};
-use ksql_grammar::{Keyword, ReadError, Symbol, behind_key, behind_sign};
+use crate::statement::step::{after_word, after_words, key, sign, word};
+use ksql_grammar::{Keyword, ReadError, Symbol, after_key, after_sign};
 use ksql_lexer::Mark;
-use ksql_statements::{SpanText, Unit, WindowText};
+use statement_trees::{SpanText, Unit, WindowText};
 
 /// The unit of time that a word is.
 fn unit_named(word: &str) -> Option<Unit>
@@ -68,27 +68,27 @@ fn span(symbols: &[Symbol]) -> Result<(SpanText, &[Symbol]), ReadError>
     Ok((SpanText { digits, unit }, rest))
 }
 
-#[tactic(auto, unfolding(crate::specs::Statements::behind_retention))]
-fn behind_retention(symbols: &[Symbol]) -> Option<&[Symbol]>
-    ensures { option_copied result ≡ part.behind_retention symbols.now }
+#[tactic(auto, unfolding(crate::specs::Statements::after_retention))]
+fn after_retention(symbols: &[Symbol]) -> Option<&[Symbol]>
+    ensures { option_copied result ≡ part.after_retention symbols.now }
 {
-    let rest = behind_sign(Mark::Comma, symbols)?;
-    behind_word("RETENTION", rest)
+    let rest = after_sign(Mark::Comma, symbols)?;
+    after_word("RETENTION", rest)
 }
 
-#[tactic(auto, unfolding(crate::specs::Statements::behind_grace))]
-fn behind_grace(symbols: &[Symbol]) -> Option<&[Symbol]>
-    ensures { option_copied result ≡ part.behind_grace symbols.now }
+#[tactic(auto, unfolding(crate::specs::Statements::after_grace))]
+fn after_grace(symbols: &[Symbol]) -> Option<&[Symbol]>
+    ensures { option_copied result ≡ part.after_grace symbols.now }
 {
-    let rest = behind_sign(Mark::Comma, symbols)?;
-    behind_words("GRACE", "PERIOD", rest)
+    let rest = after_sign(Mark::Comma, symbols)?;
+    after_words("GRACE", "PERIOD", rest)
 }
 
 /// The retention, where there is one.
 fn retention(symbols: &[Symbol]) -> Result<(Option<SpanText>, &[Symbol]), ReadError>
-    ensures { Gives with_rest result (part.span_at symbols.now (part.behind_retention symbols.now)) }
+    ensures { Gives with_rest result (part.span_at symbols.now (part.after_retention symbols.now)) }
 {
-    let Some(rest) = behind_retention(symbols) else {
+    let Some(rest) = after_retention(symbols) else {
         return Ok((None, symbols));
     };
     let (span, rest) = span(rest)?;
@@ -97,9 +97,9 @@ fn retention(symbols: &[Symbol]) -> Result<(Option<SpanText>, &[Symbol]), ReadEr
 
 /// The grace period, where there is one.
 fn grace(symbols: &[Symbol]) -> Result<(Option<SpanText>, &[Symbol]), ReadError>
-    ensures { Gives with_rest result (part.span_at symbols.now (part.behind_grace symbols.now)) }
+    ensures { Gives with_rest result (part.span_at symbols.now (part.after_grace symbols.now)) }
 {
-    let Some(rest) = behind_grace(symbols) else {
+    let Some(rest) = after_grace(symbols) else {
         return Ok((None, symbols));
     };
     let (span, rest) = span(rest)?;
@@ -175,10 +175,10 @@ fn hopping(symbols: &[Symbol]) -> Result<(WindowText, &[Symbol]), ReadError>
 fn window(symbols: &[Symbol]) -> Result<(WindowText, &[Symbol]), ReadError>
     ensures { Gives with_rest result (part.window symbols.now) }
 {
-    if let Some(rest) = behind_word("TUMBLING", symbols) {
+    if let Some(rest) = after_word("TUMBLING", symbols) {
         return tumbling(rest);
     }
-    match behind_word("HOPPING", symbols) {
+    match after_word("HOPPING", symbols) {
         Some(rest) => hopping(rest),
         None => Err(ReadError::Unspelled),
     }
@@ -189,7 +189,7 @@ fn window(symbols: &[Symbol]) -> Result<(WindowText, &[Symbol]), ReadError>
 pub(crate) fn read_window(symbols: &[Symbol]) -> Result<(Option<WindowText>, &[Symbol]), ReadError>
     ensures { Gives with_rest result (part.windowed symbols.now) }
 {
-    let Some(rest) = behind_key(Keyword::Window, symbols) else {
+    let Some(rest) = after_key(Keyword::Window, symbols) else {
         return Ok((None, symbols));
     };
     let (window, rest) = window(rest)?;

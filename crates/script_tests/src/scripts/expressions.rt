@@ -1,7 +1,7 @@
 use crate::texts::chars;
-use ksql_expressions::Expr;
+use expression_trees::Expr;
 use ksql_grammar::{
-    Keyword, Symbol, behind_key, behind_sign, name_of, read_expression, read_expressions, type_of,
+    Keyword, Symbol, after_key, after_sign, name_of, read_expression, read_expressions, type_of,
 };
 use ksql_lexer::Mark;
 use ksql_types::{CopyOf, SqlType};
@@ -145,8 +145,8 @@ fn expressions_names_and_types(rt: HostRuntime) -> Result<(), Fail> {
         return Err(Fail::from("no list"));
     };
     assert_eq!(rt; exprs.items().len(), 3);
-    assert!(rt; behind_sign(Mark::Close, rest).is_some());
-    assert!(rt; behind_key(Keyword::From, rest).is_none());
+    assert!(rt; after_sign(Mark::Close, rest).is_some());
+    assert!(rt; after_key(Keyword::From, rest).is_none());
     let word = symbol(alloc, "STRING")?;
     assert!(rt; type_of(&word) == Some(SqlType::Text));
     assert_eq!(rt; name_of(&word).map(|name| name.items()), Some("STRING"));

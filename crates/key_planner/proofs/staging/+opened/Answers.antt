@@ -1,7 +1,7 @@
 use Rattle.std.proofs.Common.{◌∙◌, ap, ap₂, sym, ℕ, List}
 use Rattle.ksql_expr.specs.declared.typed.Typed.{Typed}
 use Rattle.ksql_nodes.specs.declared.node.Node.TheVariants as node
-use Rattle.ksql_trees.proofs.Becoming.{moved}
+use Rattle.grouped_expressions.proofs.Becoming.{moved}
 use Rattle.query_meaning.specs.Queries.{side_at}
 use Rattle.logical_plan.specs.declared.tree.Plan.{Plan}
 use Rattle.key_planner.specs.Cuts.{leftmost_of, opened, own_key}

@@ -1,7 +1,7 @@
 use Rattle.std.proofs.Common.{◌≡◌, ◌∙◌, ap, sym, subst, IfOk}
 use Rattle.ksql_nodes.specs.declared.node.Node.{Node}
 use Rattle.ksql_nodes.specs.declared.node.Node.TheVariants as node
-use Rattle.ksql_trees.proofs.Becoming.{moved}
+use Rattle.grouped_expressions.proofs.Becoming.{moved}
 use Rattle.topology.specs.declared.stage.Link.TheVariants.{Relation}
 use Rattle.logical_plan.specs.declared.tree.Plan.{Plan}
 use Rattle.key_planner.specs.Cuts.{closed, opened, with_node}

@@ -1,8 +1,8 @@
 use Rattle.std.proofs.Common.{◌∙◌, Some, Bor, refl, ap, subst, sym}
 use Rattle.std.specs.Prelude.{option_map}
 use Rattle.std.proofs.lemmas.Option.{same_Some}
-use Rattle.ksql_expressions.specs.declared.tree.Expr.{Expr}
-use Rattle.ksql_names.specs.declared.scope.Scope.{Scope}
+use Rattle.expression_trees.specs.declared.tree.Expr.{Expr}
+use Rattle.ksql_scopes.specs.declared.scope.Scope.{Scope}
 use Rattle.ksql_typing.specs.Standing.{IsTypedTree}
 use Rattle.ksql_clauses.specs.Sources.{on_scope}
 use Rattle.ksql_clauses.specs.Keys.{join_key}

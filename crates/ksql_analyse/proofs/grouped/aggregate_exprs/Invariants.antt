@@ -1,6 +1,6 @@
 use Rattle.std.proofs.Common.{◌≡◌, take}
 use Rattle.std.specs.List.{flat_map}
-use Rattle.ksql_grouping.specs.Grouping.{aggregates_of}
+use Rattle.aggregate_rules.specs.Grouping.{aggregates_of}
 use Rattle.ksql_analyse.specs.Judgement.{exprs}
 use Rattle.ksql_analyse.proofs.grouped.aggregate_exprs.Given as goal
 

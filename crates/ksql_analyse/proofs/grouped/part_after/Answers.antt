@@ -1,9 +1,9 @@
 use Rattle.std.proofs.Common.{◌∙◌, All, [], Option, Some, ap, subst, sym}
 use Rattle.std.proofs.lemmas.List.Elements.{All-head}
-use Rattle.ksql_expressions.specs.declared.tree.Expr.{Expr}
+use Rattle.expression_trees.specs.declared.tree.Expr.{Expr}
 use Rattle.ksql_clauses.specs.Sources.{there}
 use Rattle.ksql_typing.specs.Standing.{IsTypedTree}
-use Rattle.ksql_trees.specs.Grouped.{after}
+use Rattle.grouped_expressions.specs.Grouped.{after}
 use Rattle.ksql_analyse.specs.Judgement.{IsTypedPart}
 use Rattle.ksql_analyse.specs.Typable.{IsTypable}
 use Rattle.ksql_analyse.proofs.grouped.part_after.Goals as goal

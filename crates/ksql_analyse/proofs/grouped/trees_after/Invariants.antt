@@ -1,5 +1,5 @@
 use Rattle.std.proofs.Common.{◌≡◌, map, take}
-use Rattle.ksql_trees.specs.Grouped.{after}
+use Rattle.grouped_expressions.specs.Grouped.{after}
 use Rattle.ksql_analyse.proofs.grouped.trees_after.Given as goal
 
 abbrev pub invariant-loop-tree : goal.invariant-loop-tree

@@ -2,7 +2,7 @@ use Rattle.std.proofs.Common.{◌+◌, [], ap, sym, ◌∙◌, subst}
 use Rattle.std.proofs.lemmas.Result.{err_from_is_err_and}
 use Rattle.std.specs.Prelude.{Ok, Err}
 use Rattle.std.proofs.lemmas.List.Elements.{All-get_or}
-use Rattle.ksql_statements.specs.declared.tree.Statement.{Statement}
+use Rattle.statement_trees.specs.declared.tree.Statement.{Statement}
 use Rattle.ksql_rules.specs.Limits.{IsWithinLimits}
 use Rattle.ksql_analyse.specs.Few.{HasFewCalls}
 use Rattle.ksql_analyse.proofs.unique.Behind.{Done, none-done, one-next, one-more, judged-whole, fault-judged}

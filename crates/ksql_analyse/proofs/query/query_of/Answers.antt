@@ -1,5 +1,5 @@
 use Rattle.std.proofs.Common.{All, subst, sym}
-use Rattle.ksql_names.specs.declared.scope.Scope.{Scope}
+use Rattle.ksql_scopes.specs.declared.scope.Scope.{Scope}
 use Rattle.ksql_clauses.specs.Sources.{there}
 use Rattle.ksql_analyse.specs.Typable.{IsTypable}
 use Rattle.ksql_analyse.proofs.query.query_of.Goals as goal

@@ -1,5 +1,5 @@
 use Rattle.std.proofs.Common.{◌∙◌, ap, map, subst, sym}
-use Rattle.ksql_trees.specs.Grouped.{after}
+use Rattle.grouped_expressions.specs.Grouped.{after}
 use Rattle.ksql_analyse.specs.Typable.{AreColumnTrees}
 use Rattle.ksql_analyse.proofs.forms.ValuedTrees.{trees-after}
 use Rattle.ksql_analyse.proofs.shape.after_of.Goals as goal

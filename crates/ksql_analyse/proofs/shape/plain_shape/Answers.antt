@@ -1,6 +1,6 @@
 use Rattle.std.proofs.Common.{All, map, ap, sym, ◌∙◌, subst}
 use denote.Bor.{Bor}
-use Rattle.ksql_names.specs.declared.scope.Scope.{Scope}
+use Rattle.ksql_scopes.specs.declared.scope.Scope.{Scope}
 use Rattle.ksql_clauses.specs.declared.items.Named.{Named}
 use Rattle.ksql_clauses.specs.Sources.{item_scope}
 use Rattle.ksql_analyse.specs.Judgement.{AreTypedTrees, exprs}

@@ -1,6 +1,6 @@
 use Rattle.std.proofs.Common.{All, [], Option, subst}
 use Rattle.std.proofs.lemmas.List.Elements.{All-head}
-use Rattle.ksql_expressions.specs.declared.tree.Expr.{Expr}
+use Rattle.expression_trees.specs.declared.tree.Expr.{Expr}
 use Rattle.ksql_clauses.specs.Sources.{there}
 use Rattle.ksql_analyse.specs.Typable.{IsTypable}
 use Rattle.ksql_analyse.proofs.trees.part_tree.Goals as goal

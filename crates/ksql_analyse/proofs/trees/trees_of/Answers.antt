@@ -1,6 +1,6 @@
 use Rattle.std.proofs.Common.{List, arith, subst, sym}
 use Rattle.std.proofs.lemmas.List.Elements.{All-get_or}
-use Rattle.ksql_expressions.specs.declared.tree.Expr.{Expr}
+use Rattle.expression_trees.specs.declared.tree.Expr.{Expr}
 use Rattle.ksql_analyse.specs.Judgement.{AreTypedTrees}
 use Rattle.ksql_analyse.specs.Typable.{IsValued}
 use Rattle.ksql_analyse.proofs.lists.Pushing.{all-taken, trees-next}

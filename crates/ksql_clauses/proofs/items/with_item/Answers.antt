@@ -1,7 +1,7 @@
 use Rattle.std.proofs.Common.{◌≡◌, ◌++◌, ◌∷◌, [], Some, None, ap, sym, ◌∙◌}
-use Rattle.ksql_statements.specs.declared.tree.SelectItem.TheVariants.{One}
+use Rattle.statement_trees.specs.declared.tree.SelectItem.TheVariants.{One}
 use Rattle.ksql_clauses.specs.Items.{named, named_from, all_stars, stars_of}
-use Rattle.ksql_names.specs.Resolved.{resolved}
+use Rattle.ksql_scopes.specs.Resolved.{resolved}
 use Rattle.ksql_clauses.proofs.Naming.{appended, from-Star, from-StarOf, from-alias}
 use Rattle.ksql_clauses.proofs.items.with_item.Goals as goal
 

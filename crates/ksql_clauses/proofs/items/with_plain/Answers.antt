@@ -1,6 +1,6 @@
 use Rattle.std.proofs.Common.{◌≡◌, ◌+◌, ◌++◌, ◌∷◌, [], suc, Some, None, ap, sym, ◌∙◌, add-one}
 use Rattle.ksql_clauses.specs.Items.{plain_name, named, named_from, numbered_name}
-use Rattle.ksql_names.specs.Resolved.{resolved}
+use Rattle.ksql_scopes.specs.Resolved.{resolved}
 use Rattle.ksql_clauses.proofs.Naming.{appended, from-plain, from-numbered}
 use Rattle.ksql_clauses.proofs.items.with_plain.Goals as goal
 

@@ -1,5 +1,5 @@
 use Rattle.std.proofs.Common.{◌≡◌, Some, map, take}
-use Rattle.ksql_expressions.specs.declared.tree.Expr.TheVariants as e
+use Rattle.expression_trees.specs.declared.tree.Expr.TheVariants as e
 use Rattle.ksql_clauses.specs.Keys.{alone}
 use Rattle.ksql_clauses.proofs.keys.each_key.Given as goal
 

@@ -1,6 +1,6 @@
 use Rattle.std.proofs.Common.{◌≡◌, Some, None, ap, sym, ◌∙◌}
 use Rattle.std.specs.Prelude.{find}
-use Rattle.ksql_names.specs.Scope.{is_known_as}
+use Rattle.ksql_scopes.specs.Scope.{is_known_as}
 use Rattle.ksql_clauses.specs.Sought.{use_of}
 use Rattle.ksql_clauses.proofs.LeftNames.{left-none, left-alone, left-of}
 use Rattle.ksql_clauses.proofs.left_names.is_left_name.Goals as goal

@@ -1,6 +1,6 @@
 use Rattle.ksql_outside.specs.Outside.{Rose}
 use Rattle.ksql_cli.specs.declared.status.Status.TheVariants as ended
-use Rattle.ksql_words.specs.Words.{command_of}
+use Rattle.command_line.specs.Words.{command_of}
 use Rattle.ksql_cli.specs.Command.{HasCause, HasText}
 use Rattle.ksql_cli.specs.Fault.{fault_line}
 use Rattle.ksql_cli.proofs.Causes.{complete_of, exact_done, exact_fault, exact_refusal, fault-cause, front_written, wrote_either}

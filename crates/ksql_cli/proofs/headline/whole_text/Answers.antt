@@ -1,7 +1,7 @@
 use Rattle.std.proofs.Common.{◌≡◌, ◌∙◌, ap, subst, sym, List, ◌++◌, ℕ}
 use Rattle.std.specs.Prelude.{IfSome, Option, Some}
 use Rattle.std.specs.List.{AllByRecursion}
-use Rattle.ksql_words.specs.declared.asked.Command.{Command}
+use Rattle.command_line.specs.declared.asked.Command.{Command}
 use Rattle.ksql_cli.specs.Command.{IsDueFor}
 use Rattle.ksql_cli.proofs.headline.whole_text.Goals as goal
 

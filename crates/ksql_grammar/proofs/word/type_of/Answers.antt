@@ -1,6 +1,6 @@
 use Rattle.std.proofs.Common.{sym}
 use Rattle.ksql_grammar.specs.Symbols.{type_words}
-use Rattle.ksql_expressions.proofs.Words.{beside_none}
+use Rattle.expression_trees.proofs.Words.{beside_none}
 use Rattle.ksql_grammar.proofs.word.type_of.Goals as goal
 
 pub returns-in_default : goal.returns-in_default

@@ -11,16 +11,16 @@ loop-rest-init c = record {
   reached = subst (λ ts. Reached c.args.text.now c.args.text.now ts (record { statement = 1; begun = false }) true) (sym c.new-tokens.ensures.items) (reached_start _ _ _ refl refl refl);
 }
 
-pub behind-at-requires : goal.behind-at-requires
+pub after-at-requires : goal.after-at-requires
 unfolding longest_text
-behind-at-requires c = omega (arith, c.loop-rest.invariant.reached.bound, c.requires)
+after-at-requires c = omega (arith, c.loop-rest.invariant.reached.bound, c.requires)
 
 -- a token is taken
 pub loop-rest-preserved : goal.loop-rest-preserved
 loop-rest-preserved c = record {
   utf8 = search rules;
   reached = subst₂ (λ ts at. Reached c.args.text.now c.in-Ok-Some.found.rest.now ts at c.read_place.new.closes)
-      (sym c.in_ok-push.ensures.items) (sym c.behind-at.ensures)
+      (sym c.in_ok-push.ensures.items) (sym c.after-at.ensures)
       (reached_next c.args.text.now c.loop-rest.rest.now _ c.loop-rest.tokens.items c.loop-rest.at c.loop-rest.closes c.read_place.new.closes c.in-Some.kind
       (record { kind = c.in-Some.kind; statement = c.loop-rest.at.statement })
       c.loop-rest.invariant.reached c.read_place.ensures.closes

@@ -3,9 +3,9 @@ use Rattle.std.proofs.lemmas.Result.{err_from_is_err_and}
 use Rattle.ksql_lexer.specs.declared.token.Mark.TheVariants as mark
 use Rattle.ksql_grammar.specs.declared.symbol.Keyword.TheVariants as key
 use Rattle.ksql_grammar.specs.declared.symbol.Symbol.TheVariants.{Key, Sign}
-use Rattle.ksql_statements.specs.declared.tree.StatementBody.TheVariants.{Declared}
+use Rattle.statement_trees.specs.declared.tree.StatementBody.TheVariants.{Declared}
 use Rattle.ksql_grammar.specs.Reading.{with_rest}
-use Rattle.ksql_grammar.specs.Expressions.{behind_key, behind_sign}
+use Rattle.ksql_grammar.specs.Expressions.{after_key, after_sign}
 use Rattle.ksql_parser.proofs.Steps.{behind, along, failed, same_read}
 use Rattle.ksql_grammar.proofs.Steps.{if_some, key_found, sign_found}
 use Rattle.ksql_parser.proofs.Readings.{sign_read, key_read, sign_unread, key_unread}
@@ -16,8 +16,8 @@ pub returns-clause-found : goal.returns-clause-found
 returns-clause-found c =
     let us = c.in_ok-columns.rest.now in
     let vs = c.in_ok-rest.rest.now in
-    let e = if_some (behind_sign mark.Close us) (λ xs. us ≡ Sign mark.Close ∷ xs) vs (sign_found mark.Close us) c.in_ok-rest.ensures in
-    let f = if_some (behind_key key.With vs) (λ xs. vs ≡ Key key.With ∷ xs) c.in_ok-rest-2.rest.now (key_found key.With vs) c.in_ok-rest-2.ensures in
+    let e = if_some (after_sign mark.Close us) (λ xs. us ≡ Sign mark.Close ∷ xs) vs (sign_found mark.Close us) c.in_ok-rest.ensures in
+    let f = if_some (after_key key.With vs) (λ xs. vs ≡ Key key.With ∷ xs) c.in_ok-rest-2.rest.now (key_found key.With vs) c.in_ok-rest-2.ensures in
     (c.in_ok-rest-2.rest.now, along c.in_ok-columns.ensures.found (e ∙ ap (λ xs. Sign mark.Close ∷ xs) f), c.in_ok-props.ensures.found)
 
 pub returns-in_err-columns-clause-only : goal.returns-in_err-columns-clause-only

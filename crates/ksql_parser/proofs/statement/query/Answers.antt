@@ -4,11 +4,11 @@ use Rattle.std.proofs.lemmas.Result.{err_from_is_err_and}
 use Rattle.ksql_grammar.specs.declared.symbol.Keyword.TheVariants as key
 use Rattle.ksql_grammar.specs.declared.symbol.Symbol.{Symbol}
 use Rattle.ksql_grammar.specs.declared.symbol.Symbol.TheVariants.{Key}
-use Rattle.ksql_statements.specs.declared.tree.Property.{Property}
-use Rattle.ksql_statements.specs.declared.tree.Select.{Select}
-use Rattle.ksql_statements.specs.declared.tree.StatementBody.{StatementBody}
+use Rattle.statement_trees.specs.declared.tree.Property.{Property}
+use Rattle.statement_trees.specs.declared.tree.Select.{Select}
+use Rattle.statement_trees.specs.declared.tree.StatementBody.{StatementBody}
 use Rattle.ksql_grammar.specs.Reading.{with_rest}
-use Rattle.ksql_grammar.specs.Expressions.{behind_key}
+use Rattle.ksql_grammar.specs.Expressions.{after_key}
 use Rattle.ksql_parser.proofs.Steps.{behind, along, failed, same_read}
 use Rattle.ksql_grammar.proofs.Steps.{if_some, key_found}
 use Rattle.ksql_parser.proofs.Calls.{failed_at}
@@ -20,7 +20,7 @@ pub returns-clause-found : goal.returns-clause-found
 returns-clause-found c =
     let us = c.in_ok-props.rest.now in
     let vs = c.in_ok-rest.rest.now in
-    (vs, along c.in_ok-props.ensures.found (if_some (behind_key key.As us) (λ vs. us ≡ Key key.As ∷ vs) vs (key_found key.As us) c.in_ok-rest.ensures), c.in_ok-select.ensures.found)
+    (vs, along c.in_ok-props.ensures.found (if_some (after_key key.As us) (λ vs. us ≡ Key key.As ∷ vs) vs (key_found key.As us) c.in_ok-rest.ensures), c.in_ok-select.ensures.found)
 
 pub returns-in_err-props-clause-only : goal.returns-in_err-props-clause-only
 returns-in_err-props-clause-only c = λ b d.
@@ -34,7 +34,7 @@ returns-in_err-rest-clause-only c = λ b d.
     let h = query_parts b c.args.symbols.now [] d in
     let x = same_read (c.in_ok-props.props, c.in_ok-props.rest) h.0 (Key key.As ∷ h.2) (c.in_ok-props.ensures.only h.0 h.2 h.4) in
     let p = err_from_is_err_and c.from_residual-in_err-rest.result c.from_residual-in_err-rest.ensures.1 in
-    rw (p.1, p.2) (failed_at (λ (x : Bor (List Symbol)). x.now) (with_rest {A = StatementBody}) c.in_err-rest.field-0.0 (behind_key key.As us) h.2 (b, []) (key_is key.As us h.2 (sym x.1)) c.in_err-rest.ensures)
+    rw (p.1, p.2) (failed_at (λ (x : Bor (List Symbol)). x.now) (with_rest {A = StatementBody}) c.in_err-rest.field-0.0 (after_key key.As us) h.2 (b, []) (key_is key.As us h.2 (sym x.1)) c.in_err-rest.ensures)
 
 pub returns-in_err-select-clause-only : goal.returns-in_err-select-clause-only
 returns-in_err-select-clause-only c = λ b d.

@@ -1,5 +1,5 @@
 use Rattle.std.proofs.Common.{sym}
-use Rattle.ksql_expressions.proofs.Words.{beside_none}
+use Rattle.expression_trees.proofs.Words.{beside_none}
 use Rattle.ksql_parser.specs.Words.{expression_words}
 use Rattle.ksql_parser.proofs.words.expression_keyword.Goals as goal
 

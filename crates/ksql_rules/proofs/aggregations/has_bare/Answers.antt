@@ -1,9 +1,9 @@
 use Rattle.std.proofs.Common.{◌≡◌, ◌||◌, ap₂, sym, ◌∙◌}
 use Rattle.std.specs.Prelude.{option_map}
 use Rattle.std.specs.List.{list_any}
-use Rattle.ksql_grouping.specs.Grouping.{has_bare_column}
+use Rattle.aggregate_rules.specs.Grouping.{has_bare_column}
 use Rattle.ksql_clauses.specs.Items.{result_columns}
-use Rattle.ksql_names.specs.Resolved.{resolved}
+use Rattle.ksql_scopes.specs.Resolved.{resolved}
 use Rattle.ksql_clauses.specs.Sources.{item_scope, there}
 use Rattle.ksql_rules.specs.Breaks.{group_exprs}
 use Rattle.ksql_rules.proofs.Mapped.{parts}

@@ -1,6 +1,6 @@
 use Rattle.std.proofs.Common.{◌≡◌, ◌||◌, ap, ap₂, ◌∙◌}
 use Rattle.std.specs.List.{list_any}
-use Rattle.ksql_names.specs.Uses.{has_unknown_function}
+use Rattle.ksql_scopes.specs.Uses.{has_unknown_function}
 use Rattle.ksql_clauses.specs.Sources.{early_exprs, late_exprs}
 use Rattle.ksql_rules.proofs.Mapped.{lent}
 use Rattle.ksql_rules.proofs.aggregations.has_unknown.Goals as goal

@@ -1,6 +1,6 @@
 use Rattle.std.proofs.Common.{ap, ◌∙◌}
 use Rattle.std.specs.List.{list_any}
-use Rattle.ksql_grouping.specs.Grouping.{has_aggregate}
+use Rattle.aggregate_rules.specs.Grouping.{has_aggregate}
 use Rattle.ksql_clauses.specs.Sources.{late_exprs}
 use Rattle.ksql_rules.proofs.Mapped.{lent}
 use Rattle.ksql_rules.proofs.aggregations.is_aggregated.Goals as goal

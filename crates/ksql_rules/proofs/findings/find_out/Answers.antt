@@ -1,8 +1,8 @@
 use Rattle.std.proofs.Common.{◌≡◌, ◌-◌, ◌^◌, ◌≤◌, All, map, length, ap, ap₂, sym, ◌∙◌, subst}
 use Rattle.std.specs.Prelude.{option_map}
 use Rattle.ksql_clauses.specs.Items.{result_columns}
-use Rattle.ksql_names.specs.Resolved.{resolved}
-use Rattle.ksql_names.specs.Uses.{IsSmall}
+use Rattle.ksql_scopes.specs.Resolved.{resolved}
+use Rattle.ksql_scopes.specs.Uses.{IsSmall}
 use Rattle.ksql_clauses.specs.Sources.{from_scope, item_scope, on_scope, on_exprs, front_exprs, late_exprs}
 use Rattle.ksql_rules.specs.Findings.{IsFound}
 use Rattle.ksql_clauses.specs.Keys.{first_of, join_key, needs}

@@ -1,6 +1,6 @@
 use Rattle.std.proofs.Common.{◌<◌, length, subst, sym, arith}
 use Rattle.std.proofs.lemmas.List.Elements.{All-get_or}
-use Rattle.ksql_names.specs.Uses.{IsSmall}
+use Rattle.ksql_scopes.specs.Uses.{IsSmall}
 use Rattle.ksql_rules.proofs.Within.{All-unmap}
 use Rattle.ksql_rules.proofs.findings.found_in.Goals as goal
 

@@ -1,6 +1,6 @@
 use Rattle.std.proofs.Common.{◌≡◌, ◌&&◌, ◌++◌, All, ap, ap₂, sym, ◌∙◌, subst}
 use Rattle.std.specs.List.{flat_map, list_all}
-use Rattle.ksql_names.specs.Uses.{IsSmall}
+use Rattle.ksql_scopes.specs.Uses.{IsSmall}
 use Rattle.ksql_clauses.specs.Items.{result_columns}
 use Rattle.ksql_clauses.specs.Sources.{from_scope, on_scope, item_scope, there, item_exprs, on_exprs}
 use Rattle.ksql_rules.specs.Decided.{fits_truth, is_valued, does_on_agree}

@@ -1,11 +1,11 @@
 use Rattle.std.proofs.Common.{◌≡◌, ◌<◌, ◌&&◌, true, nat_le, IfOk, length, map, take, not, ap, ap₂, sym, ◌∙◌, subst, arith}
 use Rattle.std.proofs.lemmas.Bool.Decides.{nat_tests}
 use Rattle.std.specs.List.{sum_by}
-use Rattle.ksql_expressions.specs.declared.tree.Expr.TheVariants as ex
-use Rattle.ksql_names.specs.Functions.{is_aggregate}
-use Rattle.ksql_names.specs.Scope.{seen}
-use Rattle.ksql_names.specs.Uses.{is_small, are_small, are_whens_small}
-use Rattle.ksql_names.proofs.Small.{small-Digits, small-Sign, small-Binary, small-Not, small-IsNull, small-Between, small-OneOf, small-Like, small-Cast, small-Case, small-Call}
+use Rattle.expression_trees.specs.declared.tree.Expr.TheVariants as ex
+use Rattle.ksql_scopes.specs.Functions.{is_aggregate}
+use Rattle.ksql_scopes.specs.Scope.{seen}
+use Rattle.ksql_scopes.specs.Uses.{is_small, are_small, are_whens_small}
+use Rattle.ksql_scopes.proofs.Small.{small-Digits, small-Sign, small-Binary, small-Not, small-IsNull, small-Between, small-OneOf, small-Like, small-Cast, small-Case, small-Call}
 use Rattle.ksql_typing.specs.Judged as j
 use Rattle.ksql_typing.specs.Judged.{AreOf, AreOfWhens, judged, judged_when}
 use Rattle.ksql_typing.proofs.Judging.{judged-Digits, judged-Text, judged-Truth, judged-Null, judged-Name, judged-Sign, judged-Binary, judged-Not, judged-IsNull, judged-Between, judged-OneOf, judged-Like, judged-Cast, judged-Case, judged-Call}

@@ -1,7 +1,7 @@
 use Rattle.std.proofs.Common.{◌+◌, take}
 use Rattle.std.specs.List.{sum_by}
 use Rattle.std.specs.Prelude.{map}
-use Rattle.ksql_names.specs.Scope.{seen}
+use Rattle.ksql_scopes.specs.Scope.{seen}
 use Rattle.ksql_typing.specs.Judged.{AreOf, AreOfWhens, judged, judged_when}
 use Rattle.ksql_typing.proofs.Weights.{weight, weight_when, weight_perhaps}
 use Rattle.ksql_typing.proofs.judge.+judge.Given as goal

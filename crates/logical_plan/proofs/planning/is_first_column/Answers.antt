@@ -1,6 +1,6 @@
 use Rattle.std.proofs.Common.{sym}
 use Rattle.ksql_expr.specs.declared.typed.TypedNode.TheVariants as form
-use Rattle.ksql_trees.proofs.Equality.{decided}
+use Rattle.grouped_expressions.proofs.Equality.{decided}
 use Rattle.logical_plan.proofs.planning.is_first_column.Goals as goal
 
 pub returns : goal.returns

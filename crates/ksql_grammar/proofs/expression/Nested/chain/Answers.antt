@@ -1,6 +1,6 @@
 use Rattle.std.proofs.Common.{suc, sym, ap, ◌∙◌, length, Ok, Err, arith}
 use Rattle.std.proofs.lemmas.Result.{err_from_is_err_and}
-use Rattle.ksql_expressions.specs.declared.tree.Expr.TheVariants.{Binary}
+use Rattle.expression_trees.specs.declared.tree.Expr.TheVariants.{Binary}
 use Rattle.ksql_grammar.specs.Reading.{with_rest}
 use Rattle.ksql_grammar.specs.Expressions.{within, chain, chain_with, operator_at, operand_of}
 use Rattle.ksql_grammar.proofs.Chains.{chain_empty, chain_starts, chain_stops, chain_fails, chain_turn, first_takes}

@@ -3,7 +3,7 @@ use Rattle.std.proofs.lemmas.Result.{err_from_is_err_and}
 use Rattle.ksql_grammar.specs.declared.symbol.Keyword.TheVariants as key
 use Rattle.ksql_grammar.specs.declared.symbol.Symbol.TheVariants.{Key}
 use Rattle.ksql_parser.specs.Grammar.{no_filter, a_filter}
-use Rattle.ksql_grammar.specs.Expressions.{behind_key}
+use Rattle.ksql_grammar.specs.Expressions.{after_key}
 use Rattle.ksql_parser.proofs.Steps.{behind, copied_of}
 use Rattle.ksql_grammar.proofs.Steps.{key_found}
 use Rattle.ksql_parser.proofs.Only.{filter_absent, filter_there, clause_read, clause_failed}
@@ -18,18 +18,18 @@ returns-in_default-clause-only c = λ f rest d b. filter_absent c.args.symbols.n
 pub returns-in_err-condition-clause-only : goal.returns-in_err-condition-clause-only
 returns-in_err-condition-clause-only c = λ f rest d b.
     let ts = c.args.symbols.now in
-    let e = copied_of c.behind_key.result (behind_key key.Where ts) (λ us. ts ≡ Key key.Where ∷ us) c.in-Some.rest (key_found key.Where ts) c.behind_key.ensures c.in-Some.is in
+    let e = copied_of c.after_key.result (after_key key.Where ts) (λ us. ts ≡ Key key.Where ∷ us) c.in-Some.rest (key_found key.Where ts) c.after_key.ensures c.in-Some.is in
     let p = err_from_is_err_and c.from_residual.result c.from_residual.ensures.1 in
     rw (p.1, p.2) (clause_failed f c.in-Some.rest.now rest c.in_err-condition.field-0.0 (filter_there ts c.in-Some.rest.now rest f e b d) c.in_err-condition.ensures.only)
 
 pub returns-clause-found : goal.returns-clause-found
 returns-clause-found c =
     let ts = c.args.symbols.now in
-    behind (copied_of c.behind_key.result (behind_key key.Where ts) (λ us. ts ≡ Key key.Where ∷ us) c.in-Some.rest (key_found key.Where ts) c.behind_key.ensures c.in-Some.is)
+    behind (copied_of c.after_key.result (after_key key.Where ts) (λ us. ts ≡ Key key.Where ∷ us) c.in-Some.rest (key_found key.Where ts) c.after_key.ensures c.in-Some.is)
     (a_filter c.in_ok-condition.ensures.found)
 
 pub returns-clause-only : goal.returns-clause-only
 returns-clause-only c = λ f rest d b.
     let ts = c.args.symbols.now in
-    let e = copied_of c.behind_key.result (behind_key key.Where ts) (λ us. ts ≡ Key key.Where ∷ us) c.in-Some.rest (key_found key.Where ts) c.behind_key.ensures c.in-Some.is in
+    let e = copied_of c.after_key.result (after_key key.Where ts) (λ us. ts ≡ Key key.Where ∷ us) c.in-Some.rest (key_found key.Where ts) c.after_key.ensures c.in-Some.is in
     clause_read f c.in-Some.rest.now rest (c.in_ok-condition.condition, c.in_ok-condition.rest) (filter_there ts c.in-Some.rest.now rest f e b d) c.in_ok-condition.ensures.only

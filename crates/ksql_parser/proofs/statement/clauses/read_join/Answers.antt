@@ -4,14 +4,14 @@ use Rattle.std.proofs.lemmas.Result.{err_from_is_err_and}
 use Rattle.ksql_grammar.specs.declared.symbol.Keyword.TheVariants as key
 use Rattle.ksql_grammar.specs.declared.symbol.Symbol.{Symbol}
 use Rattle.ksql_grammar.specs.declared.symbol.Symbol.TheVariants.{Key}
-use Rattle.ksql_expressions.specs.declared.tree.Expr.{Expr}
-use Rattle.ksql_statements.specs.declared.tree.JoinText.{JoinText}
-use Rattle.ksql_statements.specs.declared.tree.JoinWord.{JoinWord}
-use Rattle.ksql_statements.specs.declared.tree.Source.{Source}
+use Rattle.expression_trees.specs.declared.tree.Expr.{Expr}
+use Rattle.statement_trees.specs.declared.tree.JoinText.{JoinText}
+use Rattle.statement_trees.specs.declared.tree.JoinWord.{JoinWord}
+use Rattle.statement_trees.specs.declared.tree.Source.{Source}
 use Rattle.ksql_parser.specs.Grammar as g
 use Rattle.ksql_parser.specs.Grammar.{Spells, no_join, a_join}
 use Rattle.ksql_grammar.specs.Reading.{with_rest}
-use Rattle.ksql_grammar.specs.Expressions.{behind_key}
+use Rattle.ksql_grammar.specs.Expressions.{after_key}
 use Rattle.ksql_parser.specs.Statements as r
 use Rattle.ksql_grammar.proofs.Found.{behind}
 use Rattle.ksql_parser.proofs.Steps.{along, failed, same_read}
@@ -49,7 +49,7 @@ returns-in_err-rest-clause-only c = λ j rest d b.
     let h = join_there j ts rest c.in-Some.kind us (words ts us c.in-Some.kind c.in-Some.ensures) b d in
     let s = same_at (r.source us) (c.in_ok-source.source, c.in_ok-source.rest) h.0 (Key key.On ∷ h.2) h.4 c.in_ok-source.ensures in
     let p = err_from_is_err_and c.from_residual-in_err-rest.result c.from_residual-in_err-rest.ensures.1 in
-    rw (p.1, p.2) (failed_at (λ (x : Bor (List Symbol)). x.now) (with_rest {A = Option JoinText}) c.in_err-rest.field-0.0 (behind_key key.On vs) h.2 (j, rest) (key_is key.On vs h.2 (sym s.1)) c.in_err-rest.ensures)
+    rw (p.1, p.2) (failed_at (λ (x : Bor (List Symbol)). x.now) (with_rest {A = Option JoinText}) c.in_err-rest.field-0.0 (after_key key.On vs) h.2 (j, rest) (key_is key.On vs h.2 (sym s.1)) c.in_err-rest.ensures)
 
 pub returns-in_err-on-clause-only : goal.returns-in_err-on-clause-only
 returns-in_err-on-clause-only c = λ j rest d b.
@@ -70,7 +70,7 @@ returns-clause-found c =
     subst (λ j. Spells (g.joined (Some j)) ts c.in_ok-on.rest.now) (sym c.in_ok-join.ensures)
     (a_join (words ts us c.in-Some.kind c.in-Some.ensures)
     (along (if_some (r.source us) (λ x. Spells (g.source x.0) us x.1) (c.in_ok-source.source, vs) (source_found us) c.in_ok-source.ensures)
-    (if_some (behind_key key.On vs) (λ ws. vs ≡ Key key.On ∷ ws) c.in_ok-rest.rest.now (key_found key.On vs) c.in_ok-rest.ensures))
+    (if_some (after_key key.On vs) (λ ws. vs ≡ Key key.On ∷ ws) c.in_ok-rest.rest.now (key_found key.On vs) c.in_ok-rest.ensures))
     c.in_ok-on.ensures.found)
 
 pub returns-clause-only : goal.returns-clause-only

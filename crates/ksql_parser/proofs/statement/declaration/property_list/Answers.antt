@@ -5,7 +5,7 @@ use Rattle.ksql_grammar.specs.declared.symbol.Symbol.TheVariants.{Sign}
 use Rattle.ksql_parser.specs.Grammar as g
 use Rattle.ksql_parser.specs.Grammar.{Spells}
 use Rattle.ksql_grammar.specs.Reading.{with_rest}
-use Rattle.ksql_grammar.specs.Expressions.{behind_sign, list_of}
+use Rattle.ksql_grammar.specs.Expressions.{after_sign, list_of}
 use Rattle.ksql_grammar.proofs.Chains.{with_front, list_fails, list_last, list_goes}
 use Rattle.ksql_grammar.proofs.Errors.{gives_err}
 use Rattle.ksql_grammar.proofs.Whole.{sign_fewer}
@@ -23,8 +23,8 @@ loop-properties-smaller c =
 pub loop-properties-preserved : goal.loop-properties-preserved
 loop-properties-preserved c =
     let after = c.in-Some.after.now in
-    ap (λ front. with_front front (list_of property (behind_sign Comma) (suc (length after)) after)) c.in_ok-push.ensures.items
-    ∙ sym (list_goes property (behind_sign Comma) property_takes (sign_fewer Comma) c.loop-properties.properties.items c.loop-properties.rest.now
+    ap (λ front. with_front front (list_of property (after_sign Comma) (suc (length after)) after)) c.in_ok-push.ensures.items
+    ∙ sym (list_goes property (after_sign Comma) property_takes (sign_fewer Comma) c.loop-properties.properties.items c.loop-properties.rest.now
     (c.in_ok-property.property, c.in_ok-property.behind.now) after c.in_ok-property.ensures (sym c.in-Some.ensures))
     ∙ c.loop-properties.invariant
 
@@ -35,16 +35,16 @@ returns-in_err-property-clause-only c = λ ps rest d.
     let p = err_from_is_err_and c.from_residual.result c.from_residual.ensures.1 in
     rw (p.1, p.2) (gives_err with_rest with_rest c.in_err-property.field-0.0 (property us) (Some (ps, Sign Close ∷ rest)) c.in_err-property.ensures
     (λ none. sym (properties_only ps ts (Sign Close ∷ rest) (suc (length ts)) (omega arith) (rest, refl) d)
-    ∙ sym c.loop-properties.invariant ∙ list_fails property (behind_sign Comma) c.loop-properties.properties.items (length us) us none))
+    ∙ sym c.loop-properties.invariant ∙ list_fails property (after_sign Comma) c.loop-properties.properties.items (length us) us none))
 
 pub returns-in-None-clause-found : goal.returns-in-None-clause-found
 returns-in-None-clause-found c =
     let ts = c.args.symbols.now in
     let us = c.loop-properties.rest.now in
     let behind = c.in_ok-property.behind.now in
-    if_some (list_of property (behind_sign Comma) (suc (length ts)) ts) (λ x. Spells (g.prop_list x.0) ts x.1) (c.of.result, behind) (properties_found (suc (length ts)) ts)
+    if_some (list_of property (after_sign Comma) (suc (length ts)) ts) (λ x. Spells (g.prop_list x.0) ts x.1) (c.of.result, behind) (properties_found (suc (length ts)) ts)
     (sym c.loop-properties.invariant
-    ∙ list_last property (behind_sign Comma) c.loop-properties.properties.items (length us) us (c.in_ok-property.property, behind) c.in_ok-property.ensures (sym c.in-None.ensures)
+    ∙ list_last property (after_sign Comma) c.loop-properties.properties.items (length us) us (c.in_ok-property.property, behind) c.in_ok-property.ensures (sym c.in-None.ensures)
     ∙ ap (λ xs. Some (xs, behind)) (sym c.in_ok-push.ensures.items ∙ sym c.of.ensures))
 
 pub returns-in-None-clause-only : goal.returns-in-None-clause-only
@@ -54,5 +54,5 @@ returns-in-None-clause-only c = λ ps rest d.
     let behind = c.in_ok-property.behind.now in
     sym (properties_only ps ts (Sign Close ∷ rest) (suc (length ts)) (omega arith) (rest, refl) d)
     ∙ sym c.loop-properties.invariant
-    ∙ list_last property (behind_sign Comma) c.loop-properties.properties.items (length us) us (c.in_ok-property.property, behind) c.in_ok-property.ensures (sym c.in-None.ensures)
+    ∙ list_last property (after_sign Comma) c.loop-properties.properties.items (length us) us (c.in_ok-property.property, behind) c.in_ok-property.ensures (sym c.in-None.ensures)
     ∙ ap (λ xs. Some (xs, behind)) (sym c.in_ok-push.ensures.items ∙ sym c.of.ensures)

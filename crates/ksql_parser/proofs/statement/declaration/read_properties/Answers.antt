@@ -4,7 +4,7 @@ use Rattle.ksql_lexer.specs.declared.token.Mark.TheVariants as mark
 use Rattle.ksql_grammar.specs.declared.symbol.Symbol.TheVariants.{Sign}
 use Rattle.ksql_parser.specs.Grammar.{all_props}
 use Rattle.ksql_grammar.specs.Reading.{with_rest}
-use Rattle.ksql_grammar.specs.Expressions.{behind_sign}
+use Rattle.ksql_grammar.specs.Expressions.{after_sign}
 use Rattle.ksql_parser.proofs.Steps.{behind, along, failed, same_read}
 use Rattle.ksql_grammar.proofs.Steps.{if_some, sign_found}
 use Rattle.ksql_parser.proofs.Readings.{sign_read, sign_unread}
@@ -15,8 +15,8 @@ pub returns-clause-found : goal.returns-clause-found
 returns-clause-found c =
     let ts = c.args.symbols.now in
     let us = c.in_ok-properties.rest.now in
-    behind (if_some (behind_sign mark.Open ts) (λ us. ts ≡ Sign mark.Open ∷ us) c.in_ok-rest.rest.now (sign_found mark.Open ts) c.in_ok-rest.ensures)
-    (all_props (along c.in_ok-properties.ensures.found (if_some (behind_sign mark.Close us) (λ vs. us ≡ Sign mark.Close ∷ vs) c.in_ok-rest-2.rest.now (sign_found mark.Close us) c.in_ok-rest-2.ensures)))
+    behind (if_some (after_sign mark.Open ts) (λ us. ts ≡ Sign mark.Open ∷ us) c.in_ok-rest.rest.now (sign_found mark.Open ts) c.in_ok-rest.ensures)
+    (all_props (along c.in_ok-properties.ensures.found (if_some (after_sign mark.Close us) (λ vs. us ≡ Sign mark.Close ∷ vs) c.in_ok-rest-2.rest.now (sign_found mark.Close us) c.in_ok-rest-2.ensures)))
 
 pub returns-clause-only : goal.returns-clause-only
 returns-clause-only c = λ ps rest d.

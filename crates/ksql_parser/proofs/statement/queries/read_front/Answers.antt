@@ -4,15 +4,15 @@ use Rattle.std.proofs.lemmas.Result.{err_from_is_err_and}
 use Rattle.ksql_grammar.specs.declared.symbol.Keyword.TheVariants as key
 use Rattle.ksql_grammar.specs.declared.symbol.Symbol.{Symbol}
 use Rattle.ksql_grammar.specs.declared.symbol.Symbol.TheVariants.{Key}
-use Rattle.ksql_expressions.specs.declared.tree.Expr.{Expr}
-use Rattle.ksql_statements.specs.declared.tree.JoinText.{JoinText}
-use Rattle.ksql_statements.specs.declared.tree.SelectItem.{SelectItem}
-use Rattle.ksql_statements.specs.declared.tree.Source.{Source}
-use Rattle.ksql_statements.specs.declared.tree.WindowText.{WindowText}
+use Rattle.expression_trees.specs.declared.tree.Expr.{Expr}
+use Rattle.statement_trees.specs.declared.tree.JoinText.{JoinText}
+use Rattle.statement_trees.specs.declared.tree.SelectItem.{SelectItem}
+use Rattle.statement_trees.specs.declared.tree.Source.{Source}
+use Rattle.statement_trees.specs.declared.tree.WindowText.{WindowText}
 use Rattle.ksql_parser.specs.Grammar as g
 use Rattle.ksql_parser.specs.Grammar.{Spells}
 use Rattle.ksql_grammar.specs.Reading.{with_rest}
-use Rattle.ksql_grammar.specs.Expressions.{behind_key}
+use Rattle.ksql_grammar.specs.Expressions.{after_key}
 use Rattle.ksql_parser.specs.declared.statement.queries.Front.{Front}
 use Rattle.ksql_parser.specs.Queries.{SpellsFront}
 use Rattle.ksql_parser.specs.Statements as r
@@ -57,8 +57,8 @@ returns-clause-found c =
       us,
       c.in_ok-source.rest.now,
       ws,
-      if_some (behind_key key.Select ts) (λ us. ts ≡ Key key.Select ∷ us) c.in_ok-rest.rest.now (key_found key.Select ts) c.in_ok-rest.ensures,
-      along c.in_ok-items.ensures.found (if_some (behind_key key.From vs) (λ us. vs ≡ Key key.From ∷ us) us (key_found key.From vs) c.in_ok-rest-2.ensures),
+      if_some (after_key key.Select ts) (λ us. ts ≡ Key key.Select ∷ us) c.in_ok-rest.rest.now (key_found key.Select ts) c.in_ok-rest.ensures,
+      along c.in_ok-items.ensures.found (if_some (after_key key.From vs) (λ us. vs ≡ Key key.From ∷ us) us (key_found key.From vs) c.in_ok-rest-2.ensures),
       if_some (r.source us) (λ x. Spells (g.source x.0) us x.1) (c.in_ok-source.source, c.in_ok-source.rest.now) (source_found us) c.in_ok-source.ensures,
       c.in_ok-join.ensures.found,
       if_some (r.windowed ws) (λ x. Spells (g.windowed x.0) ws x.1) (c.in_ok-window.window, c.in_ok-window.rest.now) (windowed_found ws) c.in_ok-window.ensures,
@@ -68,7 +68,7 @@ pub returns-in_err-rest-clause-only : goal.returns-in_err-rest-clause-only
 returns-in_err-rest-clause-only c = λ f rest d b.
     let ts = c.args.symbols.now in
     let p = err_from_is_err_and c.from_residual.result c.from_residual.ensures.1 in
-    rw (p.1, p.2) (failed_at (λ (x : Bor (List Symbol)). x.now) (with_rest {A = Front}) c.in_err-rest.field-0.0 (behind_key key.Select ts) d.0 (f, rest) (key_is key.Select ts d.0 d.4) c.in_err-rest.ensures)
+    rw (p.1, p.2) (failed_at (λ (x : Bor (List Symbol)). x.now) (with_rest {A = Front}) c.in_err-rest.field-0.0 (after_key key.Select ts) d.0 (f, rest) (key_is key.Select ts d.0 d.4) c.in_err-rest.ensures)
 
 pub returns-in_err-items-clause-only : goal.returns-in_err-items-clause-only
 returns-in_err-items-clause-only c = λ f rest d b.
@@ -83,7 +83,7 @@ returns-in_err-rest-2-clause-only c = λ f rest d b.
     let x = items_read (goal.at.returns-in_err-rest-2-clause-only c).In_ok-items f rest d in
     let vs = c.in_ok-items.rest.now in
     let p = err_from_is_err_and c.from_residual-in_err-rest-2.result c.from_residual-in_err-rest-2.ensures.1 in
-    rw (p.1, p.2) (failed_at (λ (x : Bor (List Symbol)). x.now) (with_rest {A = Front}) c.in_err-rest-2.field-0.0 (behind_key key.From vs) d.1 (f, rest) (key_is key.From vs d.1 (sym x.1)) c.in_err-rest-2.ensures)
+    rw (p.1, p.2) (failed_at (λ (x : Bor (List Symbol)). x.now) (with_rest {A = Front}) c.in_err-rest-2.field-0.0 (after_key key.From vs) d.1 (f, rest) (key_is key.From vs d.1 (sym x.1)) c.in_err-rest-2.ensures)
 
 pub returns-in_err-source-clause-only : goal.returns-in_err-source-clause-only
 returns-in_err-source-clause-only c = λ f rest d b.

@@ -4,10 +4,10 @@ use Rattle.ksql_lexer.specs.declared.token.Mark.TheVariants as mark
 use Rattle.ksql_grammar.specs.declared.symbol.Keyword.TheVariants as key
 use Rattle.ksql_grammar.specs.declared.symbol.Symbol.{Symbol}
 use Rattle.ksql_grammar.specs.declared.symbol.Symbol.TheVariants.{Key, Sign}
-use Rattle.ksql_statements.specs.declared.tree.SelectItem.{SelectItem}
+use Rattle.statement_trees.specs.declared.tree.SelectItem.{SelectItem}
 use Rattle.ksql_parser.specs.Grammar.{Spells, items, last_item}
 use Rattle.ksql_grammar.specs.Reading.{with_rest}
-use Rattle.ksql_grammar.specs.Expressions.{behind_sign}
+use Rattle.ksql_grammar.specs.Expressions.{after_sign}
 use Rattle.ksql_grammar.proofs.Whole.{sign_fewer}
 use Rattle.ksql_parser.proofs.Steps.{along, failed}
 use Rattle.ksql_grammar.proofs.Steps.{if_some, sign_found}
@@ -36,7 +36,7 @@ loop-items-preserved c =
     let us = c.in_ok-item.behind.now in
     let vs = c.in-Some.after.now in
     let whole = c.args.symbols.now in
-    let comma = if_some (behind_sign mark.Comma us) (λ vs. us ≡ Sign mark.Comma ∷ vs) vs (sign_found mark.Comma us) (sym c.in-Some.ensures) in
+    let comma = if_some (after_sign mark.Comma us) (λ vs. us ≡ Sign mark.Comma ∷ vs) vs (sign_found mark.Comma us) (sym c.in-Some.ensures) in
     record {
       spelled = subst (λ xs. FrontSpelled xs vs whole) (sym c.in_ok-push.ensures.items) (spelled_more front c.in_ok-item.item ts vs whole c.loop-items.invariant.spelled (along c.in_ok-item.ensures.found comma));
       only = subst (λ xs. FrontOnly xs vs whole) (sym c.in_ok-push.ensures.items)

@@ -1,7 +1,7 @@
 use Rattle.std.proofs.Common.{◌≡◌, List, [], Option, Some, refl, sym, ap, ◌∙◌, subst}
 use Rattle.std.proofs.lemmas.Result.{err_from_is_err_and}
 use Rattle.ksql_grammar.specs.declared.symbol.Symbol.{Symbol}
-use Rattle.ksql_statements.specs.declared.tree.Select.{Select}
+use Rattle.statement_trees.specs.declared.tree.Select.{Select}
 use Rattle.ksql_grammar.specs.Reading.{with_rest}
 use Rattle.ksql_parser.specs.Grammar.{Spells, select}
 use Rattle.ksql_parser.specs.declared.statement.queries.Front.{Front}
@@ -14,9 +14,9 @@ use Rattle.ksql_parser.proofs.statement.queries.read_select.Goals as goal
 
 pub returns-clause-found : goal.returns-clause-found
 returns-clause-found c =
-    subst (λ q. Spells (select q) c.args.symbols.now c.behind_emit.result.now) (sym c.select_of.ensures)
+    subst (λ q. Spells (select q) c.args.symbols.now c.after_emit.result.now) (sym c.select_of.ensures)
     (along (select_found c.in_ok-front.front c.in_ok-clauses.clauses c.args.symbols.now c.in_ok-front.rest.now c.in_ok-clauses.rest.now c.in_ok-front.ensures.found c.in_ok-clauses.ensures.found)
-    (sym c.behind_emit.ensures))
+    (sym c.after_emit.ensures))
 
 pub returns-in_err-front-clause-only : goal.returns-in_err-front-clause-only
 returns-in_err-front-clause-only c = λ q d.
@@ -38,5 +38,5 @@ returns-clause-only c = λ q d.
     let x = same_read (c.in_ok-front.front, c.in_ok-front.rest) (front_of q) h.0 (c.in_ok-front.ensures.only (front_of q) h.0 h.2 h.4) in
     let clauses = subst (λ ts. SpellsClauses (clauses_of q) ts h.1) x.1 h.3 in
     let y = same_read (c.in_ok-clauses.clauses, c.in_ok-clauses.rest) (clauses_of q) h.1 (c.in_ok-clauses.ensures.only (clauses_of q) h.1 clauses h.5) in
-    select_read q c.in_ok-front.front c.in_ok-clauses.clauses h.1 c.in_ok-clauses.rest.now c.behind_emit.result.now x.0 y.0 y.1 h.6 c.behind_emit.ensures
-    ∙ ap (λ x. both x c.behind_emit.result.now) (sym c.select_of.ensures)
+    select_read q c.in_ok-front.front c.in_ok-clauses.clauses h.1 c.in_ok-clauses.rest.now c.after_emit.result.now x.0 y.0 y.1 h.6 c.after_emit.ensures
+    ∙ ap (λ x. both x c.after_emit.result.now) (sym c.select_of.ensures)

@@ -1,6 +1,6 @@
 use Rattle.std.proofs.Common.{sym}
 use Rattle.ksql_parser.specs.Grammar.{unit_words}
-use Rattle.ksql_expressions.proofs.Words.{beside_none}
+use Rattle.expression_trees.proofs.Words.{beside_none}
 use Rattle.ksql_parser.proofs.statement.windows.unit_named.Goals as goal
 
 pub returns-in_default : goal.returns-in_default

@@ -1,7 +1,0 @@
-use Rattle.std.proofs.Common.{◌≡◌, length}
-use Rattle.cluster_rows.specs.Runs.{numbered}
-use Rattle.cluster_rows.proofs.running.scheduled.Given as goal
-
--- the steps so far, of which the last has this line
-abbrev pub invariant-loop-step : goal.invariant-loop-step
-invariant-loop-step l = record { line : l.line ≡ length l.yielded; lined : l.lined.items ≡ numbered 1 l.yielded }

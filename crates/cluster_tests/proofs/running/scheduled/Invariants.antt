@@ -1,0 +1,7 @@
+use Rattle.std.proofs.Common.{◌≡◌, length}
+use Rattle.cluster_tests.specs.Runs.{numbered}
+use Rattle.cluster_tests.proofs.running.scheduled.Given as goal
+
+-- the steps so far, of which the last has this line
+abbrev pub invariant-loop-step : goal.invariant-loop-step
+invariant-loop-step l = record { line : l.line ≡ length l.yielded; lined : l.lined.items ≡ numbered 1 l.yielded }

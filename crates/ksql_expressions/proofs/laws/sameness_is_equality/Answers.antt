@@ -1,5 +1,0 @@
-use Rattle.ksql_expressions.proofs.Equality.{equal, same}
-use Rattle.ksql_expressions.proofs.laws.sameness_is_equality.Goals as goal
-
-pub returns : goal.returns
-returns c = λ a b. (equal a b, same a b)

@@ -1,9 +1,0 @@
-//! Laws of expressions. None of these functions does anything.
-ghost use Rattle.std.specs.Prelude.{◌≡◌, ◌↔◌, true};
-ghost use Rattle.ksql_expressions.specs.declared.tree.Expr.{Expr as Tree};
-ghost use Rattle.ksql_expressions.specs.Same.{same_expr};
-
-/// Two expressions are one exactly where they are equal.
-pub fn sameness_is_equality()
-    ensures { (a b : Tree) → (same_expr a b ≡ true) ↔ (a ≡ b) }
-{}

@@ -1,8 +1,0 @@
-use Rattle.std.proofs.Common.{◌≡◌, drop}
-use Rattle.std.specs.List.{list_any}
-use Rattle.ksql_grouping.specs.Grouping.{has_aggregate}
-use Rattle.ksql_grouping.proofs.columns.one_has_aggregate.Given as goal
-
--- what is left decides
-abbrev pub invariant-loop-expr : goal.invariant-loop-expr
-invariant-loop-expr l = list_any has_aggregate (drop l.expr-index l.expr-items) ≡ list_any has_aggregate l.expr-items

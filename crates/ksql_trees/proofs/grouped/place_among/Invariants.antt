@@ -1,7 +1,0 @@
-use Rattle.std.proofs.Common.{◌≡◌, drop}
-use Rattle.ksql_trees.specs.Grouped.{place_from, place_among}
-use Rattle.ksql_trees.proofs.grouped.place_among.Given as goal
-
--- what is left decides
-abbrev pub invariant-loop-i : goal.invariant-loop-i
-invariant-loop-i l = place_from l.i (drop l.i l.columns) l.node ≡ place_among l.columns l.node
