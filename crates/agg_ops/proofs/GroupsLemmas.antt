@@ -1,4 +1,4 @@
--- The groups of a store: what is read of them, and one more entry.
+-- The groups of a store: reading them, and one more entry.
 use Rattle.std.proofs.Common.{◌≡◌, ◌∙◌, ap, refl, sym, subst, List, [], ◌∷◌, ◌++◌, ℕ, Bool, true, false, cond}
 use Rattle.std.specs.Prelude.{Option, None, Some, IfSome, option_map, unwrap_or}
 use Rattle.std.proofs.lemmas.List.{append-nil}
@@ -24,7 +24,7 @@ use Rattle.agg_ops.specs.Groups.{HoldsGroups}
 use Rattle.agg_ops.specs.Totals.{kept_time, next_totals, result_of, changed}
 use Rattle.agg_ops.proofs.TotalsLemmas.{totals-more, outcome-of}
 
--- what stands under the bytes of a key
+-- the value under the bytes of a key
 pub groups-read : (over : Kind) (aggs : List Agg) (m : Values) (es : List Entry) (key : List Value) → HoldsGroups over aggs m es → IsSpellableRow key →
     get m (values key) ≡ option_map values (totals over aggs (of_key key es))
 groups-read over aggs m es key h spelled =
@@ -77,7 +77,7 @@ time-of : (over : Kind) (aggs : List Agg) (es : List Entry) (e : Entry) → kept
 time-of over aggs [] e = refl
 time-of over aggs (d ∷ es) e = refl
 
--- the change of a group is that of what is kept of it
+-- the change of a group depends only on what is kept of it
 pub change-of : (over : Kind) (aggs : List Agg) (span : Option Span) (es : List Entry) (e : Entry) (before after : List Value) →
     before ≡ unwrap_or (totals over aggs es) [] → after ≡ next_totals over aggs e.change before → changed e.change span before after ≡ group_change over aggs span es e
 change-of over aggs span es e before after first then =
@@ -89,7 +89,7 @@ change-of over aggs span es e before after first then =
     let new : result_of e.change.key span after ≡ outcome over aggs e.change.key span all = ap (result_of e.change.key span) last ∙ sym (outcome-of over aggs e.change.key span all) in
     λ i. record { place = e.change.place; time = time i; key = e.change.key; span = span; body = Turned (old i) (new i) }
 
--- what a step gives with aggregates that are lent
+-- what a step gives with borrowed aggregates
 pub same-aggs : (over : Kind) (lent aggs : List Agg) (old new : Values) (before after : List Change) (change : Change) (side : ℕ) (es : List Entry) → lent ≡ aggs →
     (HoldsGroups over lent old es →
     (after ≡ before ++ group_change over lent None (of_key change.key es) (record { side = side; change = change }) ∷ [])

@@ -86,7 +86,7 @@ pub totals-more : (over : Kind) (aggs : List Agg) (es : List Entry) (e : Entry) 
 totals-more over aggs [] e = ap₂ (λ t (vs : List Value). Some (Big (pos t) ∷ vs)) (time-more [] e) (worths-first over aggs e)
 totals-more over aggs (d ∷ es) e = ap₂ (λ t (vs : List Value). Some (Big (pos t) ∷ vs)) (time-more (d ∷ es) e) (worths-more over aggs (d ∷ es) e)
 
--- the result of a group is that of what is kept of it
+-- the result of a group depends only on what is kept of it
 pub outcome-of : (over : Kind) (aggs : List Agg) (group : List Value) (span : Option Span) (es : List Entry) →
     outcome over aggs group span es ≡ result_of group span (unwrap_or (totals over aggs es) [])
 outcome-of over aggs group span [] = refl

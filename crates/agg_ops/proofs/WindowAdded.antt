@@ -26,7 +26,7 @@ use Rattle.agg_ops.proofs.Lists.{All-both, All-weaker, filter-none, filter-same,
 use Rattle.agg_ops.proofs.WindowStarts.{IsOfOneStart, bytes-start, each-among, map-once, rise-each, span-same, span-self, start-under, under-apart, windows-rise}
 use Rattle.agg_ops.proofs.WindowTimes.{time-at, times-each, times-late, times-more}
 
--- ---- what stands under some bytes
+-- ---- the value under some bytes
 
 -- what `is_under` and `is_one_of` test of a window: whether it is open, and under these bytes
 abbrev pub is_open_at : Window → ℕ → List ℕ → List Value → Span → Bool
@@ -157,7 +157,8 @@ absorb true true q = and-true q
 absorb true false q = refl
 absorb false l q = refl
 
--- a window of an entry is under the bytes of an open window of a key where it is that window, and the entry has that key
+-- a window of an entry is under the bytes of an open window of a key where it is that window, and the entry has that
+-- key
 under-own : (w : Window) (time : ℕ) (key : List Value) (s : Span) (t : Timed) (a : Span) → IsSpellableRow key → IsSpellableRow t.entry.change.key → s.start < 2 ^ 64 → a.start < 2 ^ 64 →
     s.end ≡ s.start + w.size → a.end ≡ a.start + w.size → nat_lt time (s.end + w.grace) ≡ true →
     is_under w time (under (values key) s.start) t a ≡ ((is_same_key t.entry.change.key key && is_added w s t) && is_same_span s a)
@@ -192,7 +193,7 @@ flat_map-kept f p (t ∷ ts) h = ap₂ (λ a b. a ++ b) h.0 (flat_map-kept f p t
     by true = refl
     by false = refl
 
--- under the bytes of an open window of a key stand the entries that were added to it
+-- the entries under the bytes of an open window of a key are those that were added to it
 pub added-under : (w : Window) (time : ℕ) (es : List Entry) (key : List Value) (s : Span) → 0 < w.advance → time < 2 ^ 64 → latest_time es ≤ time → AllByRecursion HasSpelledKey es → IsSpellableRow key →
     s.start ≤ time → s.end ≡ s.start + w.size → nat_lt time (s.end + w.grace) ≡ true →
     added_upto time w es (under (values key) s.start) ≡ added w s key (with_times 1 es)

@@ -1,4 +1,5 @@
--- What the store of a windowed aggregate holds: at a later stream time, and window by window while one more entry is added.
+-- What the store of a windowed aggregate holds: at a later stream time, and window by window while one more entry is
+-- added.
 use Rattle.std.proofs.Common.{◌≡◌, ◌∙◌, ap, ap₂, refl, sym, subst, ℕ, ◌+◌, ◌-◌, ◌<◌, ◌≤◌, ◌^◌, List, [], ◌∷◌, ◌++◌, Bool, true, false, cond, arith}
 use Rattle.std.proofs.Math.Bool.{or-false}
 use Rattle.std.proofs.lemmas.List.{append-nil}
@@ -76,7 +77,7 @@ pub next-at : (w : Window) (time : ℕ) (e : Entry) (earlier : List Span) (s : S
 next-at w time e earlier s later at =
     rise-at w 0 e.change.time earlier later s (subst (Rise w 0 e.change.time) at.windows (windows-rise w e.change.time (sound-parts w at.sound).moves))
 
--- none of the earlier windows stands under its bytes
+-- none of the earlier windows has its bytes
 none-earlier : (time : ℕ) (w : Window) (key : List Value) (start : ℕ) (spans : List Span) → start < 2 ^ 64 → AllByRecursion (λ a. a.start < start) spans →
     is_one_of time w key spans (under (values key) start) ≡ false
 none-earlier time w key start [] small h = refl
@@ -109,7 +110,7 @@ module _ (aggs : List Agg) (w : Window) (m : Values) (time : ℕ) (es : List Ent
       ap (λ c. added_upto time w es (under (values e.change.key) s.start) ++ cond c (e ∷ []) []) none-before
       ∙ append-nil (added_upto time w es (under (values e.change.key) s.start)) ∙ all-under
 
-  -- what stands under its bytes
+  -- the value under its bytes
   pub windows-read : get m (under (values e.change.key) s.start) ≡ option_map values (totals Stream aggs (added w s e.change.key (with_times 1 es)))
   windows-read = h.windows (under (values e.change.key) s.start) ∙ ap (λ es. option_map values (totals Stream aggs es)) so-far
 

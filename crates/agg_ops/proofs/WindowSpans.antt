@@ -29,7 +29,7 @@ filter-all p f a zero all = refl
 filter-all p f a (suc n) all =
     ap₂ (λ b rest. cond b (f a ∷ rest) rest) (all a (omega arith)) (filter-all p f (a + 1) n (λ k h. all k (omega arith)))
 
--- numbers of which a test holds from a + d on alone
+-- numbers that pass a test exactly from a + d on
 filter-from : {A : Type 0} (p : A → Bool) (f : ℕ → A) (d a n : ℕ) → ((k : ℕ) → a ≤ k → k < a + d → p (f k) ≡ false) → ((k : ℕ) → a + d ≤ k → p (f k) ≡ true) →
     filter p (map f (range_with_len a (d + n))) ≡ map f (range_with_len (a + d) n)
 filter-from p f zero a n below above =

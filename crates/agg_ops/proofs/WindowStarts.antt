@@ -69,7 +69,7 @@ pub rise-each : (w : Window) (first last : ℕ) (ss : List Span) → Rise w firs
 rise-each w first last [] h = tt
 rise-each w first last (s ∷ ss) h = ((h.1, h.2), rise-each w (s.start + 1) last ss h.3)
 
--- where one of some spans that rise stands
+-- the place of one of some spans that rise
 pub record StandsAt (w : Window) (low high : ℕ) (spans : List Span) (s : Span) : Type 0 where
   pub first : low ≤ s.start
   pub last : s.start ≤ high

@@ -47,7 +47,7 @@ enumerate-more n [] x = ap (λ (i : ℕ). (i, x) ∷ []) (omega arith)
 enumerate-more n (y ∷ xs) x =
     ap (λ rest. (n, y) ∷ rest) (enumerate-more (n + 1) xs x ∙ ap (λ (i : ℕ). enumerate_from (n + 1) xs ++ (i, x) ∷ []) (omega arith))
 
--- what is said of the change of the window under these bytes, whatever was kept of it
+-- the change of the window with these bytes, whatever was kept of it
 abbrev pub IsTurnOf : List Agg → Change → List ℕ → ℕ → Span → Values → Values → Change → Type 0
 IsTurnOf aggs change at i s m n made =
     (kept : Option (List Value)) → IfSome kept AreSpellable → get m at ≡ option_map values kept →
@@ -86,7 +86,7 @@ module _ (aggs : List Agg) (w : Window) (time : ℕ) (es : List Entry) (e : Entr
       ∙ ap (λ (j : ℕ). given_of aggs w es e (take i spans) ++ (change (j, s) ++ [])) long
       ∙ ap (λ (made : List Change). given_of aggs w es e (take i spans) ++ made) (append-nil (change (i, s)))
 
-  -- the change of the window, where it is open
+  -- the change of the window, if it is open
   change-at : (b : Bool) → nat_lt time (s.end + w.grace) ≡ b →
       window_change Stream aggs w (with_times 1 es) (timed 1 es e) (i, s)
       ≡ cond b (at_path (e.change.place.path ++ i ∷ []) (group_change Stream aggs (Some s) (added w s e.change.key (with_times 1 es)) e) ∷ []) []

@@ -1,4 +1,4 @@
--- Entries with their own stream times, where there is one lane.
+-- Entries with their own stream times, if any lane.
 use Rattle.std.proofs.Common.{◌≡◌, ◌∙◌, ap, ap₂, refl, sym, ℕ, ◌≤◌, List, [], ◌∷◌, ◌++◌, cond, arith}
 use Rattle.std.proofs.lemmas.Bool.Decides.{Decides-eqb}
 use Rattle.std.specs.List.{AllByRecursion}

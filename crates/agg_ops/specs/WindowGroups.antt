@@ -15,27 +15,27 @@ use Rattle.window_store.specs.Windows.{under}
 use Rattle.operator.specs.Kept.{is_under, totals}
 use Rattle.operator.specs.StandsFor.{HasSpelledKey}
 
--- the entries that were added to the window under these bytes, where this stream time leaves it open
+-- the entries that were added to the window with these bytes, if it is still open at this stream time
 abbrev pub added_upto : ℕ → Window → List Entry → List ℕ → List Entry
 added_upto time w es b = flat_map (λ t. map (λ s. t.entry) (filter (is_under w time b t) (windows_of w t.entry.change.time))) (with_times 1 es)
 
--- these values are what is kept of the windows of some entries that a stream time leaves open, each under the bytes of its key and its
--- start, and nothing else; no entry is later than that time
+-- these values are what is kept of the windows of some entries that are still open at a stream time, each under the
+-- bytes of its key and start, and nothing else; no entry is later than that time
 pub record HoldsWindows (aggs : List Agg) (w : Window) (m : Values) (time : ℕ) (es : List Entry) : Type 0 where
   pub keys : AllByRecursion HasSpelledKey es
   pub spelled : (b : List ℕ) → IfSome (totals Stream aggs (added_upto time w es b)) AreSpellable
   pub windows : (b : List ℕ) → get m b ≡ option_map values (totals Stream aggs (added_upto time w es b))
   pub late : latest_time es ≤ time
 
--- whether one of some windows of a key, which a stream time leaves open, stands under these bytes
+-- whether one of some windows of a key, still open at a stream time, has these bytes
 abbrev pub is_one_of : ℕ → Window → List Value → List Span → List ℕ → Bool
 is_one_of time w key spans b = list_any (λ s. nat_lt time (s.end + w.grace) && bytes_eq b (under (values key) s.start)) spans
 
--- the entries of the window under these bytes, where one more was added to some of its windows
+-- the entries of the window with these bytes after one more was added to some of its windows
 abbrev pub added_partly : ℕ → Window → List Entry → Entry → List Span → List ℕ → List Entry
 added_partly time w es e spans b = added_upto time w es b ++ (if is_one_of time w e.change.key spans b then e ∷ [] else [])
 
--- the same as `HoldsWindows`, where one more entry was added to some of its windows
+-- the same as `HoldsWindows`, after one more entry was added to some of its windows
 pub record HoldsPartly (aggs : List Agg) (w : Window) (m : Values) (time : ℕ) (es : List Entry) (e : Entry) (spans : List Span) : Type 0 where
   pub keys : AllByRecursion HasSpelledKey es
   pub key : HasSpelledKey e

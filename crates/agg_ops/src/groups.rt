@@ -1,80 +1,71 @@
 //! The groups of a stream or of a table, without windows.
-ghost use Rattle.std.specs.Prelude.{◌≡◌, ℕ, suc, ◌<◌, ◌≤◌, ◌^◌, false, List, [], ◌∷◌, ◌++◌, None, All, IfOk, OnOk, OnErr, length};
+ghost use Rattle.std.specs.Prelude.{◌≡◌, ℕ, suc, ◌<◌, ◌≤◌, ◌^◌, List, [], ◌∷◌, ◌++◌, None, All, OnOk, OnErr, length};
 ghost use Rattle.ksql_nodes.specs.declared.node.Node.TheVariants as nodes;
 ghost use Rattle.ksql_nodes.specs.Aggregates.{group_change};
 ghost use Rattle.ksql_nodes.specs.Entries.{Entry, of_key};
 ghost use Rattle.state_store.specs.Store.{Values, IsBase};
 ghost use Rattle.record_codec.specs.Spelling.{IsShort};
 ghost use Rattle.operator.specs.Holding.{nothing};
-ghost use Rattle.operator.specs.StandsFor.{StandsFor};
 ghost use Rattle.operator.specs.Storable.{HasShortArguments};
 ghost use Rattle.agg_ops.specs.Groups.{HoldsGroups};
+ghost use Rattle.agg_ops.specs.Totals.{is_plain_aggregate};
 
 use crate::totals::{kept_time, room_for_result, turn_of};
 use crate::turn::turned;
+use ksql_nodes::Node;
 use ksql_place::Change;
 use ksql_program::{Agg, Aggs};
 use ksql_types::{Changelog, CopyOf, Kind, StoreEntry};
-use operator::{Operator, StoredOperator, spelled_key, with_number};
+use operator::{Guarded, Processor, StoredProcessor, spelled_key, with_number};
 use state_store::Store;
 use std::alloc::{AllocError, Global};
 
-/// What is kept of each group, under the bytes of its key.
+/// The operator of the groups of a stream or of a table, without windows.
+pub type AggOp = Guarded<Groups>;
+
+/// The values kept for each group, by the bytes of its key.
 #[derive(Drop)]
-pub(crate) struct Groups {
+pub struct Groups {
     over: Kind,
     aggs: Aggs,
     kept: Store,
-    failed: bool,
 }
 
-impl Groups {
-    /// The groups of aggregates over a kind, before any entry.
-    pub(crate) fn new(alloc: Global, over: Kind, aggs: &Aggs) -> Result<Groups, AllocError>
-        ensures node { IfOk result (λ made. ⟦<Groups as Operator>⟧.node made ≡ nodes.Aggregate over aggs.now None) }
-        ensures stands { IfOk result (λ made. StandsFor (⟦<Groups as Operator>⟧.node made) (⟦<Groups as Operator>⟧.held made) []) }
-        ensures sound { IfOk result (λ made. ⟦<Groups as Operator>⟧.failed made ≡ false) }
-    {
-        Ok(Groups {
-            over,
-            aggs: aggs.copy(alloc)?,
-            kept: Store::new(alloc),
-            failed: false,
-        })
-    }
-}
+impl Processor for Groups {
+    ghost is_of = { is_plain_aggregate };
 
-impl Operator for Groups {
     ghost node = { λ s. nodes.Aggregate s.over s.aggs None };
 
     ghost held = { λ s. record nothing { aggregate = s.kept } };
 
-    ghost failed = { λ s. s.failed };
+    fn of(alloc: Global, origin: &Node) -> Result<Groups, AllocError> {
+        match origin {
+            Node::Aggregate {
+                over,
+                aggs,
+                window: None,
+            } => Ok(Groups {
+                over: *over,
+                aggs: aggs.copy(alloc)?,
+                kept: Store::new(alloc),
+            }),
+            _ => unreachable!(),
+        }
+    }
 
-    fn step(
+    fn process(
         &mut self,
         alloc: Global,
         _side: u32,
         change: Change,
         out: &mut Vec<Change>,
     ) -> Result<(), AllocError> {
-        if self.failed {
-            return Err(AllocError);
-        }
-        let stepped = give(
-            &mut self.kept,
-            alloc,
-            self.over,
-            self.aggs.items(),
-            change,
-            out,
-        );
-        self.failed = stepped.is_err();
-        stepped
+        let aggs = self.aggs.items();
+        give(&mut self.kept, alloc, self.over, aggs, change, out)
     }
 }
 
-impl StoredOperator for Groups {
+impl StoredProcessor for Groups {
     fn changes(&mut self, alloc: Global) -> Result<Changelog, AllocError> {
         Ok(with_number(self.kept.changes(alloc)?, 2))
     }
@@ -84,7 +75,7 @@ impl StoredOperator for Groups {
     }
 }
 
-/// Gives the change of the group of a change from its result before to that after.
+/// Gives the change of a change's group, from the group's result before it to that after it.
 fn give(
     groups: &mut Store,
     alloc: Global,

@@ -1,4 +1,4 @@
-//! What is kept of a group: its greatest time, and then the values of its aggregates.
+//! The values kept for a group: its greatest time, then the values of its aggregates.
 ghost use Rattle.std.specs.Prelude.{◌≡◌, ◌<◌, ◌≤◌, ◌^◌, ◌≤ℤ◌, ◌∷◌, ◌++◌, [], IfOk, IfSome, OnOk, drop, length, neg_ℤ, option_map, pos, slice_get, unwrap_or};
 ghost use Rattle.ksql_types.specs.declared.relation.Kind.TheVariants as kinds;
 ghost use Rattle.ksql_place.specs.declared.change.Body.TheVariants.{Turned};
@@ -10,17 +10,18 @@ use ksql_expr::AggFun;
 use ksql_place::{Body, Change};
 use ksql_program::Agg;
 use ksql_types::{CopyOf, Items, Key, Kind, Row, Span, SqlType, Value};
-use node_steps::{argument, greater, lesser, row_in, row_out, type_of_agg};
+use row_steps::{argument, greater, lesser, row_in, row_out, type_of_agg};
 use std::alloc::{AllocError, Global};
 
-/// How many values more the result of a group has than are kept of it: those of its key, which stand in place of the time, and
+/// How many values a group's result has beyond those kept: the values of its key (in place of the time), and the start
+/// and end of its window.
 /// the start and the end of its window.
 pub(crate) fn room_for_result(group: &Key, window: bool) -> usize {
     let bounds = if window { 2 } else { 0 };
     group.items().len().saturating_sub(1).saturating_add(bounds)
 }
 
-/// What is kept of a group after one more change, in a list with room for so many values more.
+/// The values kept for a group after one more change, in a list with room for `room` more.
 pub(crate) fn next_totals(
     alloc: Global,
     over: Kind,
@@ -43,7 +44,7 @@ pub(crate) fn next_totals(
     Ok(totals)
 }
 
-/// The turn of a group, or of a window's group, from what was kept of it to what is: its result before, and after.
+/// The change of a group, or of a window's group, given the values kept before and after it.
 pub(crate) fn turn_of(
     alloc: Global,
     group: &Key,
@@ -60,7 +61,7 @@ pub(crate) fn turn_of(
     })
 }
 
-/// The time that is kept; 0 where none is.
+/// The kept time; 0 if nothing is kept.
 pub(crate) fn kept_time(mine: &[Value]) -> u64
     ensures time { result ≡ kept_time mine.now }
     ensures bound { result < 2 ^ 63 }
@@ -71,7 +72,7 @@ pub(crate) fn kept_time(mine: &[Value]) -> u64
     }
 }
 
-/// The aggregates that are kept.
+/// The kept aggregates.
 fn kept_worths(mine: &[Value]) -> &[Value]
     ensures { result.now ≡ kept_worths mine.now }
 {
@@ -81,7 +82,7 @@ fn kept_worths(mine: &[Value]) -> &[Value]
     }
 }
 
-/// The aggregate that is kept at an index; that of no rows where none is.
+/// The kept aggregate at an index; if none is kept, its value over no rows.
 fn worth_at(
     alloc: Global,
     over: Kind,
@@ -97,7 +98,7 @@ fn worth_at(
     }
 }
 
-/// An aggregate of no rows.
+/// The value of an aggregate over no rows.
 fn initial(over: Kind, agg: &Agg) -> Value
     ensures { result ≡ initial over agg.now }
 {
@@ -125,8 +126,7 @@ fn next_worth(
     }
 }
 
-/// An aggregate of a table after a change: with what the row that it brings counts, less what the row that it takes
-/// away did.
+/// A table's aggregate after a change: the amount of the new row is added, that of the old row subtracted.
 fn with_balance(
     alloc: Global,
     agg: &Agg,
@@ -141,7 +141,7 @@ fn with_balance(
     Ok(raised(type_of_agg(agg), mine, by))
 }
 
-/// An aggregate of a stream after a row at a time, where there is one.
+/// A stream's aggregate after a row at a time, if any.
 fn with_row(
     alloc: Global,
     agg: &Agg,
@@ -158,7 +158,7 @@ fn with_row(
     Ok(more(agg.fun, type_of_agg(agg), mine, value))
 }
 
-/// An aggregate of a stream after one more value of its argument.
+/// A stream's aggregate after one more value of its argument.
 fn more(fun: AggFun, ty: Option<SqlType>, mine: Value, value: Value) -> Value
     ensures { result ≡ more fun ty mine value }
 {
@@ -173,7 +173,7 @@ fn more(fun: AggFun, ty: Option<SqlType>, mine: Value, value: Value) -> Value
     }
 }
 
-/// What COUNT and SUM count of a row at a time; 0 where there is none, and for the other functions.
+/// What COUNT or SUM adds for a row at a time; 0 if there is no row, and for the other functions.
 fn amount_of(alloc: Global, agg: &Agg, time: u64, row: Option<&Row>) -> Result<i64, AllocError>
     ensures { IfOk result (λ made. made ≡ amount_of agg.now time (option_map (λ r. r.now) row.entry)) }
 {
@@ -184,7 +184,7 @@ fn amount_of(alloc: Global, agg: &Agg, time: u64, row: Option<&Row>) -> Result<i
     Ok(amount(agg.fun, &value))
 }
 
-/// What COUNT and SUM count of a value; 0 for the other functions.
+/// What COUNT or SUM adds for a value; 0 for the other functions.
 fn amount(fun: AggFun, value: &Value) -> i64
     ensures { result ≡ amount fun (value.now ∷ []) }
 {
@@ -196,14 +196,14 @@ fn amount(fun: AggFun, value: &Value) -> i64
     }
 }
 
-/// A value, or another in place of NULL.
+/// A value, or `other` if it is NULL.
 fn present_or(value: Value, other: Value) -> Value
     ensures { result ≡ present_or value other }
 {
     if value.is_null() { other } else { value }
 }
 
-/// A number in a type, after so much more. It wraps.
+/// A number in a type, increased by `by`. It wraps.
 fn raised(ty: Option<SqlType>, mine: &Value, by: i128) -> Value
     requires low { neg_ℤ (pos (2 ^ 64)) ≤ℤ by }
     requires high { by ≤ℤ pos (2 ^ 64) }
@@ -212,7 +212,7 @@ fn raised(ty: Option<SqlType>, mine: &Value, by: i128) -> Value
     number_in(ty, i128::from(whole(mine).unwrap_or(0)) + by)
 }
 
-/// The result of a group of which this is kept: its key, then its aggregates, and then the start and the end of its window.
+/// The result of a group, given the values kept: its key, its aggregates, and the start and end of its window.
 fn result_of(
     alloc: Global,
     group: &Key,

@@ -1,4 +1,4 @@
-//! One more change of a group, in the bytes that are kept of it.
+//! One more change of a group, and the bytes kept for the group.
 ghost use Rattle.std.specs.Prelude.{◌≡◌, suc, ◌<◌, ◌≤◌, ◌^◌, List, [], Option, All, IfOk, IfSome, length, option_copied, option_map, unwrap_or};
 ghost use Rattle.ksql_types.specs.declared.value.Value.{Value as OneValue};
 ghost use Rattle.record_codec.specs.Spelling.{values, AreSpellable, IsShort};
@@ -12,7 +12,7 @@ use ksql_types::{Bytes, Kind, Value};
 use record_codec::{decode_values, encode_values};
 use std::alloc::{AllocError, Global};
 
-/// What was kept of a group before a change, what is after it, and the bytes of that.
+/// The values kept for a group before and after a change, and the bytes of those after it.
 #[derive(Drop)]
 pub(crate) struct Turn {
     pub(crate) before: Vec<Value>,
@@ -20,7 +20,7 @@ pub(crate) struct Turn {
     pub(crate) bytes: Bytes,
 }
 
-/// Adds a change to a group of which these bytes are kept, where any are. The lists have room for so many values more.
+/// Adds a change to the group that `bytes` keeps, if any. The lists have room for `room` more values.
 pub(crate) fn turned(
     alloc: Global,
     over: Kind,
@@ -48,7 +48,7 @@ pub(crate) fn turned(
     })
 }
 
-/// What is kept in some bytes; nothing where there are none, and also where they spell no values.
+/// The values in `bytes`; none if `bytes` is None or spells no values.
 fn kept_in(alloc: Global, room: usize, bytes: Option<&[u8]>) -> Result<Vec<Value>, AllocError>
     ensures value { (kept : Option (List OneValue)) → IfSome kept AreSpellable → option_copied bytes.entry ≡ option_map values kept →
         IfOk result (λ found. found.items ≡ unwrap_or kept []) }

@@ -1,5 +1,5 @@
 //! The operator of windowed aggregates.
-ghost use Rattle.std.specs.Prelude.{◌≡◌, ℕ, suc, ◌<◌, ◌≤◌, ◌^◌, false, List, [], ◌∷◌, ◌++◌, Option, Some, All, IfOk, IfSome, IsTrue, OnOk, OnErr, length, option_map, unwrap_or};
+ghost use Rattle.std.specs.Prelude.{◌≡◌, ℕ, suc, ◌<◌, ◌≤◌, ◌^◌, List, [], ◌∷◌, ◌++◌, Option, Some, All, IfOk, IfSome, IsTrue, OnOk, OnErr, length, option_map, unwrap_or};
 ghost use Rattle.std.specs.FinMap as finite;
 ghost use Rattle.ksql_types.specs.declared.relation.Kind.TheVariants as kinds;
 ghost use Rattle.ksql_types.specs.declared.value.Value.{Value as OneValue};
@@ -11,7 +11,6 @@ ghost use Rattle.ksql_nodes.specs.Windows.{timed, windowed, with_times};
 ghost use Rattle.state_store.specs.Store.{Values, IsBase};
 ghost use Rattle.record_codec.specs.Spelling.{values, AreSpellable, IsShort};
 ghost use Rattle.operator.specs.Holding.{nothing};
-ghost use Rattle.operator.specs.StandsFor.{StandsFor};
 ghost use Rattle.operator.specs.Storable.{HasShortArguments};
 ghost use Rattle.window_store.specs.Windows.{IsWindowKey};
 ghost use Rattle.agg_ops.specs.Totals.{changed, is_sound_window, is_window_aggregate, next_totals, HasBigBounds};
@@ -24,87 +23,69 @@ use ksql_nodes::Node;
 use ksql_place::{Change, Place};
 use ksql_program::{Agg, Aggs};
 use ksql_types::{Changelog, CopyOf, Kind, Span, StoreEntry, Value, Window};
-use operator::{Operator, StoredOperator, spelled_key, with_number};
+use operator::{Guarded, Processor, StoredProcessor, spelled_key, with_number};
 use std::alloc::{AllocError, Global};
 use std::marker::Model;
 use window_store::{WStore, put_window_key};
 
-/// The operator of the groups of a stream in windows.
+/// The operator of a stream's groups in windows.
+pub type WindowAggOp = Guarded<WindowGroups>;
+
+/// What is kept of each group in each window.
 #[derive(Drop)]
-pub struct WindowAggOp {
+pub struct WindowGroups {
     aggs: Aggs,
     window: Window,
     kept: WStore,
-    failed: bool,
 }
 
-impl Model for WindowAggOp {
+impl Model for WindowGroups {
     ghost use Rattle.agg_ops.specs.WindowAggs.{WindowAggView, window_agg_code, AreWindowsOf};
 
     ghost Value = { WindowAggView };
 
     ghost coded = { window_agg_code };
 
-    ghost view = { λ s. record { aggs = s.aggs; window = s.window; windows = s.kept; failed = s.failed } };
+    ghost view = { λ s. record { aggs = s.aggs; window = s.window; windows = s.kept } };
 
     ghost invariant = { λ s. AreWindowsOf s.window s.kept };
 }
 
-impl WindowAggOp {
-    /// The operator of a windowed aggregate, before any entry.
-    pub fn new(alloc: Global, node: &Node) -> Result<WindowAggOp, AllocError>
-        requires { IsTrue (is_window_aggregate node.now) }
-        ensures node { IfOk result (λ made. ⟦<WindowAggOp as Operator>⟧.node made ≡ node.now) }
-        ensures stands { IfOk result (λ made. StandsFor (⟦<WindowAggOp as Operator>⟧.node made) (⟦<WindowAggOp as Operator>⟧.held made) []) }
-        ensures sound { IfOk result (λ made. ⟦<WindowAggOp as Operator>⟧.failed made ≡ false) }
-    {
-        match node {
-            Node::Aggregate {
-                over: Kind::Stream,
-                aggs,
-                window: Some(window),
-            } => Ok(WindowAggOp {
-                aggs: aggs.copy(alloc)?,
-                window: *window,
-                kept: WStore::new(alloc, window.size),
-                failed: false,
-            }),
-            _ => unreachable!(),
-        }
-    }
-}
+impl Processor for WindowGroups {
+    ghost is_of = { is_window_aggregate };
 
-impl Operator for WindowAggOp {
     ghost node = { λ s. nodes.Aggregate kinds.Stream s.aggs (Some s.window) };
 
     ghost held = { λ s. record nothing { windows = s.windows.content; time = s.windows.time } };
 
-    ghost failed = { λ s. s.failed };
+    fn of(alloc: Global, origin: &Node) -> Result<WindowGroups, AllocError> {
+        match origin {
+            Node::Aggregate {
+                over: Kind::Stream,
+                aggs,
+                window: Some(window),
+            } => Ok(WindowGroups {
+                aggs: aggs.copy(alloc)?,
+                window: *window,
+                kept: WStore::new(alloc, window.size),
+            }),
+            _ => unreachable!(),
+        }
+    }
 
-    fn step(
+    fn process(
         &mut self,
         alloc: Global,
         _side: u32,
         change: Change,
         out: &mut Vec<Change>,
     ) -> Result<(), AllocError> {
-        if self.failed {
-            return Err(AllocError);
-        }
-        let stepped = give(
-            &mut self.kept,
-            alloc,
-            self.window,
-            self.aggs.items(),
-            &change,
-            out,
-        );
-        self.failed = stepped.is_err();
-        stepped
+        let aggs = self.aggs.items();
+        give(&mut self.kept, alloc, self.window, aggs, &change, out)
     }
 }
 
-impl StoredOperator for WindowAggOp {
+impl StoredProcessor for WindowGroups {
     fn changes(&mut self, alloc: Global) -> Result<Changelog, AllocError> {
         Ok(with_number(self.kept.changes(alloc)?, 2))
     }
@@ -114,7 +95,7 @@ impl StoredOperator for WindowAggOp {
     }
 }
 
-/// Adds a change to those of its windows that stream time leaves open, and gives the change of each.
+/// Adds a change to those of its windows that are still open by stream time, and gives the change of each.
 fn give(
     windows: &mut WStore,
     alloc: Global,
@@ -164,7 +145,7 @@ fn give(
     Ok(())
 }
 
-/// Adds a change to one of its windows, and answers the change of the window, whose index among them ends the path.
+/// Adds a change to one of its windows, and returns the window's change, whose path ends with the window's index.
 fn add_to(
     windows: &mut WStore,
     alloc: Global,
@@ -197,7 +178,7 @@ fn add_to(
     window_change(alloc, change, span, index, turn.before, turn.after)
 }
 
-/// The change of one of a change's windows, whose index among them ends the path.
+/// The change of one of a change's windows; its path ends with the window's index.
 fn window_change(
     alloc: Global,
     change: &Change,

@@ -6,7 +6,7 @@ ghost use Rattle.agg_ops.specs.Totals.{is_sound_window};
 use ksql_types::{Span, Window};
 use std::alloc::{AllocError, Global};
 
-/// The windows of a time, by rising start. Those that are over by then cost nothing.
+/// The windows that contain a time, by ascending start. Windows that end earlier cost nothing.
 pub(crate) fn windows_of(alloc: Global, window: Window, time: u64) -> Result<Vec<Span>, AllocError>
     requires sound { IsTrue (is_sound_window window) }
     requires time { time ≤ 2 ^ 53 }

@@ -1,4 +1,4 @@
--- A function that is looked for is called in an expression exactly where the expression passes.
+-- A function that is looked for is called in an expression exactly if the expression passes.
 use Rattle.std.proofs.Common.{◌≡◌, ℕ, List, [], ◌∷◌, ◌||◌, map, Bool, true, false, if◌then◌else◌, Option, Some, None, refl, ap, ap₂, sym, ◌∙◌}
 use Rattle.std.specs.Prelude.{option_map}
 use Rattle.std.specs.List.{AllByRecursion as Each}

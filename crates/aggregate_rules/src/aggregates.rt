@@ -1,4 +1,4 @@
-//! Aggregates, and the functions that are called in an expression.
+//! Aggregates, and the functions called in an expression.
 
 ghost use Rattle.std.specs.Prelude.{◌≡◌, ◌++◌, IfOk, OnOk, map, option_map};
 ghost use Rattle.std.specs.List.{list_any};
@@ -11,21 +11,21 @@ use ksql_scopes::{aggregate_of, function_of};
 use ksql_types::{Boxed, Chars, CopyOf, is_among};
 use std::alloc::{AllocError, Global};
 
-/// The aggregates that a table has no place for.
+/// The aggregates that can't be used on a table.
 const ORDERED_AGGREGATES: [&str; 4] = ["MIN", "MAX", "LATEST_BY_OFFSET", "EARLIEST_BY_OFFSET"];
 
-/// Which functions are looked for in an expression.
+/// The functions to look for in an expression.
 #[derive(Clone, Copy)]
 enum Called {
     /// Aggregates.
     Aggregate,
-    /// Aggregates that a table has no place for.
+    /// Aggregates that can't be used on a table.
     Ordered,
-    /// Functions that are unknown.
+    /// Unknown functions.
     Unknown,
 }
 
-/// Whether a function is an aggregate.
+/// Whether a function is an aggregate function.
 pub fn is_aggregate(name: &Chars) -> bool
     ensures { result ≡ is_aggregate name.now }
 {
@@ -59,28 +59,28 @@ impl Decides for Called {
     }
 }
 
-/// Whether a function that is looked for is called in an expression.
+/// Whether an expression calls a function that is looked for.
 fn calls_one(wanted: Called, expr: &Expr) -> bool
     ensures { result ≡ list_any (spec.is_wanted wanted) (calls expr.now) }
 {
     passes(&wanted, expr)
 }
 
-/// Whether an expression holds an aggregate.
+/// Whether an expression contains an aggregate.
 pub fn has_aggregate(expr: &Expr) -> bool
     ensures { result ≡ spec.has_aggregate expr.now }
 {
     calls_one(Called::Aggregate, expr)
 }
 
-/// Whether an expression holds an aggregate that a table has no place for.
+/// Whether an expression contains an aggregate that can't be used on a table.
 pub fn has_ordered_aggregate(expr: &Expr) -> bool
     ensures { result ≡ spec.has_ordered_aggregate expr.now }
 {
     calls_one(Called::Ordered, expr)
 }
 
-/// Whether an unknown function is called in an expression.
+/// Whether an expression calls an unknown function.
 pub fn has_unknown_function(expr: &Expr) -> bool
     ensures { result ≡ has_unknown_function expr.now }
 {
@@ -97,7 +97,7 @@ pub fn is_aggregate_call(expr: &Expr) -> bool
     }
 }
 
-/// Puts the aggregates in an expression after others.
+/// Appends the aggregates in an expression.
 #[cycle(aggregates)]
 #[tactic(auto, using(crate::proofs::Gives::gives_forms))]
 fn add_aggregates(alloc: Global, expr: &Expr, found: &mut Vec<Expr>) -> Result<(), AllocError>
@@ -184,7 +184,7 @@ fn add_part(
     }
 }
 
-/// The aggregates in an expression, from the left; not those inside others.
+/// The aggregates in an expression, from left to right, without those inside other aggregates.
 pub fn aggregates_of(alloc: Global, expr: &Expr) -> Result<Vec<Expr>, AllocError>
     ensures { IfOk result (λ found. found.items ≡ spec.aggregates_of expr.now) }
 {

@@ -1,4 +1,4 @@
-//! Columns and groups: which columns stand alone, and which of some expressions one is.
+//! Columns and groups: which columns stand outside aggregates and groups, and which expression comes first.
 
 ghost use Rattle.std.specs.Prelude.{◌≡◌, [], IfOk};
 ghost use Rattle.std.specs.List.{list_any};
@@ -10,8 +10,8 @@ use expression_trees::{Decides, Expr, ExprTexts, passes, same_expr};
 use ksql_types::Chars;
 use std::alloc::{AllocError, Global};
 
-/// The number of the first of some expressions that this is.
-pub fn place_among(exprs: &[Expr], expr: &Expr) -> Option<usize>
+/// The index of the first of `exprs` that is the same as `expr`, if any.
+fn place_among(exprs: &[Expr], expr: &Expr) -> Option<usize>
     ensures { result ≡ spec.place_among exprs.now expr.now }
 {
     for (i, other) in exprs.iter().enumerate() {
@@ -76,7 +76,7 @@ fn is_bare(groups: &[Expr], expr: &Expr) -> Option<bool>
     }
 }
 
-/// Aggregates that hold another pass.
+/// Accepts aggregates that contain another one.
 struct Nested;
 
 impl Decides for Nested {
@@ -87,7 +87,7 @@ impl Decides for Nested {
     }
 }
 
-/// Columns pass that stand neither in an aggregate nor in one of these groups.
+/// Accepts columns that stand neither in an aggregate nor in one of these groups.
 #[derive(Clone, Copy)]
 struct Bare<'a> {
     groups: &'a [Expr],
@@ -101,7 +101,7 @@ impl Decides for Bare<'_> {
     }
 }
 
-/// Whether one of an expression's aggregates stands in another.
+/// Whether an expression contains an aggregate inside another.
 pub fn has_nested_aggregate(expr: &Expr) -> bool
     ensures { result ≡ spec.has_nested_aggregate expr.now }
 {
@@ -127,7 +127,7 @@ fn is_found(found: &[Expr], expr: &Expr) -> bool
     false
 }
 
-/// Each of some expressions once, in the order in which they first stand.
+/// The expressions without duplicates, in the order of their first occurrence.
 pub fn once(alloc: Global, exprs: Vec<Expr>) -> Result<Vec<Expr>, AllocError>
     ensures { IfOk result (λ found. found.items ≡ spec.once_from [] exprs.items) }
 {

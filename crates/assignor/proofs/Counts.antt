@@ -171,7 +171,7 @@ total-most f low (w ∷ ws) most =
     let rest = total-most f low ws (λ v live. most v (or_right (w == v) (is_live ws v) live)) in
     omega (arith, here, rest)
 
--- and one of them has fewer than low
+-- one of them has fewer than `low`
 pub total-fewer : (f : ℕ → ℕ) (low v : ℕ) (ws : List ℕ) → ((w : ℕ) → is_live ws w ≡ true → f w ≤ low + 1) → is_live ws v ≡ true → f v < low →
     total f ws < total (λ w. low) ws + how_many (λ w. f w == low + 1) ws
 total-fewer f low v [] most live few = absurd (cc (live))

@@ -1,4 +1,4 @@
--- What stays where it was.
+-- Tasks that stay where they were.
 use Rattle.std.proofs.Common.{◌≡◌, ◌∙◌, ap, ap₂, sym, refl, subst, ℕ, zero, suc, ◌+◌, ◌<◌, ◌≤◌, inl, inr, List, [], ◌∷◌, ◌++◌, length, map, take, Bool, true, false, arith, append_assoc, length-append}
 use Rattle.std.specs.Prelude.{Option, None, Some, slice_get, is_some, if◌then◌else◌, nat_lt, ◌&&◌}
 use Rattle.std.proofs.lemmas.List.{append-nil, take-map}
@@ -75,7 +75,7 @@ second_pass-at live before (None ∷ rest) (suc i) w stay =
     let index : length before + suc i ≡ length next + i = omega (arith, long) in
     ap (slice_get (second_pass live next rest)) index ∙ second_pass-at live next rest i w stay
 
--- where all tasks have an owner, the pair at an index is of the task and the place there
+-- if all tasks have an owner, the pair at an index is the task and the place there
 owned-at : (tasks : List TaskName) (places : List (Option ℕ)) (i w : ℕ) (task : TaskName) → how_many is_some places ≡ length places →
     slice_get tasks i ≡ Some task → slice_get places i ≡ Some (Some w) → slice_get (owned_at tasks places) i ≡ Some (record { task = task; worker = w })
 unfolding owned_at
@@ -110,7 +110,7 @@ stays-within_share previous (v ∷ vs) tasks i worker had may = λ task there.
     let place : slice_get (second_pass live [] kept) i ≡ Some (Some worker) = ap (slice_get (second_pass live [] kept)) (sym index) ∙ second_pass-at live [] kept i worker stay in
     owned-at tasks (second_pass live [] kept) i worker task (second_pass-full live worker [] kept had.1 refl) there place
 
--- the places that stay are no more than those that were had
+-- no more tasks stay than the worker had
 kept_place-le : (share : Share) (live : List ℕ) (kept : List (Option ℕ)) (w : ℕ) (owner : Option ℕ) → how_many (is_with w) (kept_place share live kept owner ∷ []) ≤ how_many (is_with w) (owner ∷ [])
 kept_place-le share live kept w None = omega arith
 kept_place-le share live kept w (Some v) = elim (is_live live v && may_keep share live kept v) as (λ b. how_many (is_with w) ((if b then Some v else None) ∷ []) ≤ how_many (is_with w) (Some v ∷ [])) [
@@ -128,7 +128,7 @@ first_pass-le share live kept (owner ∷ owners) w =
     let one = kept_place-le share live kept w owner in
     omega (arith, rest, more, one)
 
--- a task that the worker had is one more than those before it
+-- a task that the worker had adds one to those before it
 had-before : (owners : List (Option ℕ)) (i w : ℕ) → slice_get owners i ≡ Some (Some w) → tasks_of w (take i owners) < tasks_of w owners
 had-before [] i w had = absurd (cc (had))
 had-before (owner ∷ owners) zero w had =

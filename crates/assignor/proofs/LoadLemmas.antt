@@ -25,7 +25,7 @@ first_load-assoc (Some a) None d = refl
 first_load-assoc (Some a) (Some b) None = refl
 first_load-assoc (Some a) (Some b) (Some d) = grind (arith, nat_tests)
 
--- one more task for a worker, where there was none
+-- one more task for a worker that had none at this place
 pub tasks_of-at : (worker v : ℕ) (before rest : List (Option ℕ)) →
     tasks_of worker (before ++ Some v ∷ rest) ≡ tasks_of worker (before ++ None ∷ rest) + (if v == worker then 1 else 0)
 tasks_of-at worker v before rest =
@@ -112,7 +112,7 @@ kept_place_with-if : (live : Bool) (share : Share) (loads : List Load) (w kept :
 kept_place_with-if true share loads w kept = refl
 kept_place_with-if false share loads w kept = refl
 
--- where a task stays by the loads is where it stays
+-- where a task stays by loads is where it stays
 pub kept_place_by-loads : (share : Share) (live : List ℕ) (places : List (Option ℕ)) (owner : Option ℕ) → kept_place_by share (loads_of live places) owner ≡ kept_place share live places owner
 kept_place_by-loads share live places None = refl
 kept_place_by-loads share live places (Some w) =

@@ -1,4 +1,4 @@
--- No worker comes over its share while tasks are given.
+-- No worker exceeds its share while tasks are given.
 use Rattle.std.proofs.Common.{◌≡◌, ◌∙◌, ap, ap₂, sym, refl, subst, ℕ, ◌+◌, ◌<◌, ◌≤◌, ◌⊎◌, inl, inr, List, [], ◌∷◌, ◌++◌, Bool, true, false, arith}
 use Rattle.std.specs.Prelude.{Option, None, Some, if◌then◌else◌, ◌==◌, nat_lt, ◌&&◌}
 use Rattle.std.specs.List.{list_all}
@@ -8,7 +8,7 @@ use Rattle.assignor.specs.Rule.{is_live, tasks_of, workers_with, may_keep, kept_
 use Rattle.assignor.proofs.LoadLemmas.{tasks_of-at, tasks_of-aside}
 use Rattle.assignor.proofs.Counts.{Distinct, same_from_test, or_cases, and_parts, bool_cases, how_many-same, how_many-one, is_sound}
 
--- each live worker has at most low + 1 tasks, and at most extra of them have as many; no other worker has one
+-- each live worker has at most low + 1 tasks, and at most `extra` of them have that many; no other worker has a task
 pub record Fits (share : Share) (live : List ℕ) (places : List (Option ℕ)) : Type 0 where
   pub most : (w : ℕ) → is_live live w ≡ true → tasks_of w places ≤ share.low + 1
   pub tops : workers_with (share.low + 1) live places ≤ share.extra

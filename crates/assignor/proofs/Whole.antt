@@ -40,7 +40,7 @@ fewest_alone places x xs alone = record {
   ];
 }
 
--- there is a worker with the fewest tasks, unless there is none
+-- unless there are no workers, one has the fewest tasks
 pub with_fewest-is : (places : List (Option ℕ)) (live : List ℕ) →
     ((with_fewest places live ≡ None) × (live ≡ [])) ⊎ ((w : ℕ) × (with_fewest places live ≡ Some w) × IsFewest places live w)
 unfolding with_fewest
@@ -76,7 +76,7 @@ with_fewest-is places (x ∷ xs) = elim (with_fewest-is places xs) [
       ])
 ]
 
--- so many tasks are shared out
+-- the share of this many tasks
 pub record IsShare (share : Share) (live : List ℕ) (count : ℕ) : Type 0 where
   pub all : length live * share.low + share.extra ≡ count
   pub some : share.extra < length live

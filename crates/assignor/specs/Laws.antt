@@ -1,4 +1,4 @@
--- What the rule of assignment is for.
+-- What the assignment rule achieves.
 use Rattle.std.specs.Prelude.{◌≡◌, ℕ, ◌+◌, ◌≤◌, List, [], map, take, slice_get, ◌==◌, IsTrue, Option, Some}
 use Rattle.std.specs.List.{list_all}
 use Rattle.ksql_types.specs.declared.relation.TaskName.{TaskName}
@@ -9,17 +9,17 @@ use Rattle.assignor.specs.Rule.{how_many, owner_of, is_live, is_with, first_pass
 abbrev pub count_of : ℕ → List Owned → ℕ
 count_of worker made = how_many (λ owned. owned.worker == worker) made
 
--- each task has one owner, which is live
+-- each task has exactly one owner, and it is live
 abbrev pub IsWhole : List ℕ → List TaskName → List Owned → Type 0
 IsWhole live tasks made =
     (map (λ owned. owned.task) made ≡ tasks) × IsTrue (list_all (λ owned. is_live live owned.worker) made)
 
--- no live worker has more than one task more than another
+-- no live worker has two or more tasks more than another
 abbrev pub IsBalanced : List ℕ → List Owned → Type 0
 IsBalanced live made =
     (a b : ℕ) → IsTrue (is_live live a) → IsTrue (is_live live b) → count_of a made ≤ count_of b made + 1
 
--- the task at the index is the worker's in the assignment, as it was before
+-- the task at the index belongs to the worker in the assignment, as it did before
 abbrev pub Keeps : List TaskName → List Owned → ℕ → ℕ → Type 0
 Keeps tasks made i worker = (task : TaskName) → slice_get tasks i ≡ Some task → slice_get made i ≡ Some (record { task = task; worker = worker })
 

@@ -1,4 +1,4 @@
--- The rule of assignment. A place says where a task is while the rule is gone through: with a worker, or set aside (None).
+-- The assignment rule. A place says where a task is while the rule runs: with a worker, or set aside (None).
 use Rattle.std.specs.Prelude.{ℕ, ◌+◌, ◌/◌, ◌%◌, List, [], ◌∷◌, ◌++◌, length, map, Bool, false, ◌==◌, nat_lt, ◌&&◌, ◌||◌, if◌then◌else◌, Option, None, Some}
 use Rattle.std.specs.List.{list_any}
 use Rattle.std.specs.Option.{option_or}
@@ -13,7 +13,7 @@ abbrev pub how_many : {X : Type 0} → (X → Bool) → List X → ℕ
 how_many test [] = 0
 how_many test (x ∷ xs) = (if test x then 1 else 0) + how_many test xs
 
--- the worker that had a task: that of the last pair that names it
+-- the worker that had a task: that of the last pair with the task
 abbrev pub owner_of : List Owned → TaskName → Option ℕ
 owner_of [] task = None
 owner_of (owned ∷ rest) task =
@@ -32,54 +32,55 @@ is_with worker (Some other) = other == worker
 abbrev pub tasks_of : ℕ → List (Option ℕ) → ℕ
 tasks_of worker places = how_many (is_with worker) places
 
--- how many of the live workers have so many tasks
+-- how many live workers have exactly this many tasks
 abbrev pub workers_with : ℕ → List ℕ → List (Option ℕ) → ℕ
 workers_with count live places = how_many (λ worker. tasks_of worker places == count) live
 
--- what each worker is due: the tasks divided by the live workers, and what is left over
+-- each worker's share: the tasks divided by the live workers, and the remainder
 abbrev pub share_of : List ℕ → List TaskName → Share
 share_of live tasks = record { low = length tasks / length live; extra = length tasks % length live }
 
--- whether a worker may keep one more task: it has kept fewer than low so far, or exactly low while fewer than extra workers have kept low + 1
+-- whether a worker may keep one more task: so far it has kept fewer than `low`, or exactly `low` while fewer than
+-- `extra` workers have kept low + 1
 abbrev pub may_keep : Share → List ℕ → List (Option ℕ) → ℕ → Bool
 may_keep share live kept worker =
     nat_lt (tasks_of worker kept) share.low
     || (tasks_of worker kept == share.low && nat_lt (workers_with (share.low + 1) live kept) share.extra)
 
--- where a task stays that this worker had: with it, if it is live and may keep it, or else it is set aside
+-- the place of a task that this worker had: with it, if it is live and may keep the task, or else set aside
 abbrev pub kept_place : Share → List ℕ → List (Option ℕ) → Option ℕ → Option ℕ
 kept_place share live kept None = None
 kept_place share live kept (Some owner) =
     if is_live live owner && may_keep share live kept owner then Some owner else None
 
--- the first pass: the tasks are gone through by their owners, after the places so far
+-- the first pass: the tasks one by one, by their owners, after the places so far
 unfoldable pub first_pass : Share → List ℕ → List (Option ℕ) → List (Option ℕ) → List (Option ℕ)
 first_pass share live kept [] = kept
 first_pass share live kept (owner ∷ owners) = first_pass share live (kept ++ kept_place share live kept owner ∷ []) owners
 
--- whether a worker comes before another: it has fewer tasks, or as many and the smaller number
+-- whether a worker comes before another: fewer tasks, or the same number of tasks and the smaller worker number
 abbrev pub is_before : List (Option ℕ) → ℕ → ℕ → Bool
 is_before places a b =
     nat_lt (tasks_of a places) (tasks_of b places)
     || (tasks_of a places == tasks_of b places && nat_lt a b)
 
--- the first of the worker and another, if there is another
+-- the first of the worker and another one, if any
 abbrev pub first_of_both : List (Option ℕ) → ℕ → Option ℕ → ℕ
 first_of_both places worker None = worker
 first_of_both places worker (Some other) = if is_before places other worker then other else worker
 
--- the worker with the fewest tasks, on ties that with the smallest number
+-- the worker with the fewest tasks, of several the one with the smallest number
 unfoldable pub with_fewest : List (Option ℕ) → List ℕ → Option ℕ
 with_fewest places [] = None
 with_fewest places (worker ∷ workers) = Some (first_of_both places worker (with_fewest places workers))
 
--- the second pass: each task set aside goes to the worker that has the fewest tasks of those before and the rest
+-- the second pass: each task set aside goes to the worker with the fewest tasks among those before and the rest
 unfoldable pub second_pass : List ℕ → List (Option ℕ) → List (Option ℕ) → List (Option ℕ)
 second_pass live before [] = before
 second_pass live before (Some worker ∷ rest) = second_pass live (before ++ Some worker ∷ []) rest
 second_pass live before (None ∷ rest) = second_pass live (before ++ with_fewest (before ++ None ∷ rest) live ∷ []) rest
 
--- the tasks with the workers at their places
+-- the tasks and the workers at their places
 unfoldable pub owned_at : List TaskName → List (Option ℕ) → List Owned
 owned_at [] places = []
 owned_at (task ∷ tasks) [] = []
@@ -90,7 +91,7 @@ owned_at (task ∷ tasks) (Some worker ∷ places) = record { task = task; worke
 abbrev pub kept_of : List Owned → List ℕ → List TaskName → List (Option ℕ)
 kept_of previous live tasks = first_pass (share_of live tasks) live [] (map (owner_of previous) tasks)
 
--- the assignment of the tasks to the live workers, from the previous one; with no live worker no task has an owner
+-- the assignment of the tasks to the live workers, given the previous one; without live workers no task has an owner
 abbrev pub assignment : List Owned → List ℕ → List TaskName → List Owned
 assignment previous [] tasks = []
 assignment previous live tasks = owned_at tasks (second_pass live [] (kept_of previous live tasks))

@@ -7,8 +7,8 @@ use crate::previous::owners_of;
 use ksql_types::{Items, TaskName};
 use std::alloc::{AllocError, Global};
 
-/// Assigns tasks to the live workers. A task stays with its live owner as long as the owner is not over its share, and
-/// each of the others goes to the worker with the fewest tasks.
+/// Assigns tasks to the live workers. A task stays with its live owner unless the owner is over its share, and each
+/// other task goes to the worker with the fewest tasks.
 pub fn assign(
     alloc: Global,
     previous: &Assignment,
@@ -30,7 +30,7 @@ pub fn assign(
     Ok(Items::of(owned_at(alloc, tasks, &places)?))
 }
 
-/// The tasks with the workers at their places.
+/// The tasks and the workers at their places.
 fn owned_at(
     alloc: Global,
     tasks: &[TaskName],

@@ -8,10 +8,10 @@ pub struct Owned {
     pub worker: u32,
 }
 
-/// Tasks with their owners. What `assign` gives is in task order; a task that it leaves out has no owner.
+/// Tasks and their owners. `assign` returns them in task order; a task it leaves out has no owner.
 pub type Assignment = Items<Owned>;
 
-/// What each worker is due: `low` tasks, and `extra` of the workers one more.
+/// Each worker's share: `low` tasks, and one more for `extra` of the workers.
 #[derive(Clone, Copy, Debug)]
 pub struct Share {
     pub low: usize,

@@ -1,4 +1,4 @@
-//! Which worker owns which task: the assignment made at the beginning, and whenever a worker comes or goes.
+//! Which worker owns which task: assigned at the start, and whenever a worker comes or goes.
 #![tactic(auto)]
 
 mod assigning;

@@ -5,7 +5,7 @@ ghost use Rattle.assignor.specs.Loads.{comes_first, first_load, lightest_worker,
 
 use std::alloc::{AllocError, Global};
 
-/// A worker's number, and how many tasks it has.
+/// A worker's number, and its number of tasks.
 #[derive(Clone, Copy, Debug)]
 pub struct Load {
     pub worker: u32,
@@ -13,14 +13,14 @@ pub struct Load {
 }
 
 impl Load {
-    /// Whether this worker comes first: it has fewer tasks, or as many and the smaller number.
+    /// Whether this worker comes first: it has fewer tasks, or the same number of tasks and the smaller worker number.
     fn comes_first(self, other: Load) -> bool
         ensures { result ≡ comes_first self other }
     {
         self.tasks < other.tasks || (self.tasks == other.tasks && self.worker < other.worker)
     }
 
-    /// The load with one more task, if it is the worker's.
+    /// The load with one more task, if `worker` is its worker.
     fn one_more(self, worker: u32) -> Load
         requires { self.tasks + 1 < 2 ^ 64 }
         ensures { result ≡ one_more worker self }
@@ -36,7 +36,7 @@ impl Load {
     }
 }
 
-/// The loads of the live workers, none of which has a task.
+/// The loads of the live workers, all without tasks.
 pub fn no_loads(alloc: Global, live: &[u32]) -> Result<Vec<Load>, AllocError>
     ensures { IfOk result (λ loads. loads.items ≡ loads_of live.now []) }
 {
@@ -50,7 +50,7 @@ pub fn no_loads(alloc: Global, live: &[u32]) -> Result<Vec<Load>, AllocError>
     Ok(loads)
 }
 
-/// One more task at this place: for its worker, if it has one.
+/// Adds one task at this place: to its worker, if it has one.
 pub fn add_task(loads: &mut [Load], place: Option<u32>)
     requires { All (λ load. load.tasks + 1 < 2 ^ 64) loads.old }
     ensures { loads.new ≡ with_more place loads.old }
@@ -69,7 +69,7 @@ fn add_to(loads: &mut [Load], worker: u32)
     }
 }
 
-/// How many tasks this worker has; `None` where it is not among the loads.
+/// The number of tasks of this worker; `None` if it is not among the loads.
 pub fn load_among(loads: &[Load], worker: u32) -> Option<usize>
     ensures { result ≡ load_among worker loads.now }
 {
@@ -81,7 +81,7 @@ pub fn load_among(loads: &[Load], worker: u32) -> Option<usize>
     None
 }
 
-/// How many of the workers have so many tasks.
+/// How many workers have exactly `tasks` tasks.
 pub fn workers_with(loads: &[Load], tasks: usize) -> usize
     ensures { result ≡ how_many (λ load. load.tasks == tasks) loads.now }
 {
@@ -94,7 +94,7 @@ pub fn workers_with(loads: &[Load], tasks: usize) -> usize
     count
 }
 
-/// The worker with the fewest tasks, on ties that with the smallest number; `None` where there is none.
+/// The worker with the fewest tasks, of several the one with the smallest number; `None` if there are no workers.
 pub fn lightest(loads: &[Load]) -> Option<u32>
     ensures { result ≡ lightest_worker loads.now }
 {

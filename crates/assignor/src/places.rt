@@ -1,4 +1,4 @@
-//! Where the tasks are while they are assigned: each with a worker, or set aside.
+//! Where the tasks are during assignment: each with a worker, or set aside.
 ghost use Rattle.std.specs.Prelude.{◌≡◌, ◌+◌, ◌<◌, ◌^◌, [], All, IfOk};
 ghost use Rattle.assignor.specs.Rule.{second_pass, first_pass};
 ghost use Rattle.assignor.specs.Loads.{after_next, next_place, loads_of, kept_place_by};
@@ -7,7 +7,7 @@ use crate::assignment::Share;
 use crate::loads::{Load, add_task, lightest, load_among, no_loads, workers_with};
 use std::alloc::{AllocError, Global};
 
-/// The first pass: where each task stays, from the worker that had it.
+/// The first pass: decides for each task whether it stays with the worker that had it.
 pub fn first_pass(
     alloc: Global,
     share: Share,
@@ -41,7 +41,7 @@ fn kept_place(loads: &[Load], share: Share, owner: Option<u32>) -> Option<u32>
     }
 }
 
-/// The second pass: each task that was set aside goes to a worker.
+/// The second pass: gives each task that was set aside to a worker.
 pub fn second_pass(
     alloc: Global,
     live: &[u32],
@@ -58,7 +58,7 @@ pub fn second_pass(
     Ok(places)
 }
 
-/// The place of the next task: where it stays, or with the worker that has the fewest tasks and now has one more.
+/// The place of the next task: where it stays, or else the worker with the fewest tasks, whose load grows by one.
 fn next_place(loads: &mut [Load], place: Option<u32>) -> Option<u32>
     requires { All (λ load. load.tasks + 1 < 2 ^ 64) loads.old }
     ensures place { result ≡ next_place place loads.old }

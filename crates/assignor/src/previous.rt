@@ -22,7 +22,7 @@ fn owners_by_task(alloc: Global, previous: &[Owned]) -> Result<Owners, AllocErro
     Ok(owners)
 }
 
-/// The worker that had each of the tasks.
+/// The previous owner of each task.
 pub fn owners_of(
     alloc: Global,
     previous: &[Owned],

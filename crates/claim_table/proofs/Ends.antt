@@ -23,7 +23,7 @@ says_has (p ∷ ps) i k h = ⊎_elim (λ (e : (i ≡ p.0) × (k ≡ p.1)). inl e
 twice : (p : ℕ × ℕ) (ps : List (ℕ × ℕ)) (i k : ℕ) → weigh (same i) (firsts (p ∷ ps)) ≤ 1 → i ≡ p.0 → Says ps i k → ⊥
 twice p ps i k one e d = let a = has_weight (same i) (firsts ps) i (says_has ps i k d) in let b = same_at i in let f : same i p.0 ≡ same i i = ap (same i) (sym e) in omega arith
 
--- an item that stands once has one number
+-- an item that occurs once has one number
 says_one : (ps : List (ℕ × ℕ)) (i k l : ℕ) → weigh (same i) (firsts ps) ≤ 1 → Says ps i k → Says ps i l → k ≡ l
 says_one [] i k l one a b = elim a [ ]
 says_one (p ∷ ps) i k l one a b = ⊎_elim
@@ -44,7 +44,7 @@ at_each : {T : Type 0} (G : ℕ → T → Type 0) (y : T) (ys : List T) → G 0 
 at_each G y ys here more zero x e = subst (G 0) (some_is y x e) here
 at_each G y ys here more (suc i) x e = more i x e
 
--- a list of which each place has a value that meets G
+-- a list with a value that meets G at each place
 pub gather : {T : Type 0} (G : ℕ → T → Type 0) (xs : List (Option T)) → ((i : ℕ) → i < length xs → (x : T) × (get_elem? xs i ≡ some (Some x)) × G i x)
     → (ys : List T) × (xs ≡ map Some ys) × ((i : ℕ) (x : T) → slice_get ys i ≡ Some x → G i x)
 gather G [] f = ([], refl, λ i x e. absurd (cc))
@@ -66,7 +66,7 @@ pub record Ended {T P : Type 0} (done : P → ℕ → T → Type 0) (number : T 
   pub numbers : (h : ℕ → ℕ) → weigh h (map number values) ≡ below h n
   pub drawn : (m : ℕ) × (n < m) × ((h : ℕ → ℕ) → total (λ c. weigh h (drawn_by c)) claims ≡ below h m)
 
--- the same of the list into which the values were moved
+-- the same for the list that the values were moved into
 pub moved_to : {T P : Type 0} (done : P → ℕ → T → Type 0) (number : T → ℕ) (plan : P) (n : ℕ) (slots : List (Option T)) (claims : List (Claim T P)) → Ended done number plan n slots claims → (ys : List T) → map Some ys ≡ slots
     → (length ys ≡ n) × ((i : ℕ) (x : T) → slice_get ys i ≡ Some x → done plan i x) × ((h : ℕ → ℕ) → weigh h (map number ys) ≡ below h n)
 moved_to {T} done number plan n slots claims e ys is = subst (λ (l : List T). (length l ≡ n) × ((i : ℕ) (x : T) → slice_get l i ≡ Some x → done plan i x) × ((h : ℕ → ℕ) → weigh h (map number l) ≡ below h n))

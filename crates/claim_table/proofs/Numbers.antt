@@ -17,7 +17,7 @@ module _ {T P : Type 0} (fresh done : P → ℕ → T → Type 0) (number : T �
   abbrev K : State (Option T) (View P) → Type 0
   K = Keeps fresh done number plan claims
 
-  -- one more item, of those that were drawn and have no number
+  -- one more item among those that were drawn and have no number
   one_more : (h : ℕ → ℕ) (xs ys : List ℕ) (i : ℕ) → ((g : ℕ → ℕ) → weigh g xs ≤ weigh g ys) → Has ys i → ¬ Has xs i → h i + weigh h xs ≤ weigh h ys
   one_more h xs ys i le has free = let a = le (except i h) in let b = except_none i h xs free in let c = except_has i h ys has in omega arith
 
@@ -32,7 +32,7 @@ module _ {T P : Type 0} (fresh done : P → ℕ → T → Type 0) (number : T �
     empty = λ e. absurd (omega arith);
   }
 
-  -- as many numbers were drawn as items have one
+  -- the count of numbers drawn is the count of items that have one
   counted : (n : ℕ) (v : View P) (homes : _) → length homes ≡ n → Stands fresh done number plan claims homes v → weigh (λ _. 1) (seconds v.numbered) ≤ weigh (inside n) v.drawn
   counted n v homes long s = let a = as_many v.numbered in let b = weigh_inside_past n (firsts v.numbered) in let c : weigh (past n) (firsts v.numbered) ≡ 0 = subst (λ (x : ℕ). weigh (past x) (firsts v.numbered) ≡ 0) long s.inner in
       let d = s.numbered (inside n) in omega arith

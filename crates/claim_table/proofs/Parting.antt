@@ -39,7 +39,7 @@ module _ {T P : Type 0} (fresh done : P → ℕ → T → Type 0) (number : T �
     empty = λ _. (no_draw, no_return, no_number);
   }
 
-  -- a view that stands for two claims or more, with empty lists, may give one away
+  -- a view with empty lists that stands for two claims or more may give one away
   pub splits : (id : ℕ) (v : View P) → 1 < v.parts → v.drawn ≡ [] → v.returned ≡ [] → v.numbered ≡ [] → Splits K id v (parent v) (child v)
   splits id v two no_draw no_return no_number s kept at = let l : View P = parent v in let r : View P = child v in let vs : List (View P) = set s.views id l in let mine = (kept.each id v at).planned (omega arith) in
       let sum : (f : View P → ℕ) → total f (vs ++ r ∷ []) + f v ≡ total f s.views + f l + f r = λ f. (let a = total_set f s.views id v l at in let b = total_snoc f vs r in omega arith) in record {

@@ -20,7 +20,7 @@ module _ {T P : Type 0} (fresh : P → ℕ → T → Type 0) (plan : P) (n : ℕ
   abbrev Seat : Type 0
   Seat = Me (Option T) (View P)
 
-  -- where a claim that goes on drew an item
+  -- a claim that continues drew an item
   pub sits_drawn : (me me' : Seat) (m : ℕ) → Sits fresh plan n false me → Drew fresh (step n 0 1 0 none) me m me' → m < n → Sits fresh plan n false me'
   sits_drawn me me' m s d low = let got = d.3 low in let x : T = got.0 in let w : View P = with_drawn me.0 m in
       subst (Sits fresh plan n false) (let e : (w, (m, Some x) ∷ me.1) ≡ me' = λ k. (sym d.0 k, sym got.1 k) in e) record {

@@ -26,7 +26,7 @@ module _ {T P : Type 0} (fresh done : P → ℕ → T → Type 0) (number : T �
   abbrev pub Keeps : State (Option T) (View P) → Type 0
   Keeps = Kept fresh done number plan claims
 
-  -- a view stands where the homes of what it returned are the same
+  -- a view still holds if the homes of what it returned are the same
   pub moves : (homes homes' : Homes) (v : View P) → length homes' ≡ length homes → ((i : ℕ) → Has v.returned i → get_elem? homes' i ≡ get_elem? homes i) → Stands homes v → Stands homes' v
   moves homes homes' v long stay s = record {
     numbered = s.numbered;
@@ -37,7 +37,7 @@ module _ {T P : Type 0} (fresh done : P → ℕ → T → Type 0) (number : T �
     empty = s.empty;
   }
 
-  -- each view stands after one has changed
+  -- each view still holds after one has changed
   pub all_set : (F : View P → Type 0) (views : List (View P)) (id : ℕ) (w : View P) → F w → ((j : ℕ) (u : View P) → j ≢ id → get_elem? views j ≡ some u → F u)
       → (j : ℕ) (u : View P) → get_elem? (set views id w) j ≡ some u → F u
   all_set F views id w mine others j u e = ⊎_elim (λ (x : (j ≡ id) × (w ≡ u)). subst F x.1 mine) (λ (x : (j ≢ id) × (get_elem? views j ≡ some u)). others j u x.0 x.1) (at_set views id j w u e)

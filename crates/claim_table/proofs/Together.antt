@@ -49,7 +49,7 @@ module _ {T P : Type 0} (fresh : P → ℕ → T → Type 0) (r : Round T P) (c 
     past = (g.past.0, has_left v.drawn (drawn_by c) g.past.0 g.past.1, g.past.2);
   }
 
--- a slot of a list in which each value is there has one
+-- a slot of a list where each value is present has one
 pub is_there : {T : Type 0} (ys : List T) (i : ℕ) (o : Option T) → get_elem? (map Some ys) i ≡ some o → o ≡ None → ⊥
 is_there [] i o e n = some-ne-none o (sym e)
 is_there (y ∷ ys) zero o e n = let a : Some y ≡ o = some-injective (Some y) o e in cc

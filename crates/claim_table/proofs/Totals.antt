@@ -35,7 +35,7 @@ module _ {A : Type 0} where
   total_none f [] h = refl
   total_none f (x ∷ xs) h = let r = total_none f xs (λ j w b. h (suc j) w b) in let q = h 0 x refl in omega arith
 
-  -- where f is 0 at each but one, its total is what it is there
+  -- if f is 0 at all members but one, its total is its value there
   pub total_alone : (f : A → ℕ) (l : List A) (k : ℕ) (v : A) → get_elem? l k ≡ some v → ((j : ℕ) (w : A) → j ≢ k → get_elem? l j ≡ some w → f w ≡ 0) → total f l ≡ f v
   total_alone f [] k v e h = absurd (some-ne-none v (sym e))
   total_alone f (x ∷ xs) zero v e h = let q : f x ≡ f v = ap f (some-injective x v e) in let r = total_none f xs (λ j w b. h (suc j) w (λ z. omega arith) b) in omega arith

@@ -8,17 +8,19 @@ use Rattle.claim_table.specs.Sums.{weigh, past, Has}
 use Rattle.claim_table.specs.Rule.{firsts}
 use Rattle.claim_table.specs.Held.{Holds, Once}
 
--- the number that was drawn last isn't below n
+-- the number drawn last isn't below n
 abbrev pub EndsPast : List ℕ → ℕ → Type 0
 EndsPast [] n = ⊥
 EndsPast (m ∷ ms) n = n ≤ m
 
--- how many numbers below n are above the one that was drawn last
+-- the count of numbers below n that are above the one drawn last
 abbrev pub left_below : ℕ → List ℕ → ℕ
 left_below n [] = n
 left_below n (m ∷ ms) = n - suc m
 
--- what a claim's seat knows: the plan; that it stands for one claim; whether it drew a number that isn't below n; that the value of an item that waits with it is fresh; that what it holds it drew and has not returned, each slot once; that what it returned and numbered it drew
+-- what a claim's seat knows: the plan; that it stands for one claim; whether it drew a number that isn't below n; that
+-- the value of an item it hasn't taken is fresh; that it drew and hasn't returned what it holds, each slot once; that
+-- it drew what it returned and numbered
 pub record Sits {T P : Type 0} (fresh : P → ℕ → T → Type 0) (plan : P) (n : ℕ) (over : Bool) (me : Me (Option T) (View P)) : Type 0 where
   pub planned : me.0.plan ≡ Some plan
   pub part : me.0.parts ≡ 1
@@ -39,11 +41,11 @@ module _ {T P : Type 0} where
   abbrev pub claims_of : Round T P → ℕ
   claims_of r = r.table.shared.key.claims
 
-  -- what the items of the round belong to
+  -- the plan of the round, which its items belong to
   abbrev pub plan_of : Round T P → P
   plan_of r = r.table.shared.key.plan.value
 
-  -- the numbers that the claim drew, the last one first
+  -- the numbers that the claim drew, last one first
   abbrev pub drawn_by : Claim T P → List ℕ
   drawn_by c = c.seat.me.0.drawn
 
@@ -75,19 +77,19 @@ module _ {T P : Type 0} where
   abbrev pub items_left : Round T P → Claim T P → ℕ
   items_left r c = left_below (count_of r) (drawn_by c)
 
-  -- each item is with d as it is with c
+  -- each item has the same state with d as with c
   abbrev pub SameItems : Claim T P → Claim T P → Type 0
   SameItems c d = (i : ℕ) (s : Option T) → Holds c.seat.me.1 i s ↔ Holds d.seat.me.1 i s
 
-  -- each item but k is with d as it is with c
+  -- each item except k has the same state with d as with c
   abbrev pub SameBut : ℕ → Claim T P → Claim T P → Type 0
   SameBut k c d = (i : ℕ) (s : Option T) → i ≢ k → Holds c.seat.me.1 i s ↔ Holds d.seat.me.1 i s
 
-  -- it is a claim of this round
+  -- the claim is one of this round
   abbrev pub IsClaimOf : (P → ℕ → T → Type 0) → Round T P → Claim T P → Type 0
   IsClaimOf fresh r c = (c.seat.table_id ≡ r.table.shared.table_id) × Sits fresh (plan_of r) (count_of r) c.over c.seat.me
 
-  -- the number that the claim drew last isn't below the count of items
+  -- the number that the claim drew last isn't below the number of items
   abbrev pub HasEnded : Round T P → Claim T P → Type 0
   HasEnded r c = EndsPast (drawn_by c) (count_of r)
 

@@ -5,7 +5,7 @@ use Rattle.claim_table.specs.declared.table.Claim.{Claim}
 use Rattle.claim_table.specs.Sums.{weigh, total, Has}
 use Rattle.claim_table.specs.Claims.{drawn_by}
 
--- it has drawn what they drew, returned each of the items below n that it drew, and drew a number that isn't below n
+-- it has drawn what they drew, returned each item below n that it drew, and drew a number that isn't below n
 pub record Gathers {T P : Type 0} (n : ℕ) (claims : List (Claim T P)) (v : View P) : Type 0 where
   pub parts : v.parts ≡ length claims
   pub drawn : (h : ℕ → ℕ) → weigh h v.drawn ≡ total (λ c. weigh h (drawn_by c)) claims

@@ -1,4 +1,4 @@
--- The rule of a round. Word 0 counts the draws, word 1 the numbers, and the slot i holds the item i or nothing.
+-- The rule of a round. Word 0 counts the draws, word 1 the numbers, and slot i holds item i or nothing.
 use Rattle.std.specs.Prelude.{◌≡◌, ℕ, ◌+◌, ◌-◌, ◌^◌, ◌<◌, ◌≤◌, ◌⊎◌, List, [], ◌∷◌, ◌++◌, length, Option, Some, None, slice_index}
 use mathlib.Core.Option.{some}
 use mathlib.Core.Option as maybe
@@ -26,14 +26,14 @@ module _ {P : Type 0} where
   abbrev pub opened : P → ℕ → View P
   opened plan claims = record { plan = Some plan; parts = claims; drawn = []; returned = []; numbered = [] }
 
-  -- one claim is cut off a view with empty lists
+  -- one claim is split off a view with empty lists
   abbrev pub parent : View P → View P
   parent v = record { plan = v.plan; parts = v.parts - 1; drawn = v.drawn; returned = v.returned; numbered = v.numbered }
 
   abbrev pub child : View P → View P
   child v = record { plan = v.plan; parts = 1; drawn = []; returned = []; numbered = [] }
 
-  -- one view takes over all of another
+  -- one view takes over everything of another
   abbrev pub both : View P → View P → View P
   both v w = record { plan = v.plan; parts = v.parts + w.parts; drawn = v.drawn ++ w.drawn; returned = v.returned ++ w.returned; numbered = v.numbered ++ w.numbered }
 
@@ -49,11 +49,13 @@ module _ {P : Type 0} where
   abbrev pub with_returned : View P → ℕ → View P
   with_returned v i = record { plan = v.plan; parts = v.parts; drawn = v.drawn; returned = i ∷ v.returned; numbered = v.numbered }
 
--- the item i is at home, with this value
+-- item i is at home, with this value
 abbrev pub AtHome : {T : Type 0} → List (maybe.Option (Option T)) → ℕ → T → Type 0
 AtHome homes i x = get_elem? homes i ≡ some (some (Some x))
 
--- what holds of one view: its numbers are for items that it drew, one each; it passed the end at most once for each claim that it stands for; what it returned is at home, done, and keeps its number; it keeps the plan, unless it is spent
+-- what holds of one view: its numbers are for items that it drew, one each; it passed the end at most once for each
+-- claim that it stands for; what it returned is at home, done, and keeps its number; it keeps the plan, unless it is
+-- consumed
 pub record Standing {T P : Type 0} (done : P → ℕ → T → Type 0) (number : T → ℕ) (plan : P) (claims : ℕ) (homes : List (maybe.Option (Option T))) (v : View P) : Type 0 where
   pub numbered : (h : ℕ → ℕ) → weigh h (firsts v.numbered) ≤ weigh h v.drawn
   pub inner : weigh (past (length homes)) (firsts v.numbered) ≡ 0
@@ -62,7 +64,8 @@ pub record Standing {T P : Type 0} (done : P → ℕ → T → Type 0) (number :
   pub planned : 0 < v.parts → v.plan ≡ Some plan
   pub empty : v.parts ≡ 0 → (v.drawn ≡ []) × (v.returned ≡ []) × (v.numbered ≡ [])
 
--- what holds of the table: all that was drawn is each number below word 0, once, and the numbers of items are each number below word 1, once; an item that no one drew is at home and fresh
+-- what holds of the table: the draws are the numbers below word 0, each once, and the numbers of items are those below
+-- word 1, each once; an item that nobody drew is at home and fresh
 pub record Kept {T P : Type 0} (fresh done : P → ℕ → T → Type 0) (number : T → ℕ) (plan : P) (claims : ℕ) (s : State (Option T) (View P)) : Type 0 where
   pub wide : length s.words ≡ 2
   pub small : length s.homes + claims + 1 < 2 ^ 64

@@ -1,17 +1,17 @@
--- Sums over lists, at every weighing of numbers.
+-- Sums over lists, for every weighting of numbers.
 use Rattle.std.specs.Prelude.{◌≡◌, ℕ, zero, suc, ◌+◌, ◌<◌, ◌⊎◌, List, [], ◌∷◌}
 
--- the weights of the numbers, added up
+-- the sum of the numbers' weights
 abbrev pub weigh : (ℕ → ℕ) → List ℕ → ℕ
 weigh h [] = 0
 weigh h (x ∷ xs) = h x + weigh h xs
 
--- the weights of the numbers below n, added up
+-- the sum of the weights of the numbers below n
 abbrev pub below : (ℕ → ℕ) → ℕ → ℕ
 below h zero = 0
 below h (suc n) = below h n + h n
 
--- f of each, added up
+-- the sum of f over the members
 abbrev pub total : {A : Type 0} → (A → ℕ) → List A → ℕ
 total f [] = 0
 total f (x ∷ xs) = f x + total f xs
@@ -29,11 +29,11 @@ past zero x = 1
 past (suc n) zero = 0
 past (suc n) (suc x) = past n x
 
--- i stands in the list
+-- i occurs in the list
 abbrev pub Has : List ℕ → ℕ → Type 0
 Has [] i = ⊥
 Has (x ∷ xs) i = (i ≡ x) ⊎ Has xs i
 
--- each in the list is below m
+-- each member is below m
 abbrev pub AllBelow : List ℕ → ℕ → Type 0
 AllBelow xs m = (i : ℕ) → Has xs i → i < m

@@ -1,4 +1,4 @@
-//! How a round ends.
+//! The end of a round.
 ghost use Rattle.std.specs.Prelude.{◌≡◌, ℕ, ◌<◌, ◌≤◌, [], List, Some, map, All, IfOk, slice_get, vec_len, vec_capacity};
 ghost use Rattle.std.specs.Mem.Slots.{IsFull, slots_items, slots_len};
 ghost use Rattle.claim_table.specs.Sums.{weigh, below, total};
@@ -12,7 +12,7 @@ use atomic_table::{Closed, Seat};
 use std::alloc::{AllocError, Global};
 
 impl<T: Item> Round<T> {
-    /// Ends the round, with all its claims. The values come back in the order of their places.
+    /// Ends the round and all its claims. Returns the values in the order of their places.
     pub fn close(self, alloc: Global, claims: Vec<Claim<T>>) -> Result<Vec<T>, AllocError>
         requires all { vec_len claims ≡ claims_of self }
         requires own { All (IsClaimOf T.fresh self) claims.items }
@@ -24,7 +24,7 @@ impl<T: Item> Round<T> {
         // The numbers of n values are 0 to n - 1, each once.
         ensures numbers { IfOk result (λ values. (h : ℕ → ℕ) → weigh h (map T.number values.items) ≡ below h (count_of self)) }
 
-        // All numbers up to some m were drawn, each by one claim and once, and m is above the count of items.
+        // The numbers drawn are 0 up to some m above the number of items, each drawn once, by one claim.
         ensures drawn { IfOk result (λ _. (m : ℕ) × (count_of self < m) × ((h : ℕ → ℕ) → total (λ c. weigh h (drawn_by c)) claims.items ≡ below h m)) }
     {
         let values = Vec::with_capacity(alloc, self.count as usize)?;
@@ -33,7 +33,7 @@ impl<T: Item> Round<T> {
         Ok(moved(values, table.close_with(seat)))
     }
 
-    // One seat, which stands for all claims.
+    // One seat that stands for all claims.
     fn gathered(&self, mut claims: Vec<Claim<T>>) -> Seat<Option<T>, View<T::Plan>>
         requires some { 0 < vec_len claims }
         requires own { All (IsClaimOf T.fresh self.now) claims.items }
@@ -53,7 +53,7 @@ impl<T: Item> Round<T> {
     }
 }
 
-// The values of the slots, in a list that has room for them.
+// Moves the values of the slots into `values`, which has room for them.
 fn moved<T: Drop>(mut values: Vec<T>, mut closed: Closed<Option<T>, Global>) -> Vec<T>
     requires empty { values.items ≡ [] }
     requires room { slots_len closed.slots ≤ vec_capacity values }

@@ -1,17 +1,17 @@
 //! What a round hands out.
 ghost use Rattle.std.specs.Prelude.{ℕ};
 
-/// An item of a round. It has no functions, only three meanings.
+/// An item of a round. It has no functions, only meanings for the contracts.
 pub trait Item: Drop {
-    /// What the items of one round belong to. The round keeps it for its contracts alone.
+    /// What the items of one round belong to. The round keeps it for the contracts alone.
     type Plan;
 
-    // The value may be handed out at this place.
+    // Whether the value may be handed out at this place.
     ghost fresh: { Self.Plan → ℕ → Self → Type 0 };
 
-    // The value may be given back at this place.
+    // Whether the value may be given back at this place.
     ghost done: { Self.Plan → ℕ → Self → Type 0 };
 
-    // The number that the value keeps.
+    // The number that the value stores.
     ghost number: { Self → ℕ };
 }

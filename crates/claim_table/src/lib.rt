@@ -1,4 +1,5 @@
-//! A round hands out items to threads, each item once, and takes the items back with the numbers that the threads drew for them.
+//! A round hands out items to threads, each item once, and takes them back with the numbers that the threads drew for
+//! them.
 #![tactic(auto)]
 
 mod bring;

@@ -1,4 +1,4 @@
-//! How a round is made, with all its claims.
+//! Making a round and its claims.
 ghost use Rattle.std.specs.Prelude.{◌≡◌, ℕ, ◌^◌, ◌<◌, [], Some, map, All, IfOk, slice_get, vec_len};
 ghost use Rattle.claim_table.specs.Rule.{opened};
 ghost use Rattle.claim_table.specs.Claims.{IsClaimOf, IsNew, count_of, claims_of, plan_of};
@@ -25,7 +25,7 @@ fn wrapped<T: Drop>(alloc: Global, items: Vec<T>) -> Result<Vec<Option<T>>, Allo
 }
 
 impl<T: Item> Round<T> {
-    /// A round of these items, each of which is fresh at its place, with as many claims as are asked for.
+    /// A round of these items, each fresh at its place, with the requested number of claims.
     pub fn new(
         alloc: Global,
         items: Vec<T>,
@@ -56,7 +56,7 @@ impl<T: Item> Round<T> {
         }
     }
 
-    // Makes the claims, of the first seat, which stands for all of them.
+    // Splits the claims off the first seat, which stands for all of them.
     fn parted(
         &self,
         alloc: Global,

@@ -1,11 +1,11 @@
-//! The rule of a round, and what each atomic step tells. These types are for the proofs alone.
+//! The rule of a round, and what each atomic step records. These types serve the proofs alone.
 use crate::item::Item;
 use atomic_table::{Join, Play, Split, TableRule};
 use std::collections::LinkedList;
 use std::marker::PhantomData;
 use std::snapshot::Snapshot;
 
-/// What a claim knows. No value of it is made.
+/// What a claim knows. No such value exists at run time.
 pub struct View<P> {
     pub plan: Option<P>,
     pub parts: u64,
@@ -14,7 +14,7 @@ pub struct View<P> {
     pub numbered: LinkedList<(u64, u64)>,
 }
 
-/// What the table is told once: how many claims it has, and the plan.
+/// What the table is told at the start: the number of claims, and the plan.
 #[derive(Drop)]
 pub struct Key<P> {
     pub claims: u64,

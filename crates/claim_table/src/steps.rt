@@ -1,4 +1,4 @@
-//! What a claim does in a round.
+//! The steps of a claim in a round.
 ghost use Rattle.std.specs.Prelude.{◌≡◌, ℕ, ◌<◌, ◌↔◌, ◌∷◌, IfSome, MatchOption};
 ghost use Rattle.claim_table.specs.Sums.{AllBelow};
 ghost use Rattle.claim_table.specs.Rule.{Says};
@@ -9,13 +9,13 @@ use crate::item::Item;
 use crate::plays::{Draws, Homes, Numbers};
 use crate::table::{Claim, Round};
 
-// The word that counts draws, and the word that counts numbers.
+// The indexes of the word that counts draws and of the word that counts numbers.
 const DRAWS: usize = 0;
 
 const NUMBERS: usize = 1;
 
 impl<T: Item> Round<T> {
-    /// Draws the next number for the claim: an item's, or `None` once there are no more. After that the claim draws none.
+    /// Draws the next item for the claim, or `None` once there are no more. After that the claim draws none.
     pub fn draw(&self, claim: &mut Claim<T>) -> Option<u32>
         requires { IsClaimOf T.fresh self.now claim.old }
         ensures claim { IsClaimOf T.fresh self.now claim.new }
@@ -67,7 +67,7 @@ impl<T: Item> Round<T> {
         }
     }
 
-    /// Draws the next number for an item that the claim has and that has no number.
+    /// Draws the next number for an item that the claim holds and that has no number yet.
     pub fn commit_number(&self, claim: &mut Claim<T>, item: u32) -> u32
         requires claim { IsClaimOf T.fresh self.now claim.old }
         requires owed { IsOwed claim.old item }
@@ -88,7 +88,7 @@ impl<T: Item> Round<T> {
         number as u32
     }
 
-    /// Puts the item back, with a value that is done and keeps the item's number.
+    /// Gives back the item with a value that is done and stores the item's number.
     pub fn give_back(&self, claim: &mut Claim<T>, item: u32, value: T)
         requires claim { IsClaimOf T.fresh self.now claim.old }
         requires taken { IsTaken claim.old item }

@@ -1,4 +1,4 @@
-//! A round and its claims, over a table of two words and a slot for each item.
+//! A round and its claims, on a table of two words and a slot per item.
 ghost use Rattle.std.specs.Prelude.{◌≡◌, ◌^◌, ◌<◌};
 
 use crate::item::Item;
@@ -17,7 +17,7 @@ pub struct Round<T: Item> {
     ghost claimed: { 0 < table.shared.key.claims },
 }
 
-/// A seat of a round, which one thread draws with. Only its own calls change what it knows.
+/// A seat in a round, used by one thread. Only its own calls change what it knows.
 #[derive(Drop)]
 pub struct Claim<T: Item> {
     pub(crate) seat: Seat<Option<T>, View<T::Plan>>,

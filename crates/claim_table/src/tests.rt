@@ -28,7 +28,7 @@ fn seal(round: &Round<Parcel>, mut claim: Claim<Parcel>) -> Claim<Parcel>
     claim
 }
 
-// Each claim seals parcels in a thread of its own, where one can be made.
+// Each claim seals parcels in a thread of its own, if a thread can be started.
 fn seal_all<R: Threads + Sync>(
     rt: &R,
     round: &Round<Parcel>,
@@ -83,7 +83,7 @@ fn threads_seal_each_parcel_once(rt: HostRuntime) -> Result<(), Fail> {
     Ok(())
 }
 
-// Draws two parcels, and takes and numbers them in another order than it gives them back.
+// Draws two parcels, and takes and numbers them in a different order from the one in which it gives them back.
 fn seal_two(round: &Round<Parcel>, mut claim: Claim<Parcel>) -> Option<Claim<Parcel>>
     requires claim { IsClaimOf ⟦<Parcel as Item>⟧.fresh round.now claim }
     requires returned { HasGivenBack round.now claim }

@@ -1,6 +1,6 @@
--- What comes of a task that went over what the broker has keeps a good state.
+-- The outcome of a task that processed what the broker has keeps a good state.
 use Rattle.std.proofs.Common.{◌≡◌, ◌∙◌, ap, ap₂, refl, sym, subst, ℕ, ◌<◌, ◌≤◌, List, ◌∷◌, ◌++◌, false, true≢false, eq-eqb, arith}
-use Rattle.std.specs.Prelude.{All, Contains, IfNone, IfSome, Option, Some, None, ◌==◌, is_none}
+use Rattle.std.specs.Prelude.{Contains, IfNone, IfSome, Option, Some, None, ◌==◌, is_none}
 use Rattle.ksql_place.specs.declared.change.SourceRecord.{SourceRecord}
 use Rattle.ksql_program.specs.Sound.{IsSound}
 use Rattle.ksql_program.specs.declared.program.Item.{Item}
@@ -21,13 +21,12 @@ use Rattle.task_core.specs.Core.{inputs_at, nodes_at}
 use Rattle.task_core.specs.Tasks.{IsProposedBy, IsSameTask, TaskView, bound_of, next_entries}
 use Rattle.task_core.specs.declared.task.Moved.{Moved}
 use Rattle.feed_laws.specs.Fitting.{Fits}
-use Rattle.storing_laws.specs.Short.{HasFewAggregates}
-use Rattle.cluster_core.specs.Cluster.{IsTaskIn, idle, instance_in, instance_of}
-use Rattle.cluster_core.specs.Rounds.{IsAdvanced}
+use Rattle.cluster_laws.specs.Tasks.{IsTaskIn, idle, instance_in, instance_of}
+use Rattle.cluster_laws.specs.Rounds.{IsAdvanced}
 use Rattle.cluster_core.proofs.Advancing.{bound-same, in-topology, is, shown, takes-same, within}
-use Rattle.cluster_core.proofs.Lists.{all-instead, map-instead}
-use Rattle.cluster_core.proofs.Names.{AreApart}
-use Rattle.cluster_core.proofs.Running.{on_shelf, parts_of}
+use Rattle.cluster_laws.proofs.Lists.{all-instead, map-instead}
+use Rattle.cluster_laws.proofs.Names.{AreApart}
+use Rattle.cluster_laws.proofs.Running.{on_shelf, parts_of}
 use Rattle.cluster_core.proofs.Tasks.{AreRunning, IsNamed, IsNewest, d, here, means, newest, next-here, same-else, top}
 
 module _ (items : List Item) (order : List SourceRecord) (sound : IsSound items) (fits : Fits items order)
@@ -100,7 +99,6 @@ module _ (items : List Item) (order : List SourceRecord) (sound : IsSound items)
         record {
           nodes = has.same.nodes ∙ mine.nodes ∙ ap (nodes_at (topology_of items)) (sym has.same.name);
           inputs = has.same.inputs ∙ mine.inputs ∙ ap (inputs_at (topology_of items)) (sym has.same.name);
-          few = subst (All HasFewAggregates) (sym has.same.nodes) mine.few;
         }
 
     -- the task in its place, with what it proposes

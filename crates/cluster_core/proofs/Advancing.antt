@@ -1,4 +1,4 @@
--- A task that waits with no proposal can go over what a broker has, and its outcome keeps a good state.
+-- A task that waits with no proposal can process what a broker has, and its outcome keeps a good state.
 use Rattle.std.proofs.Common.{◌≡◌, ◌∙◌, ap, ap₂, sym, subst, ℕ, ◌<◌, ◌≤◌, List, [], ◌∷◌, ◌++◌, map, length, arith}
 use Rattle.std.proofs.lemmas.List.{append_cancel_left}
 use Rattle.std.proofs.lemmas.List.Elements.{All-from_recursion}
@@ -12,7 +12,7 @@ use Rattle.operator.specs.Holding.{Maps}
 use Rattle.meaning_laws.proofs.Lists.{All-weaker}
 use Rattle.topology.specs.Topologies.{subs, topology_of}
 use Rattle.topology.specs.declared.topology.SubInput.{SubInput}
-use Rattle.topology_laws.proofs.Paths.{holds-of}
+use Rattle.sending_laws.proofs.Paths.{holds-of}
 use Rattle.core_state.specs.Routes.{Routes}
 use Rattle.core_state.specs.Shelf.{Shelf, shelf_closed}
 use Rattle.core_state.specs.State.{IsTask, State, bound, closed, lowest}
@@ -20,7 +20,6 @@ use Rattle.core_state.specs.Wired.{between, log_feed}
 use Rattle.core_state.specs.declared.log.LogEntry.{LogEntry}
 use Rattle.core_state.proofs.Instances.{shown-all}
 use Rattle.core_state.proofs.Lists.{lowest-le}
-use Rattle.storing_laws.specs.Short.{HasFewAggregates}
 use Rattle.storing_laws.specs.Stored.{CanBeStored}
 use Rattle.op_chain.specs.Chain as chain
 use Rattle.op_chain.specs.Chain.{AreStorable, HaveOwnStores, StandAlong}
@@ -31,13 +30,13 @@ use Rattle.task_core.specs.Reading.{reads}
 use Rattle.task_core.specs.Tasks.{CanRead, CanStore, TaskView, bound_of, next_entries}
 use Rattle.task_core.specs.declared.task.Moved.{Moved}
 use Rattle.core_laws.proofs.StageNodes.{task-stores}
-use Rattle.core_laws.proofs.SubReads.{ReadsIn}
+use Rattle.wiring_laws.proofs.SubReads.{ReadsIn}
 use Rattle.feed_laws.specs.Fitting.{Fits}
-use Rattle.cluster_core.specs.Cluster.{IsTaskIn, idle}
-use Rattle.cluster_core.specs.Rounds.{CanAdvance, HasParts, count_at}
-use Rattle.cluster_core.proofs.Inputs.{ReadsAlike, subs-alike}
-use Rattle.cluster_core.proofs.Reading.{inputs-are, part-within, reads-in, reads-same, sub-at}
-use Rattle.cluster_core.proofs.Running.{on_shelf}
+use Rattle.cluster_laws.specs.Tasks.{IsTaskIn, idle}
+use Rattle.cluster_laws.specs.Rounds.{CanAdvance, HasParts, count_at}
+use Rattle.cluster_laws.proofs.Inputs.{ReadsAlike, subs-alike}
+use Rattle.cluster_laws.proofs.Reading.{inputs-are, part-within, reads-in, reads-same, sub-at}
+use Rattle.cluster_laws.proofs.Running.{on_shelf}
 use Rattle.cluster_core.proofs.Storing.{next-storable, parts, some_of}
 use Rattle.cluster_core.proofs.Tasks.{AreRunning, d, good-task, in-step, is-task, means, mine, top}
 
@@ -133,14 +132,13 @@ module _ (items : List Item) (order : List SourceRecord) (sound : IsSound items)
         (subst (λ (n : ℕ). StandAlong nodes (chain.maps_after nodes (b.logs task.name)) (mean.entries task.name n)) (sym step.0) logs) in
         let storable : AreStorable nodes (mean.entries task.name task.done) (next_entries routes b task) =
         subst (AreStorable nodes (mean.entries task.name task.done)) (sym takes-next)
-        (next-storable items order sound fits task.name is law
-        (subst (All HasFewAggregates) in-topology.nodes in-topology.few) task.done (bound_of routes b task) within) in (
+        (next-storable items order sound fits task.name is law task.done (bound_of routes b task) within) in (
           mean.entries task.name task.done,
           subst (λ (ns : List Node). StandAlong ns task.maps (mean.entries task.name task.done)) (sym in-topology.nodes) stands,
           subst (λ (ns : List Node). AreStorable ns (mean.entries task.name task.done) (next_entries routes b task)) (sym in-topology.nodes) storable,
         )
 
-    -- it can go over what the broker has
+    -- it can process what the broker has
     pub can-advance : CanBeStored items (topology_of items) order → CanAdvance routes b task
     can-advance law = record {
       within = within;

@@ -17,14 +17,14 @@ use Rattle.assignor.specs.Rule.{is_with}
 use Rattle.task_core.specs.Tasks.{CanRead}
 use Rattle.task_core.specs.declared.task.Moved.{Moved}
 use Rattle.feed_laws.specs.Fitting.{Fits}
-use Rattle.cluster_core.specs.Cluster.{idle}
-use Rattle.cluster_core.specs.Rounds.{AllSettle, CanAdvance, CanCommit, HasParts, HasRun, ProposeApart, Settles, offered}
-use Rattle.cluster_core.specs.declared.rounds.Ran.{Ran}
-use Rattle.cluster_core.specs.declared.seats.Seat.{Seat}
+use Rattle.cluster_laws.specs.Tasks.{idle}
+use Rattle.cluster_laws.specs.Rounds.{AllSettle, CanAdvance, CanCommit, HasParts, HasRun, ProposeApart, Settles, offered}
+use Rattle.cluster_laws.specs.declared.seats.Ran.{Ran}
+use Rattle.cluster_laws.specs.declared.seats.Seat.{Seat}
 use Rattle.cluster_core.proofs.Advanced.{advanced-task}
 use Rattle.cluster_core.proofs.Advancing.{can-advance, readable}
-use Rattle.cluster_core.proofs.Lists.{all-mapped}
-use Rattle.cluster_core.proofs.Names.{AreApart}
+use Rattle.cluster_laws.proofs.Lists.{all-mapped}
+use Rattle.cluster_laws.proofs.Names.{AreApart}
 use Rattle.cluster_core.proofs.Settling.{settled}
 use Rattle.cluster_core.proofs.Tasks.{AreRunning, IsNamed, can-commit, top}
 
@@ -69,7 +69,7 @@ module _ (items : List Item) (order : List SourceRecord) (sound : IsSound items)
   pub offers-apart : (b : Shelf) (rs : List Ran) → AreRunning items order b (map (λ (r : Ran). r.moved) rs) → Pairwise ProposeApart (map offered rs)
   offers-apart b rs run = apart-all rs (all-mapped IsNamed (λ (r : Ran). r.moved) rs run.named) (pairs-of rs run.apart)
 
-  -- ---- all go over what the broker has, but those of a worker that is lost
+  -- ---- all process what the broker has, but those of a worker that is lost
 
   module _ (b : Shelf) where
     abbrev routes : Routes

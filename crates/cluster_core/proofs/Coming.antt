@@ -10,10 +10,10 @@ use Rattle.meaning_laws.proofs.Lists.{All-map, Pairwise}
 use Rattle.topology.specs.Tasks.{chain_of, tasks_of}
 use Rattle.topology.specs.Topologies.{subs, topology_of}
 use Rattle.topology.specs.declared.topology.Topology.{Topology}
-use Rattle.topology_laws.proofs.Paths.{holds-of}
+use Rattle.sending_laws.proofs.Paths.{holds-of}
 use Rattle.core_state.specs.Good.{Good}
 use Rattle.core_state.specs.declared.journal.JournalEntry.{JournalEntry}
-use Rattle.storing_laws.specs.Short.{HoldTexts}
+use Rattle.short_laws.specs.Short.{HoldTexts}
 use Rattle.topic_log.specs.Giving.{with_gone}
 use Rattle.topic_log.specs.Shelves.{shelf_of, topics_of}
 use Rattle.topic_log.specs.declared.shelves.Shelves.{Shelves}
@@ -22,17 +22,17 @@ use Rattle.task_core.specs.Tasks.{TaskView}
 use Rattle.task_core.specs.declared.task.Moved.{Moved}
 use Rattle.core_laws.specs.Core.{meaning_in_core}
 use Rattle.assignor.specs.declared.assignment.Owned.{Owned}
-use Rattle.cluster_core.specs.Cluster.{HasComeWith, IsKept, IsOwned, IsProgress, IsRead, IsTaskIn, core_state_of, idle}
-use Rattle.cluster_core.specs.Giving.{Gone, is_taker}
-use Rattle.cluster_core.specs.Few.{NodesHaveFew}
-use Rattle.cluster_core.specs.Moves.{owned_of}
-use Rattle.cluster_core.specs.Progress.{Progress}
+use Rattle.cluster_core.specs.Cluster.{HasComeWith, IsKept, IsProgress}
+use Rattle.cluster_laws.specs.Tasks.{IsOwned, IsRead, IsTaskIn, core_state_of, idle}
+use Rattle.cluster_laws.specs.Giving.{Gone, is_taker}
+use Rattle.cluster_laws.specs.Moves.{owned_of}
+use Rattle.cluster_laws.specs.Progress.{Progress}
 use Rattle.cluster_core.specs.declared.cluster.Cluster.{Cluster}
-use Rattle.cluster_core.specs.declared.seats.Seat.{Seat}
+use Rattle.cluster_laws.specs.declared.seats.Seat.{Seat}
 use Rattle.cluster_core.specs.declared.sources.Source.{Source as Kept}
-use Rattle.cluster_core.proofs.Lists.{all-mapped}
-use Rattle.cluster_core.proofs.Names.{AreApart}
-use Rattle.cluster_core.proofs.Owners.{owned-apart}
+use Rattle.cluster_laws.proofs.Lists.{all-mapped}
+use Rattle.cluster_laws.proofs.Names.{AreApart}
+use Rattle.cluster_laws.proofs.Owners.{owned-apart}
 use Rattle.cluster_core.proofs.Tasks.{AreRunning, IsNamed}
 
 -- ---- names
@@ -95,7 +95,7 @@ module _ (items : List Item) (p : Progress) (ms : List Moved) (c : Cluster) wher
     pub newest-come : (u : TaskName) → Contains (tasks_of (subs items)) u → (shelf_of c.broker).newest u ≡ p.newest u
     newest-come = at-tasks (λ u. (shelf_of c.broker).newest u ≡ p.newest u) h.newest
 
-    -- what the broker gave away of what a task reads
+    -- what the broker handed over of what a task reads
     pub read-come : (u : TaskName) → Contains (tasks_of (subs items)) u → IsRead (topology_of items) h.gone (shelf_of c.broker) u
     read-come u among =
         subst (λ (t : Topology). IsRead t h.gone (shelf_of c.broker) u) h.topology (at-tasks (IsRead c.topology h.gone (shelf_of c.broker)) h.read u among)
@@ -105,9 +105,6 @@ module _ (items : List Item) (p : Progress) (ms : List Moved) (c : Cluster) wher
 
     pub topics-come : topics_of c.broker ≡ (topology_of items).topics
     topics-come = h.topics ∙ ap (λ (t : Topology). t.topics) h.topology
-
-    pub few-come : AllByRecursion NodesHaveFew (subs items)
-    few-come = subst (λ (t : Topology). AllByRecursion NodesHaveFew t.subs) h.topology (recursion_from_All NodesHaveFew c.topology.subs h.few)
 
   to-tasks : (P : TaskName → Type 0) → ((u : TaskName) → Contains (tasks_of (subs items)) u → P u) → All P (tasks_of (subs items))
   to-tasks P each =
@@ -123,7 +120,6 @@ module _ (items : List Item) (p : Progress) (ms : List Moved) (c : Cluster) wher
     pub texts : HoldTexts items
     pub progress : IsProgress items p
     pub topology : c.topology ≡ topology_of items
-    pub few : All NodesHaveFew c.topology.subs
     pub chain : c.chain ≡ chain_of c.topology.subs
     pub topics : topics_of c.broker ≡ c.topology.topics
     pub live : c.live.items ≡ p.live
@@ -146,7 +142,6 @@ module _ (items : List Item) (p : Progress) (ms : List Moved) (c : Cluster) wher
     texts = is.texts;
     progress = is.progress;
     topology = is.topology;
-    few = is.few;
     chain = is.chain;
     topics = is.topics;
     live = is.live;
@@ -194,7 +189,6 @@ same-come items p ms c next live journal is rises h =
       texts = h.texts;
       progress = record { sources = h.progress.sources; order = h.progress.order; none_later = h.progress.none_later; live = rises; owned = h.progress.owned };
       topology = is.topology ∙ h.topology;
-      few = subst (λ (t : Topology). All NodesHaveFew t.subs) (sym is.topology) h.few;
       chain = is.chain ∙ h.chain ∙ ap (λ (t : Topology). chain_of t.subs) (sym is.topology);
       topics = ap topics_of is.broker ∙ h.topics ∙ ap (λ (t : Topology). t.topics) (sym is.topology);
       live = is.these;

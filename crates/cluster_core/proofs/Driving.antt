@@ -7,7 +7,7 @@ use Rattle.topology.specs.Topologies.{topology_of}
 use Rattle.topology.specs.declared.schedule.Lined.{Lined}
 use Rattle.topology.specs.declared.topology.Topology.{Topology}
 use Rattle.cluster_core.specs.Cluster.{HasCome}
-use Rattle.cluster_core.specs.Progress.{Progress, after_line, after_steps, opening}
+use Rattle.cluster_laws.specs.Progress.{Progress, after_line, after_steps, opening}
 use Rattle.cluster_core.specs.declared.cluster.Cluster.{Cluster}
 
 -- ---- a run

@@ -17,25 +17,25 @@ use Rattle.core_state.specs.Routes.{routes_of}
 use Rattle.core_state.specs.Shelf.{Shelf, ShelfFeeds}
 use Rattle.core_state.specs.declared.journal.JournalEntry.TheVariants as entry
 use Rattle.core_laws.proofs.Fitting.{keeps-good}
-use Rattle.core_laws.proofs.Wirings.{wired-well}
+use Rattle.wiring_laws.proofs.Wirings.{wired-well}
 use Rattle.topic_log.specs.Giving.{with_gone}
 use Rattle.topic_log.specs.Shelves.{routes_in, shelf_of, topics_of}
 use Rattle.task_core.specs.Core.{core_of, inputs_at}
 use Rattle.task_core.specs.declared.task.Moved.{Moved}
 use Rattle.feed_laws.specs.Feeds.{Source, after_feed, fed_of, records_of}
 use Rattle.feed_laws.specs.Fitting.{AreSourcesOf, Fits, IsSourceOf}
-use Rattle.cluster_core.specs.Cluster.{HasCome, HasComeWith, IsKept, IsProgress, idle}
-use Rattle.cluster_core.specs.Few.{NodesHaveFew}
-use Rattle.cluster_core.specs.Giving.{IsReadUpTo}
-use Rattle.cluster_core.specs.Moves.{owned_of}
-use Rattle.cluster_core.specs.Progress.{Progress, feed}
-use Rattle.cluster_core.specs.Sourcing.{CanFeed}
+use Rattle.cluster_core.specs.Cluster.{HasCome, HasComeWith, IsKept, IsProgress}
+use Rattle.cluster_laws.specs.Tasks.{idle}
+use Rattle.cluster_laws.specs.Giving.{IsReadUpTo}
+use Rattle.cluster_laws.specs.Moves.{owned_of}
+use Rattle.cluster_laws.specs.Progress.{Progress, feed}
+use Rattle.cluster_laws.specs.Feeding.{CanFeed}
 use Rattle.cluster_core.specs.declared.cluster.Cluster.{Cluster}
-use Rattle.cluster_core.specs.declared.seats.Seat.{Seat}
+use Rattle.cluster_laws.specs.declared.seats.Seat.{Seat}
 use Rattle.cluster_core.specs.declared.sources.Source.{Source as Kept}
 use Rattle.cluster_core.proofs.Coming.{come-of, done-come, idle-tasks, newest-come, read-come, running-of, takers-come, topics-come}
-use Rattle.cluster_core.proofs.Gone.{feeds-gone}
-use Rattle.cluster_core.proofs.Running.{on_shelf, parts_of}
+use Rattle.cluster_laws.proofs.Gone.{feeds-gone}
+use Rattle.cluster_laws.proofs.Running.{on_shelf, parts_of}
 use Rattle.cluster_core.proofs.Tasks.{AreRunning, IsNewest}
 
 -- ---- sources
@@ -93,7 +93,7 @@ module _ (items : List Item) (p : Progress) (count : Source → ℕ) (come : IsP
     abbrev t : Topology
     t = topology_of items
 
-    -- tasks that run go on
+    -- running tasks keep running
     feed-run : (b next : Shelf) (ms : List Moved) → b.fed ≡ p.fed → ShelfFeeds (routes_of t.topics) records b next →
         AreRunning items p.order b ms → AreRunning items (p.order ++ records) next ms
     feed-run b next ms last feeds run = record {
@@ -135,7 +135,6 @@ module _ (items : List Item) (p : Progress) (count : Source → ℕ) (come : IsP
           texts = was.texts;
           progress = feed-progress;
           topology = is.topology ∙ was.topology;
-          few = subst (λ (x : Topology). All NodesHaveFew x.subs) (sym is.topology) was.few;
           chain = is.chain ∙ was.chain ∙ ap (λ (x : Topology). chain_of x.subs) (sym is.topology);
           topics = is.topics ∙ was.topics ∙ ap (λ (x : Topology). x.topics) (sym is.topology);
           live = is.live ∙ was.live;

@@ -18,15 +18,15 @@ use Rattle.core_state.proofs.Lifting.{left}
 use Rattle.task_core.specs.Tasks.{TaskView}
 use Rattle.task_core.specs.declared.task.Moved.{Moved}
 use Rattle.feed_laws.specs.Fitting.{Fits}
-use Rattle.cluster_core.specs.Cluster.{IsTaskIn}
-use Rattle.cluster_core.specs.Moves.{AllLeave}
-use Rattle.cluster_core.specs.declared.seats.Seat.{Seat}
-use Rattle.cluster_core.proofs.Lists.{all-mapped, all-middle, all-without, pairs-without}
-use Rattle.cluster_core.proofs.Names.{AreApart}
-use Rattle.cluster_core.proofs.Running.{instance-none, instance-without, on_shelf, parts_of}
+use Rattle.cluster_laws.specs.Tasks.{IsTaskIn}
+use Rattle.cluster_laws.specs.Moves.{AllLeave}
+use Rattle.cluster_laws.specs.declared.seats.Seat.{Seat}
+use Rattle.cluster_laws.proofs.Lists.{all-mapped, all-middle, all-without, pairs-without}
+use Rattle.cluster_laws.proofs.Names.{AreApart}
+use Rattle.cluster_laws.proofs.Running.{instance-none, instance-without, on_shelf, parts_of}
 use Rattle.cluster_core.proofs.Tasks.{AreRunning, IsNamed, IsNewest, d, is-task, means, top}
 
--- what is left of tasks that run once those that don't stay are gone
+-- the running tasks that remain once those that don't stay are gone
 abbrev pub staying_of : List Bool → List Moved → List Moved
 staying_of (stays ∷ more) (m ∷ ms) = if stays then m ∷ staying_of more ms else staying_of more ms
 staying_of stays ms = []

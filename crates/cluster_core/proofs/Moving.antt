@@ -1,4 +1,4 @@
--- A cluster after some tasks left their owners and tasks were made anew.
+-- A cluster after some tasks left their owners and tasks were restored.
 use Rattle.std.proofs.Common.{◌≡◌, ◌∙◌, ap, ap₂, refl, sym, subst, ℕ, ◌+◌, Bool, true, false, List, [], ◌∷◌, ◌++◌, length, map}
 use Rattle.std.proofs.lemmas.List.{length-map}
 use Rattle.std.proofs.lemmas.List.Elements.{All-from_recursion}
@@ -22,21 +22,21 @@ use Rattle.topic_log.specs.Shelves.{routes_in, shelf_of, topics_of}
 use Rattle.assignor.specs.declared.assignment.Owned.{Owned}
 use Rattle.task_core.specs.Core.{inputs_at}
 use Rattle.task_core.specs.declared.task.Moved.{Moved}
-use Rattle.cluster_core.specs.Cluster.{CanMove, HasCome, HasComeWith, IsKept, IsOwned, idle}
-use Rattle.cluster_core.specs.Few.{NodesHaveFew}
-use Rattle.cluster_core.specs.Giving.{IsReadUpTo}
-use Rattle.cluster_core.specs.Moves.{AllLeave, CanRestore, kept_of, owned_of, seat_notes, seated}
-use Rattle.cluster_core.specs.Progress.{Progress, after_moves, is_owned, newest_after, notes_of_left, notes_of_restored}
+use Rattle.cluster_core.specs.Cluster.{CanMove, HasCome, HasComeWith, IsKept}
+use Rattle.cluster_laws.specs.Tasks.{IsOwned, idle}
+use Rattle.cluster_laws.specs.Giving.{IsReadUpTo}
+use Rattle.cluster_laws.specs.Moves.{AllLeave, CanRestore, kept_of, owned_of, seat_notes, seated}
+use Rattle.cluster_laws.specs.Progress.{Progress, after_moves, is_owned, newest_after, notes_of_left, notes_of_restored}
 use Rattle.cluster_core.specs.declared.cluster.Cluster.{Cluster}
-use Rattle.cluster_core.specs.declared.seats.Seat.{Seat}
+use Rattle.cluster_laws.specs.declared.seats.Seat.{Seat}
 use Rattle.cluster_core.specs.declared.sources.Source.{Source as Kept}
-use Rattle.cluster_core.proofs.Coming.{come-of, done-come, few-come, idle-tasks, newest-come, owned-among, read-come, running-of, takers-come, topics-come}
-use Rattle.cluster_core.proofs.Gone.{all-leave-gone, restore-gone, seated-gone}
+use Rattle.cluster_core.proofs.Coming.{come-of, done-come, idle-tasks, newest-come, owned-among, read-come, running-of, takers-come, topics-come}
+use Rattle.cluster_laws.proofs.Gone.{all-leave-gone, restore-gone, seated-gone}
 use Rattle.cluster_core.proofs.Leaving.{all-left, staying_of}
-use Rattle.cluster_core.proofs.Leavings.{flat-same, left-done, left-fed, left-newest, left-notes, seated-notes, seated-owners}
-use Rattle.cluster_core.proofs.Lists.{all-mapped}
-use Rattle.cluster_core.proofs.Names.{AreApart}
-use Rattle.cluster_core.proofs.Owners.{owned-apart, seats-apart}
+use Rattle.cluster_laws.proofs.Leavings.{flat-same, left-done, left-fed, left-newest, left-notes, seated-notes, seated-owners}
+use Rattle.cluster_laws.proofs.Lists.{all-mapped}
+use Rattle.cluster_laws.proofs.Names.{AreApart}
+use Rattle.cluster_laws.proofs.Owners.{owned-apart, seats-apart}
 use Rattle.cluster_core.proofs.Restoring.{all-seated, can-restore, idle_kept}
 use Rattle.cluster_core.proofs.Tasks.{AreRunning, means}
 
@@ -161,7 +161,7 @@ module _ (items : List Item) (p : Progress) (ms : List Moved) (c : Cluster) (sou
     next-run =
         subst (λ (ss : List Seat). AreRunning items p.order (with_gone h.gone after) (map (λ (s : Seat). idle s.task) ss))
         (seated-gone h.gone t after owners kept ∙ sym seats-next)
-        (all-seated items p.order sound h.progress.order (with_gone h.gone after) (All-from_recursion NodesHaveFew (subs items) (few-come items p ms c h)) [] owners kept
+        (all-seated items p.order sound h.progress.order (with_gone h.gone after) [] owners kept
         owners-among (owned-apart items owners owned) can.places kept-run)
 
     apart : Pairwise AreApart (map (λ (s : Seat). s.task.name) c.seats.items)
@@ -219,7 +219,6 @@ module _ (items : List Item) (p : Progress) (ms : List Moved) (c : Cluster) (sou
       texts = h.texts;
       progress = record { sources = h.progress.sources; order = h.progress.order; none_later = h.progress.none_later; live = h.progress.live; owned = owned };
       topology = is.topology ∙ h.topology;
-      few = subst (λ (x : Topology). All NodesHaveFew x.subs) (sym is.topology) h.few;
       chain = is.chain ∙ h.chain ∙ ap (λ (x : Topology). chain_of x.subs) (sym is.topology);
       topics = is.topics ∙ h.topics ∙ ap (λ (x : Topology). x.topics) (sym is.topology);
       live = is.live ∙ h.live;

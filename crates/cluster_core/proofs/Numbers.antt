@@ -27,16 +27,16 @@ use Rattle.task_core.specs.Core.{inputs_at}
 use Rattle.task_core.specs.Tasks.{IsProposedBy, bound_of}
 use Rattle.task_core.specs.declared.task.Moved.{Moved}
 use Rattle.feed_laws.specs.Fitting.{Fits}
-use Rattle.cluster_core.specs.Cluster.{idle, is_named}
-use Rattle.cluster_core.specs.Moves.{owned_of}
-use Rattle.cluster_core.specs.Progress as progress
-use Rattle.cluster_core.specs.Progress.{Progress, takes_part}
-use Rattle.cluster_core.specs.Rounds.{AllSettle, HasRun, Settles, noted, offered}
-use Rattle.cluster_core.specs.declared.rounds.Ran.{Ran}
-use Rattle.cluster_core.specs.declared.seats.Seat.{Seat}
+use Rattle.cluster_laws.specs.Tasks.{idle, is_named}
+use Rattle.cluster_laws.specs.Moves.{owned_of}
+use Rattle.cluster_laws.specs.Progress as progress
+use Rattle.cluster_laws.specs.Progress.{Progress, takes_part}
+use Rattle.cluster_laws.specs.Rounds.{AllSettle, HasRun, Settles, noted, offered}
+use Rattle.cluster_laws.specs.declared.seats.Ran.{Ran}
+use Rattle.cluster_laws.specs.declared.seats.Seat.{Seat}
 use Rattle.cluster_core.proofs.Advancing.{bound-same, is, step}
-use Rattle.cluster_core.proofs.Names.{AreApart}
-use Rattle.cluster_core.proofs.Running.{both-true, named-itself, named-other, on_shelf}
+use Rattle.cluster_laws.proofs.Names.{AreApart}
+use Rattle.cluster_laws.proofs.Running.{both-true, named-itself, named-other, on_shelf}
 use Rattle.cluster_core.proofs.Tasks.{AreRunning, IsNamed, means, top}
 
 -- ---- lists
@@ -73,7 +73,7 @@ named-is u m is =
     let part = eqb-true m.task.name.part u.part tests.1 in
     λ i. record { sub = sub i; part = part i }
 
--- the owner of a task is that of the first seat with its name, where no other has it, and else that of the others
+-- the owner of a task is that of the first seat with its name if no other has it, else that of the others
 owner-first : (s : Seat) (os : List Owned) (u : TaskName) → is_named u (idle s.task) ≡ true → owner_of os u ≡ None → owner_of (owned_of s ∷ os) u ≡ Some s.worker
 owner-first s os u named none = ap₂ (λ (o : Option ℕ) (c : Bool). option_or o (if c then Some s.worker else None)) none named
 
@@ -88,7 +88,8 @@ owner-none : (ss : List Seat) (u : TaskName) → AllByRecursion (λ (s : Seat). 
 owner-none [] u apart = refl
 owner-none (s ∷ ss) u apart = owner-other s (map owned_of ss) u (named-other u (idle s.task) (λ same. apart.0 (sym same))) ∙ owner-none ss u apart.1
 
--- a task of a cluster and what it did in a round: it writes, it is done with what the broker has, and this is the feed up to which it can go
+-- a task of a cluster and what it did in a round: it writes, it is done with what the broker has, and this is the feed
+-- up to which it can go
 pub record IsReady (r : Routes) (b : Shelf) (bound : TaskName → ℕ) (s : Seat) : Type 0 where
   pub writes : IsWriter r s.task.name
   pub step : s.task.done ≡ b.done s.task.name

@@ -1,6 +1,5 @@
 -- The cluster before any worker is there: its state is good.
 use Rattle.std.proofs.Common.{◌≡◌, ◌∙◌, ap, refl, sym, subst, ◌<◌, ◌≤◌, List, [], ◌∷◌, length, map, arith, inl}
-use Rattle.std.specs.Prelude.{All}
 use Rattle.std.specs.List.{AllZip}
 use Rattle.std.proofs.lemmas.List.Elements.{All-nil}
 use Rattle.std.proofs.lemmas.Option.{none-some}
@@ -8,12 +7,12 @@ use Rattle.ksql_place.specs.declared.change.SourceRecord.{SourceRecord}
 use Rattle.ksql_program.specs.Sound.{IsSound}
 use Rattle.ksql_program.specs.declared.program.Item.{Item}
 use Rattle.meaning_laws.specs.Bounds.{IsInTime, IsRecordOf}
-use Rattle.storing_laws.specs.Short.{HoldTexts, IsShortRecord, IsTextRecord}
+use Rattle.short_laws.specs.Short.{HoldTexts, IsShortRecord, IsTextRecord}
 use Rattle.topic_files.specs.declared.topic.TopicLines.{TopicLines}
 use Rattle.topology.specs.Tasks.{chain_of}
 use Rattle.topology.specs.Topologies.{topology_of}
 use Rattle.topology.specs.declared.topology.Topology.{Topology}
-use Rattle.topology_laws.specs.Fed.{IsInItsPartition}
+use Rattle.short_laws.specs.Fed.{IsInItsPartition}
 use Rattle.core_state.proofs.Events.{opening-good}
 use Rattle.core_state.proofs.Lifting.{opened}
 use Rattle.core_state.specs.Routes.{routes_of}
@@ -21,7 +20,7 @@ use Rattle.core_state.specs.Shelf.{Shelf, ShelfOpens}
 use Rattle.core_state.specs.Wired.{log_feed}
 use Rattle.core_state.specs.declared.journal.JournalEntry.TheVariants as entry
 use Rattle.core_laws.proofs.Fitting.{core-meaning}
-use Rattle.core_laws.proofs.Wirings.{wired-well}
+use Rattle.wiring_laws.proofs.Wirings.{wired-well}
 use Rattle.core_laws.specs.Core.{meaning_in_core}
 use Rattle.topic_log.specs.Giving.{with_gone}
 use Rattle.topic_log.specs.Shelves.{routes_in, shelf_of, topics_of}
@@ -29,15 +28,15 @@ use Rattle.task_core.specs.Core.{core_of}
 use Rattle.task_core.specs.declared.task.Moved.{Moved}
 use Rattle.feed_laws.specs.Feeds.{sources_of}
 use Rattle.feed_laws.specs.Fitting.{AreSourcesOf, Fits, IsOfDeclared}
-use Rattle.cluster_core.specs.Cluster.{HasCome, HasComeWith, IsKept, IsProgress, idle}
-use Rattle.cluster_core.specs.Few.{NodesHaveFew}
-use Rattle.cluster_core.specs.Giving.{is_taker}
-use Rattle.cluster_core.specs.Moves.{owned_of}
-use Rattle.cluster_core.specs.Progress.{before_workers}
+use Rattle.cluster_core.specs.Cluster.{HasCome, HasComeWith, IsKept, IsProgress}
+use Rattle.cluster_laws.specs.Tasks.{idle}
+use Rattle.cluster_laws.specs.Giving.{is_taker}
+use Rattle.cluster_laws.specs.Moves.{owned_of}
+use Rattle.cluster_laws.specs.Progress.{before_workers}
 use Rattle.cluster_core.specs.declared.cluster.Cluster.{Cluster}
-use Rattle.cluster_core.specs.declared.seats.Seat.{Seat}
+use Rattle.cluster_laws.specs.declared.seats.Seat.{Seat}
 use Rattle.cluster_core.proofs.Coming.{come-of}
-use Rattle.cluster_core.proofs.Running.{on_shelf, parts_of}
+use Rattle.cluster_laws.proofs.Running.{on_shelf, parts_of}
 use Rattle.cluster_core.proofs.Tasks.{AreRunning}
 
 -- ---- progress
@@ -82,7 +81,6 @@ module _ (items : List Item) (sound : IsSound items) where
   -- what a cluster has before any worker
   pub record IsOpened (files : List TopicLines) (c : Cluster) : Type 0 where
     pub topology : c.topology ≡ t
-    pub few : All NodesHaveFew t.subs
     pub chain : c.chain ≡ chain_of t.subs
     pub takers : c.takers.items ≡ map (is_taker (length items) t.subs) t.subs
     pub topics : topics_of c.broker ≡ t.topics
@@ -100,7 +98,6 @@ module _ (items : List Item) (sound : IsSound items) where
         texts = texts;
         progress = opening-progress items files fits;
         topology = is.topology;
-        few = subst (λ (x : Topology). All NodesHaveFew x.subs) (sym is.topology) is.few;
         chain = is.chain ∙ ap (λ (x : Topology). chain_of x.subs) (sym is.topology);
         topics = is.topics ∙ ap (λ (x : Topology). x.topics) (sym is.topology);
         live = is.live;

@@ -11,7 +11,7 @@ use Rattle.topology.specs.Tasks.{chain_of, tasks_of}
 use Rattle.topology.specs.Topologies.{subs, topology_of}
 use Rattle.topology.specs.declared.topology.SubInput.{SubInput}
 use Rattle.topology.specs.declared.topology.Topology.{Topology}
-use Rattle.topology_laws.proofs.Paths.{holds-of}
+use Rattle.sending_laws.proofs.Paths.{holds-of}
 use Rattle.core_state.specs.Routes.{Routes, routes_of}
 use Rattle.core_state.specs.Shelf.{Shelf}
 use Rattle.core_state.specs.State as core
@@ -19,7 +19,7 @@ use Rattle.core_state.specs.Wired.{log_feed}
 use Rattle.core_state.specs.declared.journal.JournalEntry.TheVariants as entry
 use Rattle.core_state.specs.declared.log.Proposal.{Proposal}
 use Rattle.core_state.proofs.Staging.{Contains-cases}
-use Rattle.core_laws.proofs.Members.{no-member}
+use Rattle.wiring_laws.proofs.Members.{no-member}
 use Rattle.storing_laws.proofs.RisingResults.{results-rising}
 use Rattle.storing_laws.proofs.Storing.{can-be-stored}
 use Rattle.topic_log.specs.Giving.{with_gone}
@@ -30,25 +30,25 @@ use Rattle.assignor.specs.declared.assignment.Owned.{Owned}
 use Rattle.task_core.specs.Core.{inputs_at}
 use Rattle.task_core.specs.Tasks.{CanRead, TaskView, bound_of}
 use Rattle.task_core.specs.declared.task.Moved.{Moved}
-use Rattle.cluster_core.specs.Cluster.{HasCome, HasComeWith, IsKept, IsRead, IsTaskIn, idle}
-use Rattle.cluster_core.specs.Few.{NodesHaveFew}
-use Rattle.cluster_core.specs.Giving.{Gone, IsReadUpTo, is_taker}
-use Rattle.cluster_core.specs.Moves.{owned_of}
-use Rattle.cluster_core.specs.Progress.{Progress, bound, committed, round, takes_part}
-use Rattle.cluster_core.specs.Rounds.{AllSettle, CanAdvance, CanAllGo, CanCommit, CanGo, HasParts, HasRun, HaveGone, IsTaken, ProposeApart, Takes, TakesAlone, noted, offered, seat_of}
+use Rattle.cluster_core.specs.Cluster.{HasCome, HasComeWith, IsKept}
+use Rattle.cluster_laws.specs.Tasks.{IsRead, IsTaskIn, idle}
+use Rattle.cluster_laws.specs.Giving.{Gone, IsReadUpTo, is_taker}
+use Rattle.cluster_laws.specs.Moves.{owned_of}
+use Rattle.cluster_laws.specs.Progress.{Progress, bound, committed, round, takes_part}
+use Rattle.cluster_laws.specs.Rounds.{AllSettle, CanAdvance, CanAllGo, CanCommit, CanGo, HasParts, HasRun, HaveGone, IsTaken, ProposeApart, Takes, TakesAlone, noted, offered, seat_of}
 use Rattle.cluster_core.specs.declared.cluster.Cluster.{Cluster}
-use Rattle.cluster_core.specs.declared.rounds.Ran.{Ran}
-use Rattle.cluster_core.specs.declared.seats.Seat.{Seat}
+use Rattle.cluster_laws.specs.declared.seats.Ran.{Ran}
+use Rattle.cluster_laws.specs.declared.seats.Seat.{Seat}
 use Rattle.cluster_core.specs.declared.sources.Source.{Source as Kept}
 use Rattle.cluster_core.proofs.Advancing.{step}
-use Rattle.cluster_core.proofs.Alone.{all-alone, given-alone, same-reader}
+use Rattle.cluster_laws.proofs.Alone.{all-alone, given-alone, same-reader}
 use Rattle.cluster_core.proofs.Coming.{come-of, done-come, newest-come, read-come, running-of, takers-come, topics-come}
 use Rattle.cluster_core.proofs.AllTasks.{after_commit, all-advanced, all-can-advance, all-can-commit, all-readable, all-settled, offers-apart, settle-fed}
-use Rattle.cluster_core.proofs.Gone.{all-settle-gone}
-use Rattle.cluster_core.proofs.Lists.{all-mapped}
-use Rattle.cluster_core.proofs.Names.{AreApart}
+use Rattle.cluster_laws.proofs.Gone.{all-settle-gone}
+use Rattle.cluster_laws.proofs.Lists.{all-mapped}
+use Rattle.cluster_laws.proofs.Names.{AreApart}
 use Rattle.cluster_core.proofs.Numbers.{IsReady, all-newest, all-noted, all-ready, commits-done, core-bound, same-name}
-use Rattle.cluster_core.proofs.Running.{on_shelf}
+use Rattle.cluster_laws.proofs.Running.{on_shelf}
 use Rattle.cluster_core.proofs.Tasks.{AreRunning, IsNamed, means, top}
 
 -- what a round leaves as it was, and what it does to the tasks and to the broker
@@ -141,7 +141,7 @@ module _ (items : List Item) (p : Progress) (c : Cluster) (sound : IsSound items
   ready : AllByRecursion (IsReady routes all (bound t p)) c.seats.items
   ready = all-ready items p.order sound h.progress.order all p h.fed (done-come items p waiting c h) [] c.seats.items runs
 
-  -- each task can go over what the broker has
+  -- each task can process what the broker has
   one-go : (s : Seat) → CanAdvance routes all s.task → CanRead c.broker s.task → Contains (tasks_of (subs items)) s.task.name → IsTaskIn t s.task → IsReady routes all (bound t p) s →
       CanGo h.gone c.broker s.task
   one-go s advance readable among mine steps = record {
@@ -175,7 +175,7 @@ module _ (items : List Item) (p : Progress) (c : Cluster) (sound : IsSound items
   pub can-go : (takers : List Bool) → takers ≡ c.takers.items → HasParts c.broker → CanAllGo h.gone c.broker takers c.seats.items
   can-go takers is has = subst (λ (bs : List Bool). CanAllGo h.gone c.broker bs c.seats.items) (sym is) (advance-ready has)
 
-  -- and does so
+  -- and processes them
   pub all-went : (takers : List Bool) → takers ≡ c.takers.items → HasParts c.broker → (lost : Option ℕ) (mid : Shelves) (rs : List Ran) →
       ((gone : Gone) → CanAllGo gone c.broker takers c.seats.items → HaveGone takers lost gone c.broker mid c.seats.items rs) →
       HaveGone c.takers.items lost h.gone c.broker mid c.seats.items rs
@@ -295,7 +295,7 @@ module _ (items : List Item) (p : Progress) (c : Cluster) (sound : IsSound items
     read-next : (u : TaskName) → Contains (tasks_of (subs items)) u → IsRead t gone (shelf_of next.broker) u
     read-next u among topic reads = by (is.has.each topic u.part)
       where
-        -- the task of that name, of which the inputs alone matter
+        -- the task with that name, whose inputs alone matter
         reader : TaskView
         reader = record { name = u; generation = 0; done = 0; inputs = inputs_at t u; nodes = []; maps = [] }
 
@@ -322,7 +322,6 @@ module _ (items : List Item) (p : Progress) (c : Cluster) (sound : IsSound items
           texts = h.texts;
           progress = record { sources = h.progress.sources; order = h.progress.order; none_later = h.progress.none_later; live = h.progress.live; owned = h.progress.owned };
           topology = is.topology ∙ h.topology;
-          few = subst (λ (t : Topology). All NodesHaveFew t.subs) (sym is.topology) h.few;
           chain = is.chain ∙ h.chain ∙ ap (λ (t : Topology). chain_of t.subs) (sym is.topology);
           topics = is.topics ∙ is.topics_mid ∙ h.topics ∙ ap (λ (t : Topology). t.topics) (sym is.topology);
           live = is.live ∙ h.live;

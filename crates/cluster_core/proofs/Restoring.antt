@@ -1,14 +1,12 @@
--- Tasks that are made anew from their changelogs keep a good state.
+-- Tasks that are restored from their changelogs keep a good state.
 use Rattle.std.proofs.Common.{◌≡◌, ◌∙◌, ap, refl, sym, subst, List, [], ◌∷◌, ◌++◌, map, append_assoc}
-use Rattle.std.proofs.lemmas.List.Elements.{All-contains}
 use Rattle.std.proofs.lemmas.Option.{none-some, slice_get_within}
-use Rattle.std.specs.Prelude.{All, Contains, Option, Some, None}
+use Rattle.std.specs.Prelude.{Contains, Option, Some, None}
 use Rattle.std.specs.List.{AllByRecursion}
 use Rattle.ksql_types.specs.declared.relation.TaskName.{TaskName}
 use Rattle.ksql_place.specs.declared.change.SourceRecord.{SourceRecord}
 use Rattle.ksql_program.specs.Sound.{IsSound}
 use Rattle.ksql_program.specs.declared.program.Item.{Item}
-use Rattle.ksql_nodes.specs.declared.node.Node.{Node}
 use Rattle.ksql_nodes.proofs.Lists.{All-append}
 use Rattle.meaning_laws.proofs.Lists.{All-weaker, Pairwise}
 use Rattle.topology.specs.Tasks.{tasks_of}
@@ -18,19 +16,16 @@ use Rattle.core_state.specs.Shelf.{Shelf}
 use Rattle.core_state.proofs.Instances.{restore-keeps}
 use Rattle.core_state.proofs.Lifting.{restored}
 use Rattle.core_laws.proofs.StageNodes.{task-operators}
-use Rattle.storing_laws.specs.Short.{HasFewAggregates}
-use Rattle.task_core.specs.Core.{nodes_at}
 use Rattle.task_core.specs.declared.task.Moved.{Moved}
 use Rattle.assignor.specs.declared.assignment.Owned.{Owned}
 use Rattle.feed_laws.specs.Fitting.{Fits}
-use Rattle.cluster_core.specs.Cluster.{IsTaskIn, KeepPlaces, idle}
-use Rattle.cluster_core.specs.Few.{NodesHaveFew}
-use Rattle.cluster_core.specs.Moves.{CanRestore, restored_task, seated}
-use Rattle.cluster_core.specs.declared.seats.Seat.{Seat}
-use Rattle.cluster_core.proofs.Lists.{all-after, all-before, all-mapped, all-with, pairs-after, pairs-before, pairs-with}
-use Rattle.cluster_core.proofs.Names.{AreApart}
-use Rattle.cluster_core.proofs.Reading.{nodes-are, sub-at, sub-got}
-use Rattle.cluster_core.proofs.Running.{instance-here, instance-none, instance-without, on_shelf, parts_of}
+use Rattle.cluster_laws.specs.Tasks.{IsTaskIn, KeepPlaces, idle}
+use Rattle.cluster_laws.specs.Moves.{CanRestore, restored_task, seated}
+use Rattle.cluster_laws.specs.declared.seats.Seat.{Seat}
+use Rattle.cluster_laws.proofs.Lists.{all-after, all-before, all-mapped, all-with, pairs-after, pairs-before, pairs-with}
+use Rattle.cluster_laws.proofs.Names.{AreApart}
+use Rattle.cluster_laws.proofs.Reading.{sub-at, sub-got}
+use Rattle.cluster_laws.proofs.Running.{instance-here, instance-none, instance-without, on_shelf, parts_of}
 use Rattle.cluster_core.proofs.Tasks.{AreRunning, IsNamed, IsNewest, d, means, top}
 
 -- the tasks that were kept, as they run
@@ -39,13 +34,13 @@ idle_kept [] = []
 idle_kept (None ∷ kept) = idle_kept kept
 idle_kept (Some s ∷ kept) = idle s.task ∷ idle_kept kept
 
--- where no task has an owner none was kept
+-- if no task has an owner, none was kept
 none-kept : (kept : List (Option Seat)) → KeepPlaces [] kept → idle_kept kept ≡ []
 none-kept [] places = refl
 none-kept (None ∷ kept) places = none-kept kept places
 none-kept (Some s ∷ kept) places = absurd places
 
--- what holds of each task that has an owner holds of those that were kept
+-- a property of each task with an owner holds of the kept tasks
 kept-have : (P : TaskName → Type 0) (owners : List Owned) (kept : List (Option Seat)) → KeepPlaces owners kept → AllByRecursion (λ (o : Owned). P o.task) owners →
     AllByRecursion (λ (m : Moved). P m.task.name) (idle_kept kept)
 kept-have P owners [] places all = tt
@@ -62,7 +57,7 @@ names-along (x ∷ front) m us = ap (λ vs. x.task.name ∷ vs) (names-along fro
 module _ (items : List Item) (order : List SourceRecord) (sound : IsSound items) (fits : Fits items order) where
   -- ---- one task
 
-  module _ (b : Shelf) (front back : List Moved) (u : TaskName) (among : Contains (tasks_of (subs items)) u) (few : All HasFewAggregates (nodes_at (topology_of items) u))
+  module _ (b : Shelf) (front back : List Moved) (u : TaskName) (among : Contains (tasks_of (subs items)) u)
       (apart : AllByRecursion (λ (m : Moved). AreApart m.task.name u) (front ++ back)) (run : AreRunning items order b (front ++ back)) where
     abbrev made : Moved
     made = idle (restored_task (topology_of items) b u)
@@ -83,12 +78,12 @@ module _ (items : List Item) (order : List SourceRecord) (sound : IsSound items)
         (record { instance = λ v writes other. sym (instance-without front made back v other); held = λ v writes other. refl })
         (λ i is. absurd (none-some i (sym (instance-none (front ++ back) u apart) ∙ is))) refl (instance-here front made back before) refl).1
 
-    -- it is made anew
+    -- it is restored
     pub restored-task : AreRunning items order b (front ++ made ∷ back)
     restored-task = record {
       apart = pairs-with AreApart (λ (m : Moved). m.task.name) front made back before after run.apart;
       among = all-with (λ (m : Moved). Contains (tasks_of (subs items)) m.task.name) front made back among run.among;
-      tasks = all-with (λ (m : Moved). IsTaskIn (topology_of items) m.task) front made back (record { nodes = refl; inputs = refl; few = few }) run.tasks;
+      tasks = all-with (λ (m : Moved). IsTaskIn (topology_of items) m.task) front made back (record { nodes = refl; inputs = refl }) run.tasks;
       named = all-with IsNamed front made back tt run.named;
       newest = all-with (IsNewest b) front made back refl run.newest;
       good = good;
@@ -96,16 +91,11 @@ module _ (items : List Item) (order : List SourceRecord) (sound : IsSound items)
 
   -- ---- all that have owners
 
-  few-nodes : All NodesHaveFew (subs items) → (u : TaskName) → Contains (tasks_of (subs items)) u → All HasFewAggregates (nodes_at (topology_of items) u)
-  few-nodes few u among =
-      let sub = sub-at items sound u among in
-      subst (λ (ns : List Node). All HasFewAggregates ns) (sym (nodes-are items sound u among)) (All-contains NodesHaveFew (subs items) sub.0 few sub.1)
-
-  -- the first of them is made anew, where those that were kept of the others run
-  seated-anew : (b : Shelf) → All NodesHaveFew (subs items) → (front : List Moved) (o : Owned) (os : List Owned) (kept : List (Option Seat)) → Contains (tasks_of (subs items)) o.task →
+  -- the first one is restored, and those kept of the others run
+  seated-anew : (b : Shelf) (front : List Moved) (o : Owned) (os : List Owned) (kept : List (Option Seat)) → Contains (tasks_of (subs items)) o.task →
       Pairwise AreApart (map (λ (m : Moved). m.task.name) front ++ o.task ∷ map (λ (x : Owned). x.task) os) → KeepPlaces os kept →
       AreRunning items order b (front ++ idle_kept kept) → AreRunning items order b ((front ++ idle (restored_task (topology_of items) b o.task) ∷ []) ++ idle_kept kept)
-  seated-anew b few front o os kept among apart places run =
+  seated-anew b front o os kept among apart places run =
       let names : List TaskName = map (λ (m : Moved). m.task.name) front in
       let others : List TaskName = map (λ (x : Owned). x.task) os in
       let before : AllByRecursion (λ (m : Moved). AreApart m.task.name o.task) front =
@@ -114,38 +104,38 @@ module _ (items : List Item) (order : List SourceRecord) (sound : IsSound items)
       All-weaker (λ (x : Owned). AreApart o.task x.task) (λ (x : Owned). AreApart x.task o.task) (λ x other same. other (sym same)) os
       (all-mapped (AreApart o.task) (λ (x : Owned). x.task) os (pairs-after AreApart names o.task others apart)) in
       subst (AreRunning items order b) (sym (append_assoc front (idle (restored_task (topology_of items) b o.task) ∷ []) (idle_kept kept)))
-      (restored-task b front (idle_kept kept) o.task among (few-nodes few o.task among)
+      (restored-task b front (idle_kept kept) o.task among
       (All-append (λ (m : Moved). AreApart m.task.name o.task) front (idle_kept kept) before (kept-have (λ (v : TaskName). AreApart v o.task) os kept places after)) run)
 
-  -- the names of those that run and of those that are to come, after one of them
+  -- the names of the running tasks and of those to come, after one of them
   names-on : (front : List Moved) (m : Moved) (u : TaskName) (us : List TaskName) → u ≡ m.task.name → Pairwise AreApart (map (λ (x : Moved). x.task.name) front ++ u ∷ us) →
       Pairwise AreApart (map (λ (x : Moved). x.task.name) (front ++ m ∷ []) ++ us)
   names-on front m u us same apart = subst (Pairwise AreApart) (ap (λ (v : TaskName). map (λ (x : Moved). x.task.name) front ++ v ∷ us) same ∙ sym (names-along front m us)) apart
 
-  -- the tasks at their owners, where those that were kept stand at their places and the others are made anew
-  pub all-seated : (b : Shelf) (few : All NodesHaveFew (subs items)) (front : List Moved) (owners : List Owned) (kept : List (Option Seat)) →
+  -- the tasks at their owners: kept ones stay at their places, and the others are restored
+  pub all-seated : (b : Shelf) (front : List Moved) (owners : List Owned) (kept : List (Option Seat)) →
       AllByRecursion (λ (o : Owned). Contains (tasks_of (subs items)) o.task) owners →
       Pairwise AreApart (map (λ (m : Moved). m.task.name) front ++ map (λ (o : Owned). o.task) owners) →
       KeepPlaces owners kept →
       AreRunning items order b (front ++ idle_kept kept) → AreRunning items order b (front ++ map (λ (s : Seat). idle s.task) (seated (topology_of items) b owners kept))
-  all-seated b few front [] kept among apart places run = subst (λ (ms : List Moved). AreRunning items order b (front ++ ms)) (none-kept kept places) run
-  all-seated b few front (o ∷ os) [] among apart places run =
+  all-seated b front [] kept among apart places run = subst (λ (ms : List Moved). AreRunning items order b (front ++ ms)) (none-kept kept places) run
+  all-seated b front (o ∷ os) [] among apart places run =
       let made : Moved = idle (restored_task (topology_of items) b o.task) in
       subst (AreRunning items order b) (append_assoc front (made ∷ []) (map (λ (s : Seat). idle s.task) (seated (topology_of items) b os [])))
-      (all-seated b few (front ++ made ∷ []) os [] among.1 (names-on front made o.task (map (λ (x : Owned). x.task) os) refl apart) tt
-      (seated-anew b few front o os [] among.0 apart tt run))
-  all-seated b few front (o ∷ os) (None ∷ kept) among apart places run =
+      (all-seated b (front ++ made ∷ []) os [] among.1 (names-on front made o.task (map (λ (x : Owned). x.task) os) refl apart) tt
+      (seated-anew b front o os [] among.0 apart tt run))
+  all-seated b front (o ∷ os) (None ∷ kept) among apart places run =
       let made : Moved = idle (restored_task (topology_of items) b o.task) in
       subst (AreRunning items order b) (append_assoc front (made ∷ []) (map (λ (s : Seat). idle s.task) (seated (topology_of items) b os kept)))
-      (all-seated b few (front ++ made ∷ []) os kept among.1 (names-on front made o.task (map (λ (x : Owned). x.task) os) refl apart) places
-      (seated-anew b few front o os kept among.0 apart places run))
-  all-seated b few front (o ∷ os) (Some s ∷ kept) among apart places run =
+      (all-seated b (front ++ made ∷ []) os kept among.1 (names-on front made o.task (map (λ (x : Owned). x.task) os) refl apart) places
+      (seated-anew b front o os kept among.0 apart places run))
+  all-seated b front (o ∷ os) (Some s ∷ kept) among apart places run =
       subst (AreRunning items order b) (append_assoc front (idle s.task ∷ []) (map (λ (x : Seat). idle x.task) (seated (topology_of items) b os kept)))
-      (all-seated b few (front ++ idle s.task ∷ []) os kept among.1
+      (all-seated b (front ++ idle s.task ∷ []) os kept among.1
       (names-on front (idle s.task) o.task (map (λ (x : Owned). x.task) os) (ap (λ (x : Owned). x.task) places.0) apart) places.1
       (subst (AreRunning items order b) (sym (append_assoc front (idle s.task ∷ []) (idle_kept kept))) run))
 
-  -- each task of the program can be made anew, whoever runs
+  -- each task of the program can be restored, whichever tasks run
   pub can-restore : (b : Shelf) (running : List Moved) → AreRunning items order b running → (o : Owned) → Contains (tasks_of (subs items)) o.task →
       CanRestore (topology_of items) (top items order sound fits).routes b o
   can-restore b running run o among = record {

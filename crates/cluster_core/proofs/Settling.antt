@@ -16,11 +16,11 @@ use Rattle.core_state.proofs.Committing.{commit-keeps}
 use Rattle.core_state.proofs.Lifting.{committed}
 use Rattle.task_core.specs.declared.task.Moved.{Moved}
 use Rattle.feed_laws.specs.Fitting.{Fits}
-use Rattle.cluster_core.specs.Cluster.{IsTaskIn, idle, instance_of}
-use Rattle.cluster_core.specs.Rounds.{Settles}
-use Rattle.cluster_core.proofs.Lists.{all-instead, all-middle, map-instead}
-use Rattle.cluster_core.proofs.Names.{AreApart}
-use Rattle.cluster_core.proofs.Running.{on_shelf, parts_of}
+use Rattle.cluster_laws.specs.Tasks.{IsTaskIn, idle, instance_of}
+use Rattle.cluster_laws.specs.Rounds.{Settles}
+use Rattle.cluster_laws.proofs.Lists.{all-instead, all-middle, map-instead}
+use Rattle.cluster_laws.proofs.Names.{AreApart}
+use Rattle.cluster_laws.proofs.Running.{on_shelf, parts_of}
 use Rattle.cluster_core.proofs.Tasks.{AreRunning, IsNamed, IsNewest, d, here, is-task, means, mine, newest, next-here, same-else, top}
 
 -- what holds of each task at its place holds of all

@@ -1,4 +1,4 @@
--- Sources as they are made, and as a feed takes records of them.
+-- Sources as they are built, and as a feed takes records from them.
 use Rattle.std.proofs.Common.{◌≡◌, ◌∙◌, ap, ap₂, refl, sym, subst, ℕ, suc, ◌+◌, ◌<◌, ◌≤◌, ◌^◌, ◌-◌, List, [], ◌∷◌, ◌++◌, length, map, take, drop, get_or, min, append_assoc, arith}
 use Rattle.std.specs.Prelude.{flat_map, All}
 use Rattle.std.specs.List.{AllByRecursion, AllZip}
@@ -13,7 +13,8 @@ use Rattle.topic_feeds.specs.Reaching.{Reaches}
 use Rattle.topic_feeds.proofs.Feeds.{fed-length}
 use Rattle.feed_laws.specs.Feeds.{Source, after_feed, fed_of, sources_of}
 use Rattle.cluster_core.specs.Cluster.{IsKept}
-use Rattle.cluster_core.specs.Sourcing.{AreBuilt, CanFeed}
+use Rattle.cluster_core.specs.Sourcing.{AreBuilt}
+use Rattle.cluster_laws.specs.Feeding.{CanFeed}
 use Rattle.cluster_core.specs.declared.sources.Source.{Source as Kept}
 
 -- ---- lists side by side
@@ -65,7 +66,7 @@ kept-after feed count old new s kept relation reached left =
       few = omega (arith, fed, longer, took, rest, most);
     }
 
--- what is left of a source, with as many records as there are
+-- the rest of a source, with as many records as there are
 pub take-least : {A : Type 0} (n m : ℕ) (xs ys : List A) → xs ≡ ys → m ≡ min n (length ys) → take m xs ≡ take n ys
 take-least n m xs ys same is = ap₂ take is same ∙ take_min n ys
 

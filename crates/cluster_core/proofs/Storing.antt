@@ -1,4 +1,5 @@
--- What all entries of a task are, cut at a feed: each part can be stored after the parts before it, and its results rise.
+-- What all entries of a task are, cut at a feed: each part can be stored after the parts before it, and its results
+-- rise.
 use Rattle.std.proofs.Common.{◌≡◌, ◌∙◌, ap, ap₂, refl, sym, subst, ℕ, ◌+◌, ◌<◌, ◌≤◌, List, [], ◌∷◌, ◌++◌, map, arith}
 use Rattle.std.proofs.lemmas.List.Elements.{All-filter, All-weaker}
 use Rattle.std.specs.Prelude.{All, Contains, flat_map}
@@ -22,7 +23,6 @@ use Rattle.topology.specs.Tasks.{tasks_of}
 use Rattle.topology.specs.Topologies.{subs, topology_of}
 use Rattle.topology.specs.declared.topology.Sub.{Sub}
 use Rattle.topology.specs.declared.topology.Topology.{Topology}
-use Rattle.storing_laws.specs.Short.{HasFewAggregates}
 use Rattle.storing_laws.specs.Stored.{CanBeStored, ResultsRise}
 use Rattle.storing_laws.proofs.StoredParts.{stored-parts}
 use Rattle.core_state.specs.State.{is_in}
@@ -33,13 +33,14 @@ use Rattle.core_state.proofs.Staging.{All-both, All-records, all-bounded, last_f
 use Rattle.core_state.proofs.Wiring.{All-entries, All-flat_map}
 use Rattle.op_chain.specs.Chain.{AreStorable, given}
 use Rattle.task_core.specs.Core.{inputs_at, nodes_at, wiring_of}
-use Rattle.core_laws.specs.Core.{contents_in_core, meaning_in_core, written_topics}
-use Rattle.core_laws.proofs.Given.{given-append}
+use Rattle.core_laws.specs.Core.{contents_in_core, meaning_in_core}
+use Rattle.wiring_laws.specs.Written.{written_topics}
+use Rattle.wiring_laws.proofs.Given.{given-append}
 use Rattle.core_laws.proofs.SameContents.{gives-well, inputs-agree, same-contents}
 use Rattle.feed_laws.specs.Fitting.{Fits}
-use Rattle.cluster_core.proofs.Reading.{nodes-are, inputs-are, reads-in, sub-at, sub-got}
+use Rattle.cluster_laws.proofs.Reading.{nodes-are, inputs-are, reads-in, sub-at, sub-got}
 
--- members that rise do so in each part
+-- members that rise also rise in each part
 pairs-parts : {A : Type 0} (R : A → A → Type 0) (xs ys : List A) → Pairwise R (xs ++ ys) → Pairwise R xs × Pairwise R ys
 pairs-parts R [] ys pairs = (tt, pairs)
 pairs-parts {A} R (x ∷ xs) ys pairs = let rest = pairs-parts R xs ys pairs.1 in ((front xs pairs.0, rest.0), rest.1)
@@ -93,7 +94,7 @@ module _ (items : List Item) (order : List SourceRecord) (sound : IsSound items)
       between-parts (wiring_of t).feed ((wiring_of t).entry_cmp u) ((gives-well t).rises u) a b c (all_of u) ab bc
       (Ascends-ascending ((gives-well t).total u) (flat_map (λ i. flat_map ((wiring_of t).entry u i) (contents_in_core items order i u.part)) ((wiring_of t).inputs u)))
 
-  -- those of some feeds
+  -- the entries of some feeds
   abbrev pub some_of : TaskName → ℕ → ℕ → List Entry
   some_of u a b = between entry_feed a b (all_of u)
 
@@ -116,12 +117,12 @@ module _ (items : List Item) (order : List SourceRecord) (sound : IsSound items)
         ∙ ap (λ inputs. task_entries inputs (topology.contents items t order) u.part) (inputs-are items sound u is)
 
     -- what a task reads next can be stored after what it read
-    pub next-storable : CanBeStored items t order → All HasFewAggregates (nodes_at t u) → (a b : ℕ) → a ≤ b → AreStorable (nodes_at t u) (d.entries u a) (some_of u a b)
-    next-storable law few a b ab =
+    pub next-storable : CanBeStored items t order → (a b : ℕ) → a ≤ b → AreStorable (nodes_at t u) (d.entries u a) (some_of u a b)
+    next-storable law a b ab =
         let nodes : List Node = nodes_at t u in
         let whole : AreStorable nodes [] (all_of u) =
         subst (λ ns. AreStorable ns [] (all_of u)) (sym (nodes-are items sound u is))
-        (subst (AreStorable sub.nodes []) (sym all-are) (law u.sub sub (sub-got items sound u is) (subst (All HasFewAggregates) (nodes-are items sound u is) few) u.part)) in
+        (subst (AreStorable sub.nodes []) (sym all-are) (law u.sub sub (sub-got items sound u is) u.part)) in
         let rest : List Entry = some_of u b (b + last) in
         let later = stored-parts nodes [] (some_of u 0 a) (some_of u a b ++ rest) (subst (AreStorable nodes []) (cut u a b ab) whole) in
         (stored-parts nodes (some_of u 0 a) (some_of u a b) rest later.1).0

@@ -27,11 +27,11 @@ use Rattle.task_core.specs.declared.task.Moved.{Moved}
 use Rattle.core_laws.specs.Core.{meaning_in_core}
 use Rattle.core_laws.proofs.Fitting.{core-meaning}
 use Rattle.feed_laws.specs.Fitting.{Fits}
-use Rattle.cluster_core.specs.Cluster.{IsTaskIn, instance_in, instance_of}
-use Rattle.cluster_core.specs.Rounds.{CanCommit}
-use Rattle.cluster_core.proofs.Lists.{all-mapped, all-middle}
-use Rattle.cluster_core.proofs.Names.{AreApart}
-use Rattle.cluster_core.proofs.Running.{instance-else, instance-here, on_shelf, parts_of}
+use Rattle.cluster_laws.specs.Tasks.{IsTaskIn, instance_in, instance_of}
+use Rattle.cluster_laws.specs.Rounds.{CanCommit}
+use Rattle.cluster_laws.proofs.Lists.{all-mapped, all-middle}
+use Rattle.cluster_laws.proofs.Names.{AreApart}
+use Rattle.cluster_laws.proofs.Running.{instance-else, instance-here, on_shelf, parts_of}
 use Rattle.cluster_core.proofs.Storing.{results-rising}
 
 -- the proposal of a task has its name
@@ -42,7 +42,8 @@ IsNamed m = IfSome m.proposal (λ p. p.task ≡ m.task.name)
 abbrev pub IsNewest : Shelf → Moved → Type 0
 IsNewest b m = m.task.generation ≡ b.newest m.task.name
 
--- tasks of a program that run on a broker: no two are of one name, each is of the newest generation, and the state is good
+-- tasks of a program that run on a broker: no two are of one name, each is of the newest generation, and the state is
+-- good
 pub record AreRunning (items : List Item) (order : List SourceRecord) (b : Shelf) (running : List Moved) : Type 0 where
   pub apart : Pairwise AreApart (map (λ (m : Moved). m.task.name) running)
   pub among : AllByRecursion (λ (m : Moved). Contains (tasks_of (subs items)) m.task.name) running

@@ -14,20 +14,21 @@ use Rattle.core_state.specs.declared.journal.JournalEntry.TheVariants as entry
 use Rattle.assignor.specs.Rule.{assignment, is_live}
 use Rattle.assignor.specs.declared.assignment.Owned.{Owned}
 use Rattle.task_core.specs.declared.task.Moved.{Moved}
-use Rattle.cluster_core.specs.Cluster.{CanMove, HasCome, HasComeWith, IsIdleAt, IsOwned, KeepPlaces, idle}
-use Rattle.cluster_core.specs.Moves.{are_at, kept_of, owned_of}
-use Rattle.cluster_core.specs.Progress.{Progress, has_left, is_task}
+use Rattle.cluster_core.specs.Cluster.{CanMove, HasCome, HasComeWith}
+use Rattle.cluster_laws.specs.Tasks.{IsIdleAt, IsOwned, KeepPlaces, idle}
+use Rattle.cluster_laws.specs.Moves.{are_at, kept_of, owned_of}
+use Rattle.cluster_laws.specs.Progress.{Progress, has_left, is_task}
 use Rattle.cluster_core.specs.declared.cluster.Cluster.{Cluster}
-use Rattle.cluster_core.specs.declared.seats.Seat.{Seat}
+use Rattle.cluster_laws.specs.declared.seats.Seat.{Seat}
 use Rattle.cluster_core.proofs.Coming.{IsSameBut, same-come}
-use Rattle.cluster_core.proofs.Owners.{assignment-live, assignment-owned, own-places, staying-idle, staying-places, staying-same}
+use Rattle.cluster_laws.proofs.Owners.{assignment-live, assignment-owned, own-places, staying-idle, staying-places, staying-same}
 
--- what holds of what comes of a call
+-- a property of what a call returns
 pub ok-more : {A E : Type 0} {P Q : A → Type 0} (r : Result A E) → ((a : A) → P a → Q a) → IfOk r P → IfOk r Q
 ok-more (Ok a) f h = f a h
 ok-more (Err e) f h = tt
 
--- tasks that wait with no proposals, whoever leaves
+-- tasks that wait without proposals, whoever leaves
 all-idle : (leaves : TaskName → Bool) (ss : List Seat) → AllZip (λ (s : Seat) (m : Moved). leaves s.task.name ≡ false → m ≡ idle s.task) ss (map (λ (s : Seat). idle s.task) ss)
 all-idle leaves [] = tt
 all-idle leaves (s ∷ ss) = ((λ stays. refl), all-idle leaves ss)

@@ -9,17 +9,17 @@ ghost use Rattle.topology.specs.Tasks.{chain_of};
 ghost use Rattle.topology.specs.Topologies.{topology_of};
 ghost use Rattle.feed_laws.specs.Fitting.{AreFilesOf};
 ghost use Rattle.task_core.specs.declared.task.Moved.{Moved as OneMoved};
-ghost use Rattle.cluster_core.specs.Cluster.{CanMove, HasCome, HasComeWith, IsBuilt, IsIdleAt};
-ghost use Rattle.cluster_core.specs.Progress.{Progress, after_assignment, after_line, after_loss, after_moves, after_steps, before_workers, feed, is_task, opening, round, rounds, taken, with_worker, without_worker};
+ghost use Rattle.cluster_core.specs.Cluster.{CanMove, HasCome, HasComeWith, IsBuilt};
+ghost use Rattle.cluster_laws.specs.Tasks.{IsIdleAt};
+ghost use Rattle.cluster_laws.specs.Progress.{Progress, after_assignment, after_line, after_loss, after_moves, after_steps, before_workers, feed, is_task, opening, round, rounds, taken, with_worker, without_worker};
 
-use crate::few::check_few;
-use crate::rounds::{advance_all, ask_parts, commit_all};
-use crate::seats::{Seat, leave_all, owners_of, seat_all, staying, staying_but};
+use crate::rounds::{advance_all, commit_all};
+use crate::seats::{leave_all, owners_of, seat_all, staying, staying_but};
 use crate::sources::{Source, feed_sources, sources_of};
 use crate::takers::takers_of;
-use crate::texts::texts_are_utf8;
 use crate::workers::{first_workers, with_worker, without_worker};
 use assignor::{Owned, assign};
+use cluster_laws::{Seat, texts_are_utf8};
 use core_state::JournalEntry;
 use feed_laws::feeds_fit;
 use ksql_program::Program;
@@ -29,8 +29,8 @@ use topic_files::TopicLines;
 use topic_log::Broker;
 use topology::{Lined, Schedule, Step, Topology, chain_of, tasks_of};
 
-/// A topology that runs: its broker, the live workers, the tasks at their owners, what is left of the topic files, and what
-/// happened.
+/// A running topology: its broker, the live workers, the tasks at their owners, the remaining records of the topic
+/// files, and the journal.
 #[derive(Drop)]
 pub struct Cluster {
     topology: Topology,
@@ -46,8 +46,7 @@ pub struct Cluster {
 
 impl Cluster {
     /// A program's topology before its first step, with so many live workers and with the records of the topic files of its
-    /// declared relations, one file for each. The program is sound. A node of 2^32 aggregates, as no script
-    /// makes, is out of memory.
+    /// declared relations, one file for each. The program is sound.
     pub fn new(
         alloc: Global,
         program: &Program,
@@ -78,7 +77,6 @@ impl Cluster {
     {
         feeds_fit();
         texts_are_utf8(program);
-        check_few(topology.subs.items())?;
         let broker = Broker::new(alloc, topology.topics.items())?;
         let sources = sources_of(alloc, program.items.items(), files)?;
         Ok(Cluster {
@@ -94,8 +92,8 @@ impl Cluster {
         })
     }
 
-    /// The cluster after a step of a schedule, one in which no worker stalls or wakes. A run of 2^32 rounds or 2^64 feeds is
-    /// out of memory.
+    /// The cluster after a step of a schedule, one in which no worker stalls or wakes. Fails with out of memory at 2^32
+    /// rounds or 2^64 feeds.
     pub fn step(self, alloc: Global, step: &Lined) -> Result<Cluster, AllocError>
         requires built { IsBuilt step.now.step }
         requires come { (items : List OneItem) × (p : Progress) × IsSound items × HasCome items p self }
@@ -132,7 +130,7 @@ impl Cluster {
         &self.topology
     }
 
-    /// What happened, in its order.
+    /// What happened, in order.
     pub fn journal(&self) -> &[JournalEntry]
         ensures { result.now ≡ self.now.journal.items }
     {
@@ -150,7 +148,7 @@ impl Cluster {
             return Err(AllocError);
         }
         let feed = self.broker.fed() + 1;
-        ask_parts(&self.broker, self.topology.topics.items());
+        self.broker.has_parts();
         let (sources, records) = feed_sources(alloc, self.sources, feed, step)?;
         self.journal.push(JournalEntry::Fed {
             feed,
@@ -160,7 +158,7 @@ impl Cluster {
         Ok(Cluster { sources, ..self })
     }
 
-    /// The cluster after as many rounds as the longest path has.
+    /// The cluster after as many rounds as its longest path has sub-topologies.
     fn drained(self, alloc: Global) -> Result<Cluster, AllocError>
         requires come { (items : List OneItem) × (p : Progress) × IsSound items × HasCome items p self }
         ensures { IfOk result (λ next. (items : List OneItem) (p : Progress) → IsSound items → HasCome items p self →
@@ -174,7 +172,7 @@ impl Cluster {
         Ok(cluster)
     }
 
-    /// The cluster after a round in which a worker may be lost, and is then gone.
+    /// The cluster after a round in which a worker may be lost; if so, it is then gone.
     fn round_losing(self, alloc: Global, lost: Option<u32>) -> Result<Cluster, AllocError>
         requires come { (items : List OneItem) × (p : Progress) × IsSound items × HasCome items p self }
         ensures { IfOk result (λ next. (items : List OneItem) (p : Progress) → IsSound items → HasCome items p self →
@@ -199,7 +197,7 @@ impl Cluster {
         }
         let rounds = self.rounds + 1;
         self.journal.push(JournalEntry::Round { number: rounds })?;
-        ask_parts(&self.broker, self.topology.topics.items());
+        self.broker.has_parts();
         let seats = self.seats;
         let rans = advance_all(alloc, seats, &mut self.broker, self.takers.as_slice(), lost)?;
         let seats = commit_all(alloc, &mut self.broker, rans, &mut self.journal)?;
@@ -230,7 +228,7 @@ impl Cluster {
         self.assigned(alloc, live)
     }
 
-    /// The cluster with other live workers, to which the tasks are assigned anew.
+    /// The cluster with other live workers, to which the tasks are reassigned.
     fn assigned(self, alloc: Global, live: Vec<u32>) -> Result<Cluster, AllocError>
         requires rises { IsStrictlyIncreasing live.items }
         requires come { (items : List OneItem) × (p : Progress) × (ms : List OneMoved) × IsSound items × HasComeWith items p ms self
@@ -247,7 +245,7 @@ impl Cluster {
         cluster.moved(alloc, stays.as_slice(), owners.items())
     }
 
-    /// The cluster after a task is lost: it is made anew at its owner, where it has one.
+    /// The cluster after the loss of a task, which is restored at its owner, if it has one.
     fn losing(self, alloc: Global, task: TaskName) -> Result<Cluster, AllocError>
         requires come { (items : List OneItem) × (p : Progress) × IsSound items × HasCome items p self }
         ensures { IfOk result (λ next. (items : List OneItem) (p : Progress) → IsSound items → HasCome items p self →
@@ -258,8 +256,8 @@ impl Cluster {
         self.moved(alloc, stays.as_slice(), owners.items())
     }
 
-    /// The cluster after some tasks left their owners: each task that has one of these owners then, and no instance, is made
-    /// anew.
+    /// The cluster after some tasks left their owners: each task that has an owner among `owners`, and no instance, is
+    /// restored.
     fn moved(
         mut self,
         alloc: Global,
@@ -285,8 +283,8 @@ impl Cluster {
     }
 }
 
-/// The cluster of a program's topology with so many live workers after the steps of a schedule, in which no worker stalls or
-/// wakes.
+/// The cluster of a program's topology, with `workers` live workers at first, after the steps of a schedule in which no
+/// worker stalls or wakes.
 pub fn drive(
     alloc: Global,
     program: &Program,

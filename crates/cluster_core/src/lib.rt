@@ -1,13 +1,11 @@
-//! The cluster: a broker and the tasks of a topology at their workers, and what the steps of a schedule do to them.
+//! The cluster: a broker, the tasks of a topology at their workers, and the effects of a schedule's steps on them.
 #![tactic(auto)]
 
 mod cluster;
-mod few;
 mod rounds;
 mod seats;
 mod sources;
 mod takers;
-mod texts;
 mod workers;
 
 pub use cluster::{Cluster, drive};

@@ -1,42 +1,23 @@
-//! A round: each task goes over what its inputs are closed for, and then each proposal is committed.
+//! A round: each task processes what its inputs are closed for, and then each proposal is committed.
 ghost use Rattle.std.specs.Prelude.{◌≡◌, ◌++◌, ℕ, flat_map, map, All, IfNone, IfOk, IfSome, IsSome, OnOk, Some};
 ghost use Rattle.std.specs.List.{AllPairs};
 ghost use Rattle.core_state.specs.Shelf.{ShelfApplies};
 ghost use Rattle.assignor.specs.Rule.{is_with};
 ghost use Rattle.task_core.specs.Tasks.{CanRead};
-ghost use Rattle.topic_log.specs.Shelves.{AreTopics, part_at, routes_in, shelf_of, topics_of};
-ghost use Rattle.cluster_core.specs.Giving.{Gone};
-ghost use Rattle.cluster_core.specs.Rounds.{AllSettle, CanAllGo, CanCommit, CanGo, HasGone, HasGoneAt, HasParts, HaveGone, IsGiven, ProposeApart, Settles, noted, offered, seat_of};
+ghost use Rattle.topic_log.specs.Shelves.{part_at, routes_in, shelf_of, topics_of};
+ghost use Rattle.cluster_laws.specs.Giving.{Gone};
+ghost use Rattle.cluster_laws.specs.Rounds.{AllSettle, CanAllGo, CanCommit, CanGo, HasGone, HasGoneAt, HaveGone, IsGiven, ProposeApart, Settles, noted, offered, seat_of};
 
-use crate::seats::Seat;
+use cluster_laws::{Ran, Seat};
 use core_state::{JournalEntry, Proposal};
 use ksql_place::Change;
-use ksql_types::TopicSpec;
 use std::alloc::{AllocError, Global};
 use task_commit::commit;
 use task_core::{Moved, Task};
 use topic_log::Broker;
 
-/// Asks the broker for the partitions of its topics, all of which it has.
-pub fn ask_parts(broker: &Broker, topics: &[TopicSpec])
-    requires topics { topics_of broker.now ≡ topics.now }
-    requires numbered { AreTopics topics.now }
-    ensures { HasParts broker.now }
-{
-    for topic in topics {
-        let _ = broker.partitions(topic.number);
-    }
-}
-
-/// A task after a round, what it proposes, and the worker that owns it.
-#[derive(Drop)]
-pub struct Ran {
-    pub worker: u32,
-    pub moved: Moved,
-}
-
-/// The tasks after a round on a broker, in their order, with their proposals. Those of a worker that is lost in the round
-/// don't run: what they propose would be lost. The broker gives the tasks of takers what they read.
+/// The tasks after a round on a broker, in order, with their proposals. The tasks of a worker that is lost in the round
+/// don't run, since their proposals would be lost. The broker hands over to the tasks of takers what they read.
 pub fn advance_all(
     alloc: Global,
     seats: Vec<Seat>,
@@ -56,7 +37,7 @@ pub fn advance_all(
     Ok(rans)
 }
 
-/// A task after a round on a broker, with its proposal. It stays as it is where its worker is lost.
+/// A task after a round on a broker, with its proposal. It is unchanged if its worker is lost.
 fn outcome_of(
     alloc: Global,
     seat: Seat,
@@ -82,7 +63,7 @@ fn outcome_of(
     Ok(Ran { worker, moved })
 }
 
-/// A task after it went over what a broker has, which it is given where its sub-topology takes that.
+/// A task after processing what the broker shows, which is handed over to it if its sub-topology is a taker.
 fn advanced(
     alloc: Global,
     task: Task,
@@ -101,7 +82,7 @@ fn advanced(
     }
 }
 
-/// What a broker gives a task: all that its only input shows, where its sub-topology takes that.
+/// What the broker hands over to a task: everything that its only input shows, if its sub-topology is a taker.
 fn given_to(task: &Task, broker: &mut Broker, takers: &[bool]) -> Option<Vec<Change>>
     requires { CanRead broker.old task.now }
     ensures topics { topics_of broker.new ≡ topics_of broker.old }
@@ -117,7 +98,7 @@ fn given_to(task: &Task, broker: &mut Broker, takers: &[bool]) -> Option<Vec<Cha
     broker.take(input.topic, name.part)
 }
 
-/// Whether a worker is the one that is lost.
+/// Whether this is the worker that is lost.
 fn is_lost(lost: Option<u32>, worker: u32) -> bool
     ensures { result ≡ is_with worker lost }
 {
@@ -127,7 +108,7 @@ fn is_lost(lost: Option<u32>, worker: u32) -> bool
     }
 }
 
-/// Commits the proposals, in the order of the tasks, and answers the tasks.
+/// Commits the proposals, in the order of the tasks, and returns the tasks.
 pub fn commit_all(
     alloc: Global,
     broker: &mut Broker,
@@ -151,7 +132,7 @@ pub fn commit_all(
     Ok(seats)
 }
 
-/// Commits what a task offers, where it does.
+/// Commits a task's proposal, if any.
 fn settle(
     alloc: Global,
     broker: &mut Broker,
@@ -169,7 +150,7 @@ fn settle(
     }
 }
 
-/// Commits a proposal, and notes it.
+/// Commits a proposal, and records it in the journal.
 fn commit_one(
     alloc: Global,
     broker: &mut Broker,

@@ -1,29 +1,22 @@
-//! Tasks at their owners: those that leave them, and those that are made anew from their changelogs.
+//! Tasks at their owners: those that leave them, and those that are restored from their changelogs.
 ghost use Rattle.std.specs.Prelude.{◌≡◌, ◌∷◌, ◌++◌, [], if◌then◌else◌, not, All, IfOk, List, None, OnOk, Some, is_some, length, map, option_map, unwrap_or};
 ghost use Rattle.core_state.specs.declared.journal.JournalEntry.{JournalEntry as OneEntry};
 ghost use Rattle.core_state.specs.Routes.{IsWriter};
 ghost use Rattle.topic_log.specs.Shelves.{routes_in, shelf_of, topics_of};
-ghost use Rattle.cluster_core.specs.Moves.{AllLeave, CanRestore, Leaves, LeavesOrStays, are_at, is_owner, kept_of, note_anew, owned_of, seat_anew, seat_notes, seated};
-ghost use Rattle.cluster_core.specs.Progress.{is_task};
+ghost use Rattle.cluster_laws.specs.Moves.{AllLeave, CanRestore, Leaves, LeavesOrStays, are_at, is_owner, kept_of, note_anew, owned_of, seat_anew, seat_notes, seated};
+ghost use Rattle.cluster_laws.specs.Progress.{is_task};
 
 use assignor::{Assignment, Owned};
+use cluster_laws::Seat;
 use core_state::JournalEntry;
 use ksql_types::{Items, TaskName};
 use std::alloc::{AllocError, Global};
 use task_commit::fence;
-use task_core::Task;
 use task_restore::restore;
 use topic_log::Broker;
 use topology::Topology;
 
-/// A task and the number of the worker that owns it.
-#[derive(Drop)]
-pub struct Seat {
-    pub worker: u32,
-    pub task: Task,
-}
-
-/// Which worker owns which of the tasks.
+/// Which worker owns each task.
 pub fn owners_of(alloc: Global, seats: &[Seat]) -> Result<Assignment, AllocError>
     ensures { IfOk result (λ owners. owners ≡ map owned_of seats.now) }
 {
@@ -37,7 +30,7 @@ pub fn owners_of(alloc: Global, seats: &[Seat]) -> Result<Assignment, AllocError
     Ok(Items::of(owners))
 }
 
-/// Which of the tasks stay at their owners where each task then has the owner at its place among these, or none.
+/// For each task, whether it stays with its owner if the owners become `owners`, in the order of the tasks.
 pub fn staying(alloc: Global, seats: &[Seat], owners: &[Owned]) -> Result<Vec<bool>, AllocError>
     ensures { IfOk result (λ stays. stays.items ≡ are_at owners.now seats.now) }
 {
@@ -49,7 +42,7 @@ pub fn staying(alloc: Global, seats: &[Seat], owners: &[Owned]) -> Result<Vec<bo
     Ok(stays)
 }
 
-/// Whether a worker is the owner here.
+/// Whether `worker` is the owner.
 fn is_owner(owned: Option<&Owned>, worker: u32) -> bool
     ensures { result ≡ is_owner (option_map (λ o. o.now) owned.entry) worker }
 {
@@ -59,7 +52,7 @@ fn is_owner(owned: Option<&Owned>, worker: u32) -> bool
     }
 }
 
-/// All tasks stay but one.
+/// For each task, whether it isn't the lost one.
 pub fn staying_but(alloc: Global, seats: &[Seat], lost: TaskName) -> Result<Vec<bool>, AllocError>
     ensures { IfOk result (λ stays. stays.items ≡ map (λ s. not (is_task lost s.task.name)) seats.now) }
 {
@@ -70,7 +63,7 @@ pub fn staying_but(alloc: Global, seats: &[Seat], lost: TaskName) -> Result<Vec<
     Ok(stays)
 }
 
-/// Has tasks leave their owners: each that doesn't stay gets a new generation, and its instance is gone.
+/// Removes each task that doesn't stay from its owner: its instance is gone, and the task gets a new generation.
 pub fn leave_all(
     alloc: Global,
     broker: &mut Broker,
@@ -92,7 +85,7 @@ pub fn leave_all(
     Ok(kept)
 }
 
-/// Has a task leave its owner, unless it stays.
+/// Removes a task from its owner unless it stays.
 fn leave_unless(
     broker: &mut Broker,
     seat: Seat,
@@ -112,7 +105,8 @@ fn leave_unless(
     Ok(None)
 }
 
-/// Gives a task that leaves its owner a new generation. One of 2^64, as no run makes, is out of memory.
+/// Gives a task that leaves its owner a new generation. Fails with out of memory at generation 2^64, which no run
+/// reaches.
 fn leave(
     broker: &mut Broker,
     task: TaskName,
@@ -131,8 +125,7 @@ fn leave(
     Ok(())
 }
 
-/// The tasks at their owners, where those that were kept stand at their places: each of the others is made anew from its
-/// changelog.
+/// The tasks at their new owners: a kept task stays at its place, and each other task is restored from its changelog.
 pub fn seat_all(
     alloc: Global,
     broker: &Broker,
@@ -154,7 +147,7 @@ pub fn seat_all(
     Ok(seats)
 }
 
-/// The task at its owner that was kept, or else one made anew from its changelog.
+/// The kept task at its owner, or else one restored from its changelog.
 fn kept_or_anew(
     alloc: Global,
     broker: &Broker,
@@ -174,7 +167,7 @@ fn kept_or_anew(
     }
 }
 
-/// A task made anew from its changelog at its owner.
+/// A task at its owner, restored from its changelog.
 fn seat_anew(
     alloc: Global,
     broker: &Broker,

@@ -1,4 +1,4 @@
-//! The topics of declared relations, and what is left of their files.
+//! The topics of declared relations, and the remaining records of their files.
 ghost use Rattle.std.specs.Prelude.{◌≡◌, ◌≤◌, ◌++◌, ◌∷◌, All, IfOk, List, OnOk, [], drop, flat_map, length, map, min, take};
 ghost use Rattle.std.specs.List.{AllZip};
 ghost use Rattle.ksql_program.specs.declared.program.Item.{Item as OneItem};
@@ -6,8 +6,9 @@ ghost use Rattle.topic_files.specs.declared.topic.TopicLines.{TopicLines as OneF
 ghost use Rattle.feed_laws.specs.Feeds.{Source as OneSource, after_feed, fed_of, sources_of};
 ghost use Rattle.feed_laws.specs.Fitting.{AreFilesOf};
 ghost use Rattle.cluster_core.specs.Cluster.{IsKept};
-ghost use Rattle.cluster_core.specs.Progress.{counted, taken};
-ghost use Rattle.cluster_core.specs.Sourcing.{AreBuilt, CanFeed};
+ghost use Rattle.cluster_laws.specs.Progress.{counted, taken};
+ghost use Rattle.cluster_core.specs.Sourcing.{AreBuilt};
+ghost use Rattle.cluster_laws.specs.Feeding.{CanFeed};
 
 use ksql_place::SourceRecord;
 use ksql_program::Item;
@@ -19,7 +20,7 @@ use topic_feeds::Reached;
 use topic_files::{Fed, Feds, TopicLines};
 use topology::{Count, Step};
 
-/// The topic of a declared relation: how far it was fed, and the records of its file that are left.
+/// The topic of a declared relation: how far it was fed, and the remaining records of its file.
 #[derive(Drop)]
 pub struct Source {
     relation: Relation,
@@ -27,7 +28,7 @@ pub struct Source {
     left: VecDeque<Fed>,
 }
 
-/// The sources of the declared relations of a program, one file for each, in their order.
+/// The sources of a program's declared relations, one file for each, in order.
 pub fn sources_of(
     alloc: Global,
     items: &[Item],
@@ -44,7 +45,7 @@ pub fn sources_of(
     Ok(sources)
 }
 
-/// Appends the source of an item, where it is declared: its file is the first one that is left.
+/// Appends the source of an item, if it is declared: its file is the first of the remaining ones.
 fn push_source(
     alloc: Global,
     sources: &mut Vec<Source>,
@@ -64,7 +65,8 @@ fn push_source(
     Ok(())
 }
 
-/// The source of a declared relation with this file, before any feed. A file of more than 2^63 records is out of memory.
+/// The source of a declared relation with this file, before any feed. Fails with out of memory for more than 2^63
+/// records.
 fn source_of(alloc: Global, relation: &Relation, file: TopicLines) -> Result<Source, AllocError>
     ensures { IfOk result (λ source. IsKept source (record { relation = relation.now; before = []; left = file.feds })) }
 {
@@ -79,8 +81,7 @@ fn source_of(alloc: Global, relation: &Relation, file: TopicLines) -> Result<Sou
     })
 }
 
-/// The records of the feed of this number, source by source, where the step says how many it takes of each; and the sources
-/// after it.
+/// The records of a feed, source by source, as many of each as the step says; and the sources after it.
 pub fn feed_sources(
     alloc: Global,
     sources: Vec<Source>,
@@ -102,7 +103,7 @@ pub fn feed_sources(
     Ok((after, records))
 }
 
-/// Adds the records that a feed takes of a source.
+/// Appends the records that a feed takes from a source.
 fn feed_source(
     alloc: Global,
     records: &mut Vec<SourceRecord>,
@@ -123,7 +124,7 @@ fn feed_source(
     Ok(())
 }
 
-/// How many records the feed of a step takes of a source, as far as there are any left.
+/// How many records the feed of a step takes from a source, at most as many as remain.
 fn taken_of(source: &Source, step: &Step) -> usize
     ensures within { result ≤ length source.now.left.items }
     ensures value { (s : OneSource) → IsKept source.now s → result ≡ min (taken step.now s) (length s.left) }
@@ -139,7 +140,7 @@ fn taken_of(source: &Source, step: &Step) -> usize
     }
 }
 
-/// How many records these counts say of a topic, and none where they say nothing.
+/// The number of records that these counts ask for from a topic: 0 if it isn't among them.
 fn count_of(counts: &[Count], topic: u32) -> u64
     ensures { (s : OneSource) → s.relation.number ≡ topic → result ≡ counted counts.now s }
 {
@@ -151,7 +152,7 @@ fn count_of(counts: &[Count], topic: u32) -> u64
     0
 }
 
-/// Takes all records that are left, so many. Takes no memory.
+/// Takes all remaining records, `count` of them. Takes no memory.
 fn take_all(alloc: Global, left: &mut VecDeque<Fed>, count: usize) -> Feds
     requires { length left.old.items ≤ count }
     ensures taken { result ≡ take count left.old.items }
@@ -161,7 +162,7 @@ fn take_all(alloc: Global, left: &mut VecDeque<Fed>, count: usize) -> Feds
     Items::of(all.into_vec())
 }
 
-/// Takes the first records that are left, so many.
+/// Takes the first `count` remaining records.
 fn take_feds(alloc: Global, left: &mut VecDeque<Fed>, count: usize) -> Result<Feds, AllocError>
     requires { count ≤ length left.old.items }
     ensures taken { IfOk result (λ feds. feds ≡ take count left.old.items) }

@@ -1,12 +1,12 @@
-//! The sub-topologies whose tasks are given what they read.
+//! Takers: sub-topologies whose tasks take over what they read.
 ghost use Rattle.std.specs.Prelude.{◌≡◌, ◌==◌, IfOk, filter, length, map};
-ghost use Rattle.cluster_core.specs.Giving.{is_taker, reads_topic};
+ghost use Rattle.cluster_laws.specs.Giving.{is_taker, reads_topic};
 
 use std::alloc::{AllocError, Global};
 use topology::{Sub, SubInput};
 
-/// Which of some sub-topologies have one input, which is a repartition topic that no other reads. The topics before the number
-/// `relations` are those of relations.
+/// Which sub-topologies have a single input that is a repartition topic which no other one reads. Topics with numbers
+/// below `relations` are those of relations.
 pub fn takers_of(alloc: Global, relations: usize, subs: &[Sub]) -> Result<Vec<bool>, AllocError>
     ensures { IfOk result (λ takers. takers.items ≡ map (is_taker relations subs.now) subs.now) }
 {
@@ -17,7 +17,7 @@ pub fn takers_of(alloc: Global, relations: usize, subs: &[Sub]) -> Result<Vec<bo
     Ok(takers)
 }
 
-/// Whether a sub-topology has one input, which is a repartition topic that no other of these reads.
+/// Whether a sub-topology has a single input that is a repartition topic which no other one of these reads.
 fn is_taker(relations: usize, subs: &[Sub], sub: &Sub) -> bool
     ensures { result ≡ is_taker relations subs.now sub.now }
 {
@@ -27,7 +27,7 @@ fn is_taker(relations: usize, subs: &[Sub], sub: &Sub) -> bool
     }
 }
 
-/// How many sub-topologies read a topic.
+/// The number of sub-topologies that read a topic.
 fn readers(subs: &[Sub], topic: u32) -> usize
     ensures { result ≡ length (filter (reads_topic topic) subs.now) }
 {

@@ -1,11 +1,11 @@
-//! The live workers, by rising numbers.
+//! The live workers, in ascending order.
 ghost use Rattle.std.specs.Prelude.{◌≡◌, IfOk, filter, nat_lt};
 ghost use Rattle.std.specs.List.{range_with_len};
-ghost use Rattle.cluster_core.specs.Progress.{with_worker, without_worker};
+ghost use Rattle.cluster_laws.specs.Progress.{with_worker, without_worker};
 
 use std::alloc::{AllocError, Global};
 
-/// The workers 1 up to a number, and no other.
+/// The workers 1 to `count`.
 pub fn first_workers(alloc: Global, count: u32) -> Result<Vec<u32>, AllocError>
     ensures { IfOk result (λ live. live.items ≡ range_with_len 1 count) }
 {
@@ -16,7 +16,7 @@ pub fn first_workers(alloc: Global, count: u32) -> Result<Vec<u32>, AllocError>
     Ok(live)
 }
 
-/// The live workers and another one.
+/// The live workers and one more.
 pub fn with_worker(alloc: Global, live: &[u32], worker: u32) -> Result<Vec<u32>, AllocError>
     ensures { IfOk result (λ more. more.items ≡ with_worker worker live.now) }
 {
@@ -26,7 +26,7 @@ pub fn with_worker(alloc: Global, live: &[u32], worker: u32) -> Result<Vec<u32>,
     Ok(more)
 }
 
-/// The live workers but one.
+/// The live workers without one.
 pub fn without_worker(alloc: Global, live: &[u32], worker: u32) -> Result<Vec<u32>, AllocError>
     ensures { IfOk result (λ rest. rest.items ≡ without_worker worker live.now) }
 {
@@ -35,7 +35,7 @@ pub fn without_worker(alloc: Global, live: &[u32], worker: u32) -> Result<Vec<u3
     Ok(rest)
 }
 
-/// The workers of lower numbers.
+/// The workers with lower numbers.
 fn lower(alloc: Global, live: &[u32], worker: u32) -> Result<Vec<u32>, AllocError>
     ensures { IfOk result (λ some. some.items ≡ filter (λ w. nat_lt w worker) live.now) }
 {
@@ -48,7 +48,7 @@ fn lower(alloc: Global, live: &[u32], worker: u32) -> Result<Vec<u32>, AllocErro
     Ok(some)
 }
 
-/// The workers of higher numbers.
+/// The workers with higher numbers.
 fn higher(alloc: Global, live: &[u32], worker: u32) -> Result<Vec<u32>, AllocError>
     ensures { IfOk result (λ some. some.items ≡ filter (λ w. nat_lt worker w) live.now) }
 {

@@ -11,8 +11,8 @@ use Rattle.ksql_program.specs.Sound.{IsSound}
 use Rattle.ksql_program.specs.declared.program.Item.{Item}
 use Rattle.topology.specs.Tasks.{tasks_of}
 use Rattle.topology.specs.Topologies.{cut_topics, relation_topic, subs, topology_of}
-use Rattle.core_laws.proofs.Writers.{numbered}
-use Rattle.core_laws.proofs.Wirings.{wired-well}
+use Rattle.wiring_laws.proofs.Writers.{numbered}
+use Rattle.wiring_laws.proofs.Wirings.{wired-well}
 use Rattle.core_state.specs.Routes.{IsWriter, routes_of}
 use Rattle.topic_log.specs.Shelves.{routes_in, topics_of}
 use Rattle.topic_log.specs.declared.shelves.Shelves.{Shelves}

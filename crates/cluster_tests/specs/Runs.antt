@@ -15,7 +15,7 @@ use Rattle.topic_log.specs.Shelves.{routes_in, shelf_of}
 use Rattle.topic_log.specs.declared.shelves.Shelves.{Shelves}
 use Rattle.run_text.specs.Shown.{shown_report}
 use Rattle.cluster_core.specs.Cluster.{HasCome}
-use Rattle.cluster_core.specs.Progress.{after_steps, opening}
+use Rattle.cluster_laws.specs.Progress.{after_steps, opening}
 use Rattle.cluster_tests.specs.declared.running.Ran.{Ran}
 use Rattle.cluster_tests.specs.declared.standing.Standing.{Standing}
 
@@ -28,7 +28,7 @@ numbered line (step ∷ steps) = record { line = line; step = step } ∷ numbere
 abbrev pub closed_at : Shelves → Relation → ℕ
 closed_at broker r = shelf_closed (routes_in broker) (shelf_of broker) r.number
 
--- how a task stands
+-- the state of a task
 abbrev pub standing_at : Shelves → TaskName → Standing
 standing_at broker u = record { task = u; done = (shelf_of broker).done u; newest = (shelf_of broker).newest u }
 
@@ -38,8 +38,8 @@ pub record IsTold (items : List Item) (ran : Ran) : Type 0 where
   pub tasks : ran.tasks.items ≡ map (standing_at ran.cluster.broker) (tasks_of (subs items))
   pub report : string_bytes ran.report ≡ shown_report items ran.cluster.broker []
 
--- A script is accepted, as these items, and a cluster of them that had so many live workers at first and these topic files took these
--- steps.
+-- A script is accepted as these items, and their cluster, which had this many live workers at first and these topic
+-- files, took these steps.
 pub record HasRun (script : List ℕ) (workers : ℕ) (steps : List Step) (ran : Ran) : Type 0 where
   pub items : List Item
   pub files : List TopicLines

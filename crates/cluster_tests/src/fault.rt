@@ -3,7 +3,7 @@ use std::alloc::AllocError;
 use thiserror::Error;
 use topic_files::FileFault;
 
-/// Why a script doesn't run: it is refused, or a topic file is, or memory is short.
+/// Why a script doesn't run: it or a topic file is refused, or memory is short.
 #[derive(Debug, Drop, Error)]
 pub enum Fault {
     #[error("{0:?}")]

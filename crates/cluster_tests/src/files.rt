@@ -9,8 +9,8 @@ use ksql_types::Relation;
 use std::alloc::Global;
 use topic_files::{Room, TopicLines, read_topic};
 
-/// The records of the declared relations among these items, from the texts of their topic files, which are in the same order.
-/// Where the texts end, further files are empty.
+/// The records of the declared relations among these items, from the texts of their topic files in the same order.
+/// Missing texts count as empty files.
 pub(crate) fn files_of(
     alloc: Global,
     items: &[Item],
@@ -25,7 +25,7 @@ pub(crate) fn files_of(
     Ok(files)
 }
 
-/// Appends the records of an item, where it is declared, from the text after those of the files before.
+/// Appends the records of an item, if it is declared, from the next text.
 fn push_file(
     alloc: Global,
     files: &mut Vec<TopicLines>,

@@ -1,4 +1,4 @@
-//! Scripts that run on a cluster: from a script, its topic files and some steps to what the broker then has.
+//! Scripts on a cluster: from a script, its topic files and some steps to what the broker then has.
 #![tactic(auto)]
 
 mod fault;

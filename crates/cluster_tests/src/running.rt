@@ -18,8 +18,8 @@ use std::alloc::{AllocError, Global};
 use topology::tasks_of;
 use topology_build::build;
 
-/// A cluster that took some steps, and what its broker has: the feeds up to which the relations of the script are closed, how
-/// the tasks stand, and its report.
+/// A cluster after some steps, and what its broker has: the feeds up to which the script's relations are closed, the
+/// state of the tasks, and the report.
 #[derive(Drop)]
 pub struct Ran {
     pub cluster: Cluster,
@@ -28,8 +28,8 @@ pub struct Ran {
     pub report: String,
 }
 
-/// Runs a script on a cluster that has so many live workers at first, and takes these steps, whose lines are 1, 2 and so on. The
-/// texts are the topic files of the script's declared relations, in their order; where they end, further files are empty.
+/// Runs a script on a cluster with `workers` live workers at first, taking these steps, whose lines are 1, 2 and so on.
+/// The texts are the topic files of the script's declared relations, in order; missing texts count as empty files.
 pub fn run(
     alloc: Global,
     script: &str,

@@ -1,4 +1,4 @@
-//! What a broker has of relations and of tasks.
+//! What a broker has of relations and tasks.
 ghost use Rattle.std.specs.Prelude.{◌≡◌, All, IfOk, map};
 ghost use Rattle.ksql_program.specs.Program.{relation_of, relations};
 ghost use Rattle.core_state.specs.Routes.{IsWriter};
@@ -35,7 +35,7 @@ pub(crate) fn closed_of(
     Ok(closed)
 }
 
-/// How these tasks stand.
+/// The state of these tasks.
 pub(crate) fn standings_of(
     alloc: Global,
     broker: &Broker,

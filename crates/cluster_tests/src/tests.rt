@@ -12,7 +12,7 @@ mod fencing;
 mod plain;
 mod windows;
 
-/// How often each page was looked at.
+/// The number of times that each page was looked at.
 const PAGES: &str = "CREATE STREAM K (ID VARCHAR KEY, PAGE VARCHAR)
   WITH (KAFKA_TOPIC='k', VALUE_FORMAT='JSON', PARTITIONS=2);
 CREATE TABLE P AS SELECT PAGE, COUNT(*) AS C FROM K GROUP BY PAGE;
@@ -62,7 +62,7 @@ fn round_losing(worker: u32) -> Step
     }
 }
 
-/// A journal as text, an event a line.
+/// A journal as text, one event per line.
 fn journal_text(alloc: Global, ran: &Ran) -> Result<String, AllocError> {
     let mut text = String::new(alloc);
     for entry in ran.cluster.journal() {
@@ -104,7 +104,7 @@ fn push_event(text: &mut String, entry: &JournalEntry) -> Result<(), AllocError>
     }
 }
 
-/// What each task is done with.
+/// The last feed that each task committed.
 fn dones(alloc: Global, ran: &Ran) -> Result<Vec<u64>, AllocError> {
     ran.tasks
         .iter()

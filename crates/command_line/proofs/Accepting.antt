@@ -8,7 +8,7 @@ use Rattle.command_line.specs.declared.asked.Command.{Command}
 use Rattle.command_line.specs.declared.fault.WordsFault.{WordsFault}
 use Rattle.command_line.specs.Words.{accepted, is_faultless}
 
--- an error that isn't of memory comes of a fault
+-- an error other than out of memory comes from a fault
 pub has_fault : (kinds : Kinds) (e : Error) → HasKind kinds e → (kind_of e ≡ OutOfMemory → ⊥) → is_faultless kinds ≡ false
 has_fault [] e has other = absurd (⊎_elim other (λ none. none) has)
 has_fault (k ∷ kinds) e has other = refl

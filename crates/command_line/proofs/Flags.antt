@@ -1,4 +1,4 @@
--- What a flag word adds to what is held, where it has no fault.
+-- What a flag adds to the values so far, if it has no fault.
 use Rattle.std.proofs.Common.{◌≡◌, ◌&&◌, ℕ, zero, suc, Bool, true, false, not, List, [], ◌∷◌, cond, drop, length, Option, Some, None}
 use Rattle.std.specs.Option.{IfSome, is_some}
 use Rattle.std.specs.Prelude.{encode_utf8, slice_get}

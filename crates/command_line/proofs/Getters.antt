@@ -15,7 +15,7 @@ pub text_or_empty : (text : Option (Bor Text)) (empty read : Bor Text) → read 
 text_or_empty None empty read is none = ap (λ t. t.now) is ∙ none
 text_or_empty (Some t) empty read is none = ap (λ r. r.now) is
 
--- a number that is read of a text that is one, or else 1
+-- the number that a text spells, or else 1
 pub number_or_one : {E : Type 0} (gives : List ℕ → Result ℕ E → Type 0) (text : Option Text) (read : Option ℕ)
     → ((t : Text) (x : Result ℕ E) → gives t x → ParsesUnsigned 32 10 t x) → (text ≡ None → read ≡ None)
     → ((t : Text) → text ≡ Some t → ReadsOne gives t read) → IsNumber text → unwrap_or read 1 ≡ option_map_or number_in text 1

@@ -2,7 +2,7 @@ mod Accepting
 mod Flags
 mod Getters
 mod Kept
-mod Limits
+pub mod Limits
 mod Numbers
 mod Shortness
 mod Simple

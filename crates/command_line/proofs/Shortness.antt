@@ -5,7 +5,7 @@ use Rattle.std.specs.List.{AllByRecursion, after_first}
 use Rattle.clap.specs.Lexer.{has_byte, long_of, long_of_rest, short_of, short_of_rest, strip_byte}
 use Rattle.clap.specs.Walk.{Text, attached_value, nonempty}
 
--- the text has at most so many bytes
+-- the text has at most n bytes
 abbrev pub IsShort : ℕ → Text → Type 0
 IsShort most text = length text ≤ most
 
@@ -13,7 +13,7 @@ IsShort most text = length text ≤ most
 abbrev pub AreShort : ℕ → List Text → Type 0
 AreShort most texts = AllByRecursion (IsShort most) texts
 
--- a value that goes with an option's name, if there is one
+-- a value that goes with an option's name, if any
 abbrev pub IsShortValue : ℕ → Text × Option Text → Type 0
 IsShortValue most met = IfSome met.1 (IsShort most)
 
@@ -24,7 +24,7 @@ one_more_short most (x ∷ xs) text all is = (all.0, one_more_short most xs text
 pub dropped_short : (most k : ℕ) (text : Text) → IsShort most text → IsShort most (drop k text)
 dropped_short most k text is = omega (arith, length-drop k text)
 
--- what a function makes of what there is, if there is something
+-- the result of a function on an optional value
 pub then_some : {A B : Type 0} (P : A → Type 0) (Q : B → Type 0) (f : A → Option B) (o : Option A) → ((x : A) → P x → IfSome (f x) Q) → IfSome o P
     → IfSome (option_and_then f o) Q
 then_some P Q f None each is = tt

@@ -1,4 +1,4 @@
--- What one use of an argument adds to the rows of the matches, where it has no fault.
+-- What one use of an argument adds to the rows of the matches, if it has no fault.
 use Rattle.std.proofs.Common.{◌≡◌, ◌&&◌, ◌||◌, ℕ, Bool, true, false, not, List, [], ◌∷◌, ◌++◌, cond, Option, Some, None, refl, sym, ap, subst, true≢false}
 use Rattle.std.specs.Option.{IfSome, option_map_or}
 use Rattle.std.specs.List.{AllByRecursion, find}
@@ -48,7 +48,7 @@ pub record HeldFits (most : ℕ) (F : Fits) (h : Held) : Type 0 where
   pub rows : RowsFit F h.rows
   pub pending : IsShortPending most h.pending
 
--- two steps have no fault where both have none
+-- two steps have no fault if neither has one
 pub both_pass : (a b : Kinds) → or_else a b ≡ [] → (a ≡ []) × (b ≡ [])
 both_pass [] b none = (refl, none)
 both_pass (k ∷ ks) b none = cc

@@ -1,4 +1,4 @@
--- What the walk over the words makes of the rows, where no word has a fault.
+-- The rows that the walk over the words makes, if no word has a fault.
 use Rattle.std.proofs.Common.{◌≡◌, ◌&&◌, ◌||◌, ◌==◌, ℕ, Bool, true, false, List, [], ◌∷◌, cond, length, Option, Some, None, refl, subst, arith}
 use Rattle.std.specs.Option.{IfSome, option_map_or}
 use Rattle.std.specs.List.{AllByRecursion, fold}

@@ -1,10 +1,10 @@
--- The three commands, as data: their names and their options.
+-- The three commands as data: their names and options.
 use Rattle.std.specs.Prelude.{[], ◌∷◌, codes, pos, true, Some}
 use Rattle.clap.specs.Words.{App, Rule, new_app, new_rule, with_rule}
 use Rattle.clap.specs.declared.builder.action.ArgAction.TheVariants.{Set, SetTrue}
 use Rattle.clap.specs.declared.builder.value_parser.ValueParser.TheVariants.{Signed}
 
--- --script and a name, which has to be there
+-- --script and a name, required
 unfoldable pub script_rule : Rule
 script_rule = record (new_rule (codes "script")) { long = Some (codes "script"); action = Some Set; required = true }
 
@@ -29,7 +29,7 @@ schedule_rule = record (new_rule (codes "schedule")) { long = Some (codes "sched
 unfoldable pub trace_rule : Rule
 trace_rule = record (new_rule (codes "trace")) { long = Some (codes "trace"); action = Some SetTrue }
 
--- a number of records from 1 to 100,000, which has to be there
+-- a number of records from 1 to 100,000, required
 unfoldable pub records_rule : Rule
 records_rule = record (new_rule (codes "records")) { action = Some Set; parser = Some (Signed (pos 1) (pos 100000)); required = true }
 

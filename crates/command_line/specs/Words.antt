@@ -14,19 +14,19 @@ longest_word = 4096
 
 -- ---- what matches say
 
--- the text of an option, empty where it has none
+-- the text of an option, empty if it has none
 abbrev pub text_of : Text → List Row → Text
 text_of id rows = unwrap_or (first_of id rows) []
 
--- the number that digits write, after a plus or without
+-- the number that digits spell, with or without a plus in front
 abbrev pub number_in : Text → ℕ
 number_in text = digits_value 10 (without_leading_plus text)
 
--- a text, where there is one, is a number that 32 bits hold
+-- a text, if any, is a number that fits in 32 bits
 abbrev pub IsNumber : Option Text → Type 0
 IsNumber text = IfSome text (λ t. IsNumeral 10 (without_leading_plus t) × (number_in t < 2 ^ 32))
 
--- the number of an option, 1 where it has none
+-- the number of an option, 1 if it has none
 abbrev pub number_of : Text → List Row → ℕ
 number_of id rows = option_map_or number_in (one_of id rows) 1
 
@@ -52,11 +52,11 @@ abbrev pub is_faultless : Kinds → Bool
 is_faultless [] = true
 is_faultless (kind ∷ kinds) = false
 
--- what a command asks for by words that it accepts, of which the first stands for the program's name
+-- the command of words that it accepts, where the first stands for the program's name
 unfoldable pub accepted : App → (List Row → Command) → List Text → Option Command
 accepted app asks words = if is_faultless (fault_of app words) then Some (asks (matches_of app words)) else None
 
--- what the words from the second on ask for, by the command that the first of them names
+-- the command of the words from the second on, where the first names it
 abbrev pub named : List Text → Option Command
 named [] = None
 named (name ∷ words) =
@@ -64,7 +64,7 @@ named (name ∷ words) =
     else (if bytes_eq name (codes "explain") then accepted explain_app explain_of (name ∷ words)
     else (if bytes_eq name (codes "demo") then accepted demo_app demo_of (name ∷ words) else None))
 
--- what the words after the program's name ask for
+-- the command of the words after the program's name
 abbrev pub after_program : List Text → Option Command
 after_program [] = None
 after_program (program ∷ words) = named words
@@ -73,11 +73,11 @@ after_program (program ∷ words) = named words
 abbrev pub are_short : List Text → Bool
 are_short words = list_all (λ word. nat_le (length word) longest_word) words
 
--- what the words ask for, the program's name first, if they are a command and each is short
+-- the command of the words, the program's name first, if they are one and each word is short
 abbrev pub command_of : List Text → Option Command
 command_of words = if are_short words then after_program words else None
 
--- ---- what each command keeps to
+-- ---- the limits of commands
 
 -- each text has at most 4,096 bytes, there are from 1 to 32 workers and from 1 to 100,000 records
 abbrev pub IsWithinLimits : Command → Type 0

@@ -1,9 +1,9 @@
 use ksql_types::Word;
 
-/// What the words ask for.
+/// A command and its arguments.
 #[derive(Debug, Drop)]
 pub enum Command {
-    /// A run of a script on the topic files of a folder.
+    /// Run a script on the topic files of a folder.
     Run {
         script: Word,
         topics: Word,
@@ -11,11 +11,11 @@ pub enum Command {
         schedule: Option<Word>,
         trace: bool,
     },
-    /// The topology of a script.
+    /// Explain the topology of a script.
     Explain {
         script: Word,
     },
-    /// A run on generated records.
+    /// Run a query on generated records.
     Demo {
         records: u32,
         workers: u32,

@@ -1,6 +1,6 @@
 use std::alloc::{AllocError, AllocFailed};
 
-/// Why words give no command: they ask for none, or out of memory.
+/// Why words give no command: the program has no such command, or out of memory.
 #[derive(Clone, Copy, Debug, PartialEq, Eq)]
 pub enum WordsFault {
     Usage,

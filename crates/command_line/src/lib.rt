@@ -1,4 +1,4 @@
-//! The words of the command line: what the program is asked to do.
+//! The command line: what the program is asked to do.
 #![tactic(auto)]
 
 mod asked;

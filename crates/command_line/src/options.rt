@@ -31,7 +31,7 @@ pub fn demo_options<'a>(alloc: Global) -> Result<Command<'a>, AllocError>
     command.arg(workers_option(alloc))
 }
 
-/// `--script` and a name, which has to be there.
+/// `--script` and a name, required.
 #[tactic(auto, unfolding(crate::specs::Options::script_rule))]
 fn script_option<'a>(alloc: Global) -> Arg<'a>
     ensures rule { rule_of result ≡ script_rule }
@@ -90,7 +90,7 @@ fn trace_option<'a>(alloc: Global) -> Arg<'a>
         .action(ArgAction::SetTrue)
 }
 
-/// A number of records from 1 to 100,000, which has to be there.
+/// A number of records from 1 to 100,000, required.
 #[tactic(auto, unfolding(crate::specs::Options::records_rule))]
 fn records_option<'a>(alloc: Global) -> Arg<'a>
     ensures rule { rule_of result ≡ records_rule }

@@ -11,9 +11,9 @@ use clap::error::ErrorKind;
 use ksql_types::{Word, Words};
 use std::alloc::{AllocError, Global};
 
-/// What the words ask for, the program's name first, or else that they ask for nothing.
+/// The command that the words ask for, with the program's name first, or `Usage` if they are no command.
 pub fn read_words(alloc: Global, words: &Words) -> Result<Command, WordsFault>
-    // A command is exactly what the words ask for, and under `Usage` they ask for nothing. Memory may be short at any words.
+    // A command is exactly what the words ask for; on `Usage` they are no command. Memory can run out for any words.
     ensures read { IfOk result (λ command. command_of words.now ≡ Some command) }
     ensures usage { IsErrOf result WordsFault.Usage → command_of words.now ≡ None }
     // Each text has at most 4,096 bytes, and the numbers are in their ranges.
@@ -47,7 +47,7 @@ fn texts_of<'a>(alloc: Global, words: &'a [Word]) -> Result<Vec<&'a str>, AllocE
     Ok(texts)
 }
 
-/// What the words from the second on ask for, by the command that the first of them names.
+/// The command of the words from the second on, where the first word names it.
 fn named_command(alloc: Global, words: &[&str]) -> Result<Command, WordsFault>
     requires { are_short (map (λ word. word.now) words.now) ≡ true }
     ensures read { IfOk result (λ command. named (map (λ word. word.now) words.now) ≡ Some command) }
@@ -61,7 +61,7 @@ fn named_command(alloc: Global, words: &[&str]) -> Result<Command, WordsFault>
     }
 }
 
-/// What the words of `run` ask for.
+/// The command of the words of `run`.
 fn run_command(alloc: Global, words: &[&str]) -> Result<Command, WordsFault>
     requires { are_short (map (λ word. word.now) words.now) ≡ true }
     ensures read { IfOk result (λ command. accepted run_app run_of (map (λ word. word.now) words.now) ≡ Some command) }
@@ -77,7 +77,7 @@ fn run_command(alloc: Global, words: &[&str]) -> Result<Command, WordsFault>
     })
 }
 
-/// What the words of `explain` ask for.
+/// The command of the words of `explain`.
 fn explain_command(alloc: Global, words: &[&str]) -> Result<Command, WordsFault>
     requires { are_short (map (λ word. word.now) words.now) ≡ true }
     ensures read { IfOk result (λ command. accepted explain_app explain_of (map (λ word. word.now) words.now) ≡ Some command) }
@@ -89,7 +89,7 @@ fn explain_command(alloc: Global, words: &[&str]) -> Result<Command, WordsFault>
     })
 }
 
-/// What the words of `demo` ask for.
+/// The command of the words of `demo`.
 fn demo_command(alloc: Global, words: &[&str]) -> Result<Command, WordsFault>
     requires { are_short (map (λ word. word.now) words.now) ≡ true }
     ensures read { IfOk result (λ command. accepted demo_app demo_of (map (λ word. word.now) words.now) ≡ Some command) }
@@ -122,14 +122,14 @@ fn accepted_matches<'a>(
     }
 }
 
-/// The text of an option, empty where it has none.
+/// The text of an option, or empty if it has none.
 fn text_of<'a>(matches: &ArgMatches<'a>, id: &str) -> &'a str
     ensures { result.now ≡ text_of id.now (rows_of (found_of matches.now)) }
 {
     matches.get_str(id).unwrap_or("")
 }
 
-/// The number of an option, 1 where it has none.
+/// The number of an option, or 1 if it has none.
 fn number_of(matches: &ArgMatches<'_>, id: &str) -> u32
     requires { IsNumber (one_of id.now (rows_of (found_of matches.now))) }
     ensures { result ≡ number_of id.now (rows_of (found_of matches.now)) }
@@ -144,14 +144,14 @@ fn is_given(matches: &ArgMatches<'_>, id: &str) -> bool
     matches.get_one::<bool>(id).unwrap_or(false)
 }
 
-/// The word of a text.
+/// A text as a word.
 fn word_of(alloc: Global, text: &str) -> Result<Word, AllocError>
     ensures { IfOk result (λ word. word ≡ text.now) }
 {
     Ok(Word::of(String::from_str(alloc, text)?))
 }
 
-/// The word of a text, if there is one.
+/// A text as a word, if any.
 fn word_if_some(alloc: Global, text: Option<&str>) -> Result<Option<Word>, AllocError>
     ensures { IfOk result (λ word. word ≡ option_map (λ t. t.now) text.entry) }
 {

@@ -10,11 +10,12 @@ use Rattle.core_state.specs.Law.{IsMeaning}
 use Rattle.core_state.specs.Whole.{HoldsWell}
 use Rattle.core_state.specs.Wired.{AreCounted}
 use Rattle.op_chain.specs.Chain.{MayLoad, StandAlong, maps_after}
-use Rattle.core_laws.specs.Core.{KeepsGoodStates, StaysGood, meaning_in_core, written_topics}
+use Rattle.core_laws.specs.Core.{KeepsGoodStates, StaysGood, meaning_in_core}
+use Rattle.wiring_laws.specs.Written.{written_topics}
 use Rattle.task_core.specs.Core.{core_of, nodes_at, wiring_of}
 use Rattle.core_laws.proofs.Replaying.{fresh-along, maps-go_on}
-use Rattle.core_laws.proofs.Steps.{one_of, steps-well}
-use Rattle.core_laws.proofs.Wirings.{staged, wired-well}
+use Rattle.wiring_laws.proofs.Steps.{one_of, steps-well}
+use Rattle.wiring_laws.proofs.Wirings.{staged, wired-well}
 
 pub holds-well : (t : Topology) → HoldsWell (wiring_of t) (λ u. StandAlong (nodes_at t u)) (λ u. maps_after (nodes_at t u))
 holds-well t = record {

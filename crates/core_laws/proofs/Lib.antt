@@ -1,14 +1,5 @@
-pub mod Given
 pub mod Replaying
-pub mod Members
-pub mod Writers
-pub mod Wirings
-pub mod Steps
 pub mod Fitting
 pub mod StageNodes
-pub mod LinkReads
-pub mod SubReads
-pub mod SubTopics
-pub mod Taking
 pub mod SameContents
 pub mod Showing

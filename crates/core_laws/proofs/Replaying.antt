@@ -1,4 +1,4 @@
--- The stores of nodes in a row, from changelogs that go on, and from empty ones.
+-- The stores of a row of nodes, from longer changelogs, and from empty ones.
 use Rattle.std.proofs.Common.{◌≡◌, ◌∙◌, ap, ap₂, refl, sym, ℕ, List, [], ◌∷◌, ◌++◌, None, Some}
 use Rattle.std.proofs.lemmas.List.Elements.{filter-append}
 use Rattle.std.specs.Prelude.{◌==◌, filter, not, option_map, unwrap_or}
@@ -60,7 +60,7 @@ rest_of : List Maps → List Maps
 rest_of [] = []
 rest_of (x ∷ xs) = xs
 
--- changelogs that come to the same go on to the same
+-- changelogs with the same replay continue to have the same
 pub maps-go_on : (nodes : List Node) (us vs more : List StoreEntry) → maps_after nodes us ≡ maps_after nodes vs → maps_after nodes (us ++ more) ≡ maps_after nodes (vs ++ more)
 unfolding first_of rest_of
 maps-go_on [] us vs more same = refl

@@ -26,10 +26,10 @@ use Rattle.topology.specs.Topologies.{subs, topology_of}
 use Rattle.topology.specs.declared.topology.Sub.{Sub}
 use Rattle.topology.specs.declared.topology.SubInput.{SubInput}
 use Rattle.topology.specs.declared.topology.Topology.{Topology}
-use Rattle.topology_laws.specs.Fed.{IsFed}
-use Rattle.topology_laws.proofs.Paths.{StandInOrder, holds-of, topics_read}
+use Rattle.short_laws.specs.Fed.{IsFed}
+use Rattle.sending_laws.proofs.Paths.{StandInOrder, holds-of, topics_read}
 use Rattle.topology_laws.proofs.SentPlaces.{placed}
-use Rattle.topology_laws.proofs.SubOrder.{subs-in-order}
+use Rattle.sending_laws.proofs.SubOrder.{subs-in-order}
 use Rattle.core_state.specs.Routes.{merged, sent_to}
 use Rattle.core_state.specs.State.{feed_of, is_in}
 use Rattle.core_state.specs.Wired.{GivesWell, all_entries, contents_of, source_contents}
@@ -39,21 +39,21 @@ use Rattle.core_state.proofs.Lists.{Contains-here, Contains-next}
 use Rattle.core_state.proofs.Staging.{Contains-cases, stays, written}
 use Rattle.core_state.proofs.Wiring.{flat_map-members}
 use Rattle.op_chain.specs.Chain.{given}
-use Rattle.core_laws.specs.Core.{written_topics}
+use Rattle.wiring_laws.specs.Written.{written_topics}
 use Rattle.task_core.specs.Core.{nodes_at, wiring_of}
 use Rattle.task_core.specs.Reading.{taken}
-use Rattle.core_laws.proofs.Given.{given-append, given-feed, given-none}
-use Rattle.core_laws.proofs.Members.{map-member, member-map}
-use Rattle.core_laws.proofs.Steps.{steps-well}
-use Rattle.core_laws.proofs.SubReads.{IsReadIn, ReadsIn, declared-unwritten, result-written, subs-read}
-use Rattle.core_laws.proofs.SubTopics.{sub-written, untouched}
-use Rattle.core_laws.proofs.Taking.{IsBelow, IsShown, entries_read, fed-taken, one-read, said-part, said-taken, stands_in, two-read}
-use Rattle.core_laws.proofs.Wirings.{staged, sub-of, topic-of, writers-of}
-use Rattle.core_laws.proofs.Writers.{numbered}
+use Rattle.wiring_laws.proofs.Given.{given-append, given-feed, given-none}
+use Rattle.wiring_laws.proofs.Members.{map-member, member-map}
+use Rattle.wiring_laws.proofs.Steps.{steps-well}
+use Rattle.wiring_laws.proofs.SubReads.{IsReadIn, ReadsIn, declared-unwritten, result-written, subs-read}
+use Rattle.wiring_laws.proofs.SubTopics.{sub-written, untouched}
+use Rattle.wiring_laws.proofs.Taking.{IsBelow, IsShown, entries_read, fed-taken, one-read, said-part, said-taken, stands_in, two-read}
+use Rattle.wiring_laws.proofs.Wirings.{staged, sub-of, topic-of, writers-of}
+use Rattle.wiring_laws.proofs.Writers.{numbered}
 
 -- ---- nodes in a row
 
--- what nodes in a row give for entries is what comes of these after their steps
+-- what a row of nodes gives for entries is what their steps give
 given-through : (nodes : List Node) (es : List Entry) → given nodes [] es ≡ through (map (gives 1) nodes) es
 unfolding given
 given-through [] es = refl

@@ -14,20 +14,21 @@ use Rattle.meaning_laws.specs.Bounds.{IsRecordOf}
 use Rattle.meaning_laws.proofs.Lists.{All-filter, Pairwise-filter, Pairwise-from_all, all-from_pairwise}
 use Rattle.topology.specs.Topologies.{topology_of}
 use Rattle.topology.specs.declared.topology.Topology.{Topology}
-use Rattle.topology_laws.specs.Fed.{IsFed, IsInItsPartition}
+use Rattle.short_laws.specs.Fed.{IsFed, IsInItsPartition}
 use Rattle.topology_laws.proofs.EachSent.{means}
 use Rattle.core_state.specs.Good.{Good}
 use Rattle.core_state.specs.State.{State, closed}
 use Rattle.core_state.specs.Wired.{AreCounted, CutsAlike, order_upto}
 use Rattle.core_state.specs.declared.log.LogEntry.TheVariants.{Said}
 use Rattle.core_state.proofs.Whole.{cuts-alike}
-use Rattle.core_laws.specs.Core.{HasItsContents, HasItsQueries, ShowsItsQueries, meaning_in_core, meant_in_part, written_topics}
+use Rattle.core_laws.specs.Core.{HasItsContents, HasItsQueries, ShowsItsQueries, meaning_in_core, meant_in_part}
+use Rattle.wiring_laws.specs.Written.{written_topics}
 use Rattle.task_core.specs.Core.{core_of, wiring_of}
 use Rattle.core_laws.proofs.Fitting.{stays-good}
 use Rattle.core_laws.proofs.SameContents.{query-contents, same-contents}
-use Rattle.core_laws.proofs.Steps.{one_of, steps-well}
-use Rattle.core_laws.proofs.SubReads.{result-written}
-use Rattle.core_laws.proofs.Wirings.{staged}
+use Rattle.wiring_laws.proofs.Steps.{one_of, steps-well}
+use Rattle.wiring_laws.proofs.SubReads.{result-written}
+use Rattle.wiring_laws.proofs.Wirings.{staged}
 
 pub core-contents : (items : List Item) (order : List SourceRecord) → IsSound items → IsFed items order → HasItsContents items order
 core-contents items order sound fed = λ topic part writes. same-contents items order sound fed topic writes part

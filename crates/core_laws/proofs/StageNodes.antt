@@ -35,13 +35,13 @@ use Rattle.topology.specs.Stages.{aggregate_nodes, are_own_key, input_nodes, is_
 use Rattle.topology.specs.Topologies.{subs, topology_of}
 use Rattle.topology.specs.declared.stage.Stage.{Stage}
 use Rattle.topology.specs.declared.topology.Sub.{Sub}
-use Rattle.topology_laws.proofs.ItemLists.{before-among, sound-at}
-use Rattle.topology_laws.proofs.Paths.{holds-of}
+use Rattle.sending_laws.proofs.ItemLists.{before-among, sound-at}
+use Rattle.sending_laws.proofs.Paths.{holds-of}
 use Rattle.agg_ops.specs.Totals.{is_sound_window}
 use Rattle.op_chain.specs.Chain.{HaveOwnStores, has_operator}
 use Rattle.task_core.specs.Core.{nodes_at}
-use Rattle.core_laws.proofs.Members.{at-member}
-use Rattle.core_laws.proofs.Writers.{if-has, subs-all}
+use Rattle.wiring_laws.proofs.Members.{at-member}
+use Rattle.wiring_laws.proofs.Writers.{if-has, subs-all}
 
 -- ---- what holds of each node
 
@@ -203,7 +203,7 @@ AreApart n m = (number : ℕ) → IsTrue (is_store_of n number) → is_store_of 
 abbrev IsStoreless : Node → Type 0
 IsStoreless n = (number : ℕ) → is_store_of n number ≡ false
 
--- a node whose stores have numbers below 2, and one that has none there
+-- a node whose stores have numbers below 2, and a node without such stores
 abbrev IsLow : Node → Type 0
 IsLow n = (number : ℕ) → is_store_of n number ≡ true → number < 2
 
@@ -228,7 +228,7 @@ pairs-storeless (y ∷ ys) none = (apart-storeless y ys none.1, pairs-storeless 
 storeless-after : (xs ys : List Node) → Pairwise AreApart xs → AllByRecursion IsStoreless ys → Pairwise AreApart (xs ++ ys)
 storeless-after xs ys pairs none = pairs-append xs ys pairs (pairs-storeless ys none) (All-of xs (λ x. apart-storeless x ys none))
 
--- nodes whose stores are below 2, and others that have none there
+-- nodes whose stores are below 2, and others without such stores
 low-high : (xs ys : List Node) → AllByRecursion IsLow xs → AllByRecursion IsHigh ys → AllByRecursion (λ x. AllByRecursion (AreApart x) ys) xs
 low-high xs ys low high =
     All-weaker IsLow (λ x. AllByRecursion (AreApart x) ys) (λ x below. All-weaker IsHigh (AreApart x) (λ y none number is. none number (below number is)) ys high) xs low

@@ -15,7 +15,7 @@ use Rattle.core_state.proofs.Lists.{which, nat_which, some_same, none_some, lowe
 use Rattle.core_state.proofs.Tasks.{GoodTask-raised}
 
 module _ {E H : Type 0} (top : Topology E H) (d : Meaning E) (means : Means top d) where
-  -- a task's results of some feeds, cut at one of these
+  -- a task's results for some feeds, cut at one of these
   module _ (u : TaskName) (of : IsTask top u) (a b c : ℕ) (up : a ≤ b) (more : b ≤ c) (q : ℕ) where
     in_two : sent_to top.routes u q (d.results u a c) ≡ sent_to top.routes u q (d.results u a b) ++ sent_to top.routes u q (d.results u b c)
     in_two = ap (sent_to top.routes u q) (means.in_parts u of a b c up more) ∙ filter-append (λ x. top.routes.lane_of u x == q) (d.results u a b) (d.results u b c)

@@ -150,7 +150,8 @@ module _ {E H : Type 0} (top : Topology E H) (writes : (t : TaskName) → IsTask
       },
     )
 
-    -- a held proposal is offered: below the newest generation the shelf stays as it was, and otherwise it applies the proposal
+    -- a held proposal is offered: below the newest generation the shelf stays as it was, and otherwise it applies the
+    -- proposal
     pub offered : (p : Proposal) (earlier later : List Proposal) → s.held t ≡ earlier ++ p ∷ later → next.held t ≡ earlier ++ later → next.instance t ≡ s.instance t →
         (p.generation < s.shelf.newest t → next.shelf ≡ s.shelf) → (s.shelf.newest t ≤ p.generation → ShelfApplies top.routes t p s.shelf next.shelf) →
         Happens top (offer t) (state_of s) (state_of next)

@@ -1,4 +1,4 @@
--- The meaning by recursion is one as the law of the core asks.
+-- The meaning by recursion is one that the law of the core requires.
 use mathlib.Core.Logic.{inl, inr}
 use Rattle.std.specs.Prelude.{All, map, filter}
 use Rattle.std.proofs.Common.{◌≡◌, ◌∙◌, ap, ap₂, sym, refl, subst, ℕ, ◌+◌, List, [], ◌∷◌, ◌++◌, ◌<◌, ◌≤◌, arith, ◌⊎◌}

@@ -1,4 +1,4 @@
--- A task that goes over its entries one by one.
+-- A task that processes its entries one by one.
 use Rattle.std.proofs.Common.{◌≡◌, ◌∙◌, ap₂, sym, subst, List, [], ◌∷◌, ◌++◌}
 use Rattle.std.proofs.lemmas.List.{append-nil, append_assoc}
 use Rattle.ksql_types.specs.declared.relation.StoreEntry.{StoreEntry}

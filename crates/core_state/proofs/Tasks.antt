@@ -49,7 +49,7 @@ module _ {E H : Type 0} (top : Topology E H) (d : Meaning E) where
     bound-same : (u : TaskName) → bound top next u ≡ bound top s u
     bound-same u = lowest-same next.fed s.fed (closed top.routes next) (closed top.routes s) (top.inputs u) only.fed (λ topic _. closed-same topic)
 
-    -- an event that changes only what there is of one task keeps a good state where it keeps this task good
+    -- an event that changes only one task keeps a good state if it keeps this task good
     pub only-keeps : IsTask top t → Good top d s → GoodTask top d t (bound top s t) (next.tasks t) → Good top d next
     only-keeps is good task = record {
       source_shown = λ topic q source. only.shown topic q ∙ good.source_shown topic q source ∙ ap (d.has topic q) (sym only.fed);

@@ -1,4 +1,4 @@
--- The law for a topology whose tasks go over their entries one by one.
+-- The law for a topology whose tasks process their entries one by one.
 use Rattle.std.specs.Prelude.{All}
 use Rattle.std.proofs.Common.{◌≡◌, ◌∙◌, ap, ap₂, sym, subst, ℕ, List, [], ◌∷◌, ◌++◌, ◌<◌, ◌≤◌, arith}
 use Rattle.std.proofs.lemmas.List.{append-nil, append_assoc}
@@ -38,7 +38,7 @@ module _ {E : Type 0} (w : Wiring E) (one : TaskName → List E → E → List C
     rises = steps.rises;
   }
 
-  -- the meaning by recursion is one as the law of the core asks
+  -- the meaning by recursion is one that the law of the core requires
   pub is-meaning : (topics : List ℕ) {H : Type 0} (Stands : TaskName → H → List E → Type 0) (replay : TaskName → List StoreEntry → H) (MayLoad : TaskName → StoreEntry → Type 0) →
       StepsWell w one → IsWired w → IsStaged w topics → HoldsWell w Stands replay → IsMeaning (wired w Stands replay MayLoad) AreCounted (mean_of w topics)
   is-meaning topics Stands replay MayLoad steps shape staged holds = meant w (gives-well steps) topics staged shape Stands replay MayLoad holds

@@ -80,7 +80,7 @@ module _ {A B : Type 0} (from : A → ℕ) (feed : B → ℕ) (f : A → List B)
       (All-entries last xs (All-tail (λ x. (0 < from x) × (from x ≤ last)) x xs h))
 
 module _ {E : Type 0} (w : Wiring E) (well : GivesWell w) where
-  -- the feeds of what is read are what is read of the feeds
+  -- restricting what is read to some feeds is reading what is shown in these feeds
   pub between-reads : (t : TaskName) (a b : ℕ) (shown : ℕ → List LogEntry) → between w.feed a b (reads w t shown) ≡ reads w t (λ i. between log_feed a b (shown i))
   between-reads t a b shown =
       filter-ascending (well.total t) (is_between w.feed a b) (flat_map (λ i. flat_map (w.entry t i) (shown i)) (w.inputs t))

@@ -1,4 +1,4 @@
--- What happens to the core: each event as a relation between the state before it and the one after it.
+-- The events of the core, each as a relation between the state before it and the state after it.
 use Rattle.std.specs.Prelude.{◌≡◌, ℕ, ◌+◌, ◌<◌, ◌≤◌, List, [], ◌∷◌, ◌++◌, map, filter, All, None, Some}
 use Rattle.ksql_types.specs.declared.relation.StoreEntry.{StoreEntry}
 use Rattle.ksql_types.specs.declared.relation.TaskName.{TaskName}
@@ -10,7 +10,7 @@ use Rattle.core_state.specs.Routes.{merged, sent_to}
 use Rattle.core_state.specs.State.{Instance, IsTask, Proposes, State, Topology, after, bound, closed, is_in, upto}
 
 module _ {E H : Type 0} where
-  -- only what there is of one task changed
+  -- only the state of one task changed
   pub record OnlyOf (top : Topology E H) (t : TaskName) (s next : State H) : Type 0 where
     pub fed : next.fed ≡ s.fed
     pub shown : (topic q : ℕ) → next.shown topic q ≡ s.shown topic q
@@ -26,14 +26,14 @@ module _ {E H : Type 0} where
     pub waiting : (u : TaskName) → IsTask top u → (q : ℕ) → next.waiting u q ≡ s.waiting u q
     pub tasks : (u : TaskName) → IsTask top u → next.tasks u ≡ s.tasks u
 
-  -- A task with the stores old runs over further entries: it gives what these entries make it give, its stores then stand for the longer list,
-  -- and its changelog entries bring a replay from the old stores to the new ones.
+  -- A task with the stores `old` runs over further entries: it gives what they make it give, its stores then stand for
+  -- the longer list, and its changelog entries turn a replay from the old stores into one of the new stores.
   pub record Runs (top : Topology E H) (t : TaskName) (old : H) (more : List E) (outputs : List Change) (entries : List StoreEntry) (new : H) : Type 0 where
     pub stands : (earlier : List E) → top.Stands t old earlier → (outputs ≡ top.gives t earlier more) × top.Stands t new (earlier ++ more)
     pub replays : (logs : List StoreEntry) → top.replay t logs ≡ old → top.replay t (logs ++ entries) ≡ new
     pub loads : All (top.MayLoad t) entries
 
-  -- the instance of the newest generation, which has no proposal, advances to the feed up to which its inputs are closed
+  -- the newest generation's instance, which has no proposal, advances to the feed up to which its inputs are closed
   pub record Advances (top : Topology E H) (t : TaskName) (s next : State H) : Type 0 where
     pub before : Instance H
     pub after : H
@@ -49,7 +49,8 @@ module _ {E H : Type 0} where
     pub only : OnlyOf top t s next
     pub now : next.tasks t ≡ record (s.tasks t) { instance = Some (record { generation = before.generation; done = p.to; stores = after; proposal = Some p }) }
 
-  -- A proposal of a task is applied, all at once: its done, its outputs and its entries. The changelog may be any that replays to the same.
+  -- A proposal of a task takes effect at once: its progress, its outputs and its entries. The changelog may be any that
+  -- replays to the same.
   pub record Applies (top : Topology E H) (t : TaskName) (p : Proposal) (s next : State H) : Type 0 where
     pub fed : next.fed ≡ s.fed
     pub others : (u : TaskName) → IsTask top u → ¬ (u ≡ t) → next.tasks u ≡ s.tasks u
@@ -57,7 +58,7 @@ module _ {E H : Type 0} where
     pub same_newest : (next.tasks t).newest ≡ (s.tasks t).newest
     pub logs : top.replay t (next.tasks t).logs ≡ top.replay t ((s.tasks t).logs ++ p.entries)
     pub logs_load : All (top.MayLoad t) (s.tasks t).logs → All (top.MayLoad t) p.entries → All (top.MayLoad t) (next.tasks t).logs
-    -- what waits with the outputs, of the task and of the other writers
+    -- the waiting changes of the task with the outputs added, and those of the other writers
     pub gathered : TaskName → ℕ → List Change
     pub own : (q : ℕ) → gathered t q ≡ s.waiting t q ++ sent_to top.routes t q p.outputs
     pub of_others : (u : TaskName) → IsTask top u → ¬ (u ≡ t) → (q : ℕ) → gathered u q ≡ s.waiting u q
@@ -67,7 +68,7 @@ module _ {E H : Type 0} where
         ++ map Said (merged (map (λ u. upto (closed top.routes next (top.routes.output t)) (gathered u q)) (top.routes.writers (top.routes.output t))))
     pub shown_elsewhere : (topic : ℕ) → ¬ (topic ≡ top.routes.output t) → (q : ℕ) → next.shown topic q ≡ s.shown topic q
 
-  -- the commit of the proposal of an instance of the newest generation
+  -- the commit of the proposal of a newest-generation instance
   pub record Commits (top : Topology E H) (t : TaskName) (s next : State H) : Type 0 where
     pub before : Instance H
     pub p : Proposal
@@ -78,14 +79,14 @@ module _ {E H : Type 0} where
     pub free : (next.tasks t).instance ≡ Some (record before { proposal = None })
     pub held : (next.tasks t).held ≡ (s.tasks t).held
 
-  -- the task leaves its owner: the generation rises, the instance goes, and its proposal may be kept as a held one
+  -- the task leaves its owner: the generation rises, the instance is gone, and its proposal may be kept as a held one
   pub record Leaves (top : Topology E H) (t : TaskName) (s next : State H) : Type 0 where
     pub kept : List Proposal
     pub kept_was : All (Proposes (s.tasks t)) kept
     pub only : OnlyOf top t s next
     pub now : next.tasks t ≡ record (s.tasks t) { newest = (s.tasks t).newest + 1; instance = None; held = (s.tasks t).held ++ kept }
 
-  -- an instance of the newest generation is made from the changelog, where there is none of it
+  -- an instance of the newest generation is restored from the changelog, if there is none
   pub record Restores (top : Topology E H) (t : TaskName) (s next : State H) : Type 0 where
     pub none_yet : (i : Instance H) → (s.tasks t).instance ≡ Some i → i.generation < (s.tasks t).newest
     pub only : OnlyOf top t s next
@@ -97,12 +98,12 @@ module _ {E H : Type 0} where
     pub earlier : List Proposal
     pub later : List Proposal
     pub was_held : (s.tasks t).held ≡ earlier ++ p ∷ later
-    -- it is fenced exactly where its generation is below the newest
+    -- it is fenced exactly if its generation is below the newest
     pub fenced : p.generation < (s.tasks t).newest → OnlyOf top t s next × (next.tasks t ≡ record (s.tasks t) { held = earlier ++ later })
     pub committed : (s.tasks t).newest ≤ p.generation →
         Applies top t p s next × ((next.tasks t).instance ≡ (s.tasks t).instance) × ((next.tasks t).held ≡ earlier ++ later)
 
--- what happens to the core
+-- the events of the core
 pub data Event : Type 0 where
   feed : List SourceRecord → Event
   advance : TaskName → Event

@@ -1,5 +1,5 @@
--- When a state of the core is good: what is shown and what waits is what the topology means up to the feeds that tasks committed, each
--- once, and the changelogs stand for the entries of these feeds.
+-- Good states of the core: what is shown and what waits is what the topology means up to the feeds that tasks
+-- committed, each change once, and the changelogs stand for the entries of these feeds.
 use Rattle.std.specs.Prelude.{◌≡◌, ℕ, ◌<◌, ◌≤◌, [], ◌++◌, All, Option, None, Some}
 use Rattle.ksql_types.specs.declared.relation.TaskName.{TaskName}
 use Rattle.core_state.specs.declared.log.Proposal.{Proposal}
@@ -8,7 +8,7 @@ use Rattle.core_state.specs.Routes.{sent_to}
 use Rattle.core_state.specs.State.{Instance, IsTask, Proposes, State, TaskState, Topology, bound, closed, done_of}
 
 module _ {E H : Type 0} where
-  -- a proposal of a task that is done up to a feed and whose inputs are closed up to another
+  -- the proposal due from a task that is done up to a feed and whose inputs are closed up to another
   pub record IsDue (top : Topology E H) (d : Meaning E) (t : TaskName) (most : ℕ) (w : TaskState H) (p : Proposal) : Type 0 where
     pub begins : p.from ≡ w.done
     pub rises : p.from < p.to
@@ -17,12 +17,12 @@ module _ {E H : Type 0} where
     pub loads : All (top.MayLoad t) p.entries
     pub stands : top.Stands t (top.replay t (w.logs ++ p.entries)) (d.entries t p.to)
 
-  -- an instance that is in step with the broker, without a proposal or with one
+  -- an instance in step with the broker, with or without a proposal
   abbrev pub InStep : Topology E H → TaskName → TaskState H → Instance H → Option Proposal → Type 0
   InStep top t w i None = (i.done ≡ w.done) × (i.stores ≡ top.replay t w.logs)
   InStep top t w i (Some p) = (p.generation ≡ i.generation) × (i.done ≡ p.to) × (i.stores ≡ top.replay t (w.logs ++ p.entries))
 
-  -- one task is as it should be, where its inputs are closed up to a feed
+  -- the state of one task is good, given the feed up to which its inputs are closed
   pub record GoodTask (top : Topology E H) (d : Meaning E) (t : TaskName) (most : ℕ) (w : TaskState H) : Type 0 where
     pub logs_stand : top.Stands t (top.replay t w.logs) (d.entries t w.done)
     pub logs_load : All (top.MayLoad t) w.logs
@@ -42,7 +42,7 @@ module _ {E H : Type 0} where
     pub done_fed : (t : TaskName) → IsTask top t → done_of s t ≤ s.fed
     pub good_tasks : (t : TaskName) → IsTask top t → GoodTask top d t (bound top s t) (s.tasks t)
 
-  -- nothing has happened yet: no feed, nothing shown, and instances, where there are any, with the stores of an empty changelog
+  -- nothing has happened yet: no feed, nothing shown, and instances, if any, with the stores of an empty changelog
   pub record IsOpening (top : Topology E H) (s : State H) : Type 0 where
     pub fed : s.fed ≡ 0
     pub shown : (topic q : ℕ) → s.shown topic q ≡ []

@@ -8,7 +8,7 @@ use Rattle.core_state.specs.Meaning.{Grows, Meaning, Means, Opens}
 use Rattle.core_state.specs.State.{IsTask, State, Topology, done_of}
 
 module _ {E H : Type 0} where
-  -- what a topology means on each order that fits
+  -- the meaning of a topology for each order that fits
   pub record IsMeaning (top : Topology E H) (Fits : List SourceRecord → Type 0) (mean : List SourceRecord → Meaning E) : Type 0 where
     pub of_order : (order : List SourceRecord) → (mean order).order ≡ order
     pub means : (order : List SourceRecord) → Fits order → Means top (mean order)
@@ -27,12 +27,12 @@ module _ {E H : Type 0} where
   EventsKeepGood top Fits mean = (order : List SourceRecord) (e : Event) (s next : State H) → Fits (order ++ records_of e) →
       Good top (mean order) s → Happens top e s next → Good top (mean (order ++ records_of e)) next
 
-  -- what comes of the opening state is good, whatever happens
+  -- every state reachable from the opening state is good
   abbrev pub RunsAreGood : Topology E H → (List SourceRecord → Type 0) → (List SourceRecord → Meaning E) → Type 0
   RunsAreGood top Fits mean = (es : List Event) (s last : State H) → Fits (flat_map records_of es) →
       IsOpening top s → AllHappen top es s last → Good top (mean (flat_map records_of es)) last
 
-  -- good states of the same last feed and the same done of each task show the same
+  -- good states with the same last feed and the same progress of each task show the same
   abbrev pub NumbersDecide : Topology E H → Meaning E → Type 0
   NumbersDecide top d = (s u : State H) → Good top d s → Good top d u → s.fed ≡ u.fed → ((t : TaskName) → IsTask top t → done_of s t ≡ done_of u t) →
       (topic q : ℕ) → s.shown topic q ≡ u.shown topic q

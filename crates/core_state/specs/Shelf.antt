@@ -10,8 +10,8 @@ use Rattle.core_state.specs.declared.log.Proposal.{Proposal}
 use Rattle.core_state.specs.Routes.{IsWriter, Routes, merged, sent_to}
 use Rattle.core_state.specs.State.{Instance, State, after, is_in, lowest, upto}
 
--- what a broker has: the last feed; what each partition of a topic shows; what of a task's changes waits for each partition; and
--- for each task the last feed that it committed, its newest generation and its changelog
+-- the broker's state: the last feed; what each partition of a topic shows; a task's changes that wait for each
+-- partition; and for each task the last feed that it committed, its newest generation and its changelog
 pub record Shelf : Type 0 where
   pub fed : ℕ
   pub shown : ℕ → ℕ → List LogEntry
@@ -33,11 +33,11 @@ state_of s = record {
   tasks = λ t. record { done = s.shelf.done t; newest = s.shelf.newest t; logs = s.shelf.logs t; instance = s.instance t; held = s.held t };
 }
 
--- the feed up to which a topic is closed: the last one of a source, and the least done of its writers of a written topic
+-- the feed up to which a topic is closed: the last one of a source, or the least progress of a written topic's writers
 abbrev pub shelf_closed : Routes → Shelf → ℕ → ℕ
 shelf_closed r b topic = lowest b.fed b.done (r.writers topic)
 
--- nothing was fed and nothing was committed; generations begin at 1
+-- nothing was fed or committed; generations begin at 1
 pub record ShelfOpens (r : Routes) (b : Shelf) : Type 0 where
   pub fed : b.fed ≡ 0
   pub shown : (topic q : ℕ) → b.shown topic q ≡ []
@@ -65,8 +65,8 @@ pub record ShelfFeeds (r : Routes) (records : List SourceRecord) (b next : Shelf
   pub newest : (u : TaskName) → IsWriter r u → next.newest u ≡ b.newest u
   pub logs : (u : TaskName) → IsWriter r u → next.logs u ≡ b.logs u
 
--- A proposal of a task is applied, all at once: its done, its outputs and its changelog entries. Outputs wait until their topic's
--- closed feed reaches them, and then stand there in the order of their places.
+-- A proposal of a task takes effect at once: its progress, its outputs and its changelog entries. Outputs wait until
+-- their topic's closed feed reaches them, and are then shown in the order of their places.
 pub record ShelfApplies (r : Routes) (t : TaskName) (p : Proposal) (b next : Shelf) : Type 0 where
   pub fed : next.fed ≡ b.fed
   pub done : next.done t ≡ p.to
@@ -74,7 +74,7 @@ pub record ShelfApplies (r : Routes) (t : TaskName) (p : Proposal) (b next : She
   pub newest : (u : TaskName) → IsWriter r u → next.newest u ≡ b.newest u
   pub logs : next.logs t ≡ b.logs t ++ p.entries
   pub logs_else : (u : TaskName) → IsWriter r u → ¬ (u ≡ t) → next.logs u ≡ b.logs u
-  -- what waits with the outputs, of the task and of the other writers
+  -- the waiting changes of the task with the outputs added, and those of the other writers
   pub gathered : TaskName → ℕ → List Change
   pub own : (q : ℕ) → gathered t q ≡ b.waiting t q ++ sent_to r t q p.outputs
   pub of_others : (u : TaskName) → IsWriter r u → ¬ (u ≡ t) → (q : ℕ) → gathered u q ≡ b.waiting u q
@@ -94,7 +94,7 @@ pub record ShelfRaises (r : Routes) (t : TaskName) (b next : Shelf) : Type 0 whe
   pub newest : next.newest t ≡ b.newest t + 1
   pub newest_else : (u : TaskName) → IsWriter r u → ¬ (u ≡ t) → next.newest u ≡ b.newest u
 
--- instances and held proposals of all other tasks are as they were
+-- the instances and held proposals of all other tasks are unchanged
 pub record SameElse (r : Routes) (t : TaskName) {H : Type 0} (s next : Parts H) : Type 0 where
   pub instance : (u : TaskName) → IsWriter r u → ¬ (u ≡ t) → next.instance u ≡ s.instance u
   pub held : (u : TaskName) → IsWriter r u → ¬ (u ≡ t) → next.held u ≡ s.held u

@@ -1,4 +1,4 @@
--- The core without its code: what a broker and its tasks hold, and what a topology has them do.
+-- The core without its code: the state of a broker and its tasks, and what a topology has them do.
 use Rattle.std.specs.Prelude.{◌≡◌, ℕ, min, Bool, ◌&&◌, ◌==◌, List, [], ◌∷◌, filter, nat_lt, nat_le, Option, Some, Contains}
 use Rattle.ksql_types.specs.declared.relation.StoreEntry.{StoreEntry}
 use Rattle.ksql_types.specs.declared.relation.TaskName.{TaskName}
@@ -10,15 +10,15 @@ use Rattle.core_state.specs.Routes.{Routes}
 
 -- ---- the state
 
--- a task that runs, with the stores H: its generation, how far it has come, and what it proposes where it waits for a commit
+-- a running task with the stores H: its generation, its progress, and its proposal if it waits for a commit
 pub record Instance (H : Type 0) : Type 0 where
   pub generation : ℕ
   pub done : ℕ
   pub stores : H
   pub proposal : Option Proposal
 
--- what there is of one task: the last feed that it committed, its newest generation and its changelog; its instance, where it has
--- one; and the proposals that stalled workers still hold of it
+-- the state of one task: the last feed that it committed, its newest generation and its changelog; its instance, if it
+-- has one; and its proposals that stalled workers still hold
 pub record TaskState (H : Type 0) : Type 0 where
   pub done : ℕ
   pub newest : ℕ
@@ -26,7 +26,8 @@ pub record TaskState (H : Type 0) : Type 0 where
   pub instance : Option (Instance H)
   pub held : List Proposal
 
--- the core: the last feed, what each partition of a topic shows, what of a task's changes waits for each partition, and the tasks
+-- the core: the last feed, what each partition of a topic shows, a task's changes that wait for each partition, and the
+-- tasks
 pub record State (H : Type 0) : Type 0 where
   pub fed : ℕ
   pub shown : ℕ → ℕ → List LogEntry
@@ -64,16 +65,16 @@ upto c xs = filter (λ x. nat_le (feed_of x) c) xs
 abbrev pub after : ℕ → List Change → List Change
 after c xs = filter (λ x. nat_lt c (feed_of x)) xs
 
--- whether a record stands in a partition of a topic
+-- whether a record is in a partition of a topic
 abbrev pub is_in : ℕ → ℕ → SourceRecord → Bool
 is_in topic q r = (r.stamp.topic == topic) && (r.stamp.part == q)
 
--- the least that f says of the members
+-- the least value of f on the members
 abbrev pub least : {A : Type 0} → (A → ℕ) → A → List A → ℕ
 least f x [] = f x
 least f x (y ∷ ys) = min (f x) (least f y ys)
 
--- the same, and a number where there are none
+-- the same, or a given number if there are none
 abbrev pub lowest : {A : Type 0} → ℕ → (A → ℕ) → List A → ℕ
 lowest n f [] = n
 lowest n f (x ∷ xs) = least f x xs
@@ -86,7 +87,8 @@ module _ {H : Type 0} where
   abbrev pub Proposes : TaskState H → Proposal → Type 0
   Proposes w p = (i : Instance H) × (w.instance ≡ Some i) × (i.proposal ≡ Some p)
 
-  -- the feed up to which a topic is closed: the last one of a source, and the least done of its writers of a written topic
+  -- the feed up to which a topic is closed: the last one of a source, or the least progress of a written topic's
+  -- writers
   abbrev pub closed : Routes → State H → ℕ → ℕ
   closed r s topic = lowest s.fed (done_of s) (r.writers topic)
 

@@ -1,4 +1,4 @@
--- The meaning of a topology as equations: what each partition has on an order of records.
+-- The meaning of a topology as equations: the content of each partition for an order of records.
 use Rattle.std.specs.Prelude.{◌≡◌, ℕ, ◌<◌, ◌≤◌, Bool, false, List, [], ◌∷◌, ◌++◌, ◌==◌, ◌&&◌, nat_lt, nat_le, map, filter, flat_map, if◌then◌else◌, All, Contains}
 use Rattle.std.specs.Cmp.{IsTotalOrder}
 use Rattle.std.specs.Ordering.{is_gt}
@@ -38,21 +38,21 @@ pub record Wiring (E : Type 0) : Type 0 where
   pub routes : Routes
   pub entry_cmp : TaskName → E → E → Ordering
   pub feed : E → ℕ
-  -- what a task takes of an entry of an input topic: an entry of its own, or none of a record that is skipped
+  -- what a task takes of an entry of an input topic: an entry of its own, or none for a record that is skipped
   pub entry : TaskName → ℕ → LogEntry → List E
   -- what a task gives for further entries, after earlier ones
   pub gives : TaskName → List E → List E → List Change
 
 module _ {E : Type 0} where
-  -- the entries that a task reads of what its inputs show, in their order
+  -- the entries that a task reads of what its inputs show, in order
   abbrev pub reads : Wiring E → TaskName → (ℕ → List LogEntry) → List E
   reads w t shown = ascending (w.entry_cmp t) (flat_map (λ i. flat_map (w.entry t i) (shown i)) (w.inputs t))
 
-  -- all entries of a task, where the partitions have these contents
+  -- all entries of a task, given the contents of the partitions
   abbrev pub all_entries : Wiring E → (ℕ → ℕ → List LogEntry) → TaskName → List E
   all_entries w contents t = reads w t (λ i. contents i t.part)
 
-  -- the meaning of an order on which the partitions have these contents
+  -- the meaning of an order, given the contents of the partitions
   abbrev pub meaning_of : Wiring E → List SourceRecord → (ℕ → ℕ → List LogEntry) → Meaning E
   meaning_of w order contents = record {
     order = order;
@@ -61,8 +61,8 @@ module _ {E : Type 0} where
     has = λ topic q c. between log_feed 0 c (contents topic q);
   }
 
-  -- What a task gives for entries is what it gives for a part of them and then for the rest, and has their feeds. Entries have the feeds
-  -- that they are made of, and their order keeps feeds together.
+  -- What a task gives for entries is what it gives for a first part and then for the rest, and has their feeds. Entries
+  -- have the feeds of what they are made of, and their order keeps feeds together.
   pub record GivesWell (w : Wiring E) : Type 0 where
     pub goes_on : (t : TaskName) (es us vs : List E) → w.gives t es (us ++ vs) ≡ w.gives t es us ++ w.gives t (es ++ us) vs
     pub keeps_feed : (t : TaskName) (es us : List E) (a b : ℕ) → All (λ e. (a < w.feed e) × (w.feed e ≤ b)) us →
@@ -71,7 +71,7 @@ module _ {E : Type 0} where
     pub total : (t : TaskName) → IsTotalOrder (w.entry_cmp t)
     pub rises : (t : TaskName) (x y : E) → is_gt (w.entry_cmp t x y) ≡ false → w.feed x ≤ w.feed y
 
-  -- the contents of all partitions on an order whose feeds are 1 to last
+  -- the contents of all partitions for an order whose feeds are 1 to last
   pub record Solves (w : Wiring E) (order : List SourceRecord) (last : ℕ) (contents : ℕ → ℕ → List LogEntry) : Type 0 where
     pub sources : (topic q : ℕ) → w.routes.writers topic ≡ [] → contents topic q ≡ map Fed (filter (is_in topic q) order)
     pub written : (topic q : ℕ) → ¬ (w.routes.writers topic ≡ []) →
@@ -83,7 +83,7 @@ module _ {E : Type 0} where
     pub writes : (t : TaskName) → Contains w.names t → Contains (w.routes.writers (w.routes.output t)) t
     pub written_by : (topic : ℕ) (u : TaskName) → Contains (w.routes.writers topic) u → Contains w.names u × (w.routes.output u ≡ topic)
 
--- the topology of tasks that are wired so, and how they keep stores H
+-- the topology of tasks with this wiring, and how they keep stores H
 abbrev pub wired : {E H : Type 0} → Wiring E → (TaskName → H → List E → Type 0) → (TaskName → List StoreEntry → H) → (TaskName → StoreEntry → Type 0) → Topology E H
 wired w Stands replay MayLoad = record {
   names = w.names;
@@ -98,12 +98,12 @@ wired w Stands replay MayLoad = record {
 
 -- ---- the meaning by recursion on the topics that are written, inputs first
 
--- what a partition of a source has
+-- the content of a source's partition
 abbrev pub source_contents : List SourceRecord → ℕ → ℕ → List LogEntry
 source_contents order topic q = map Fed (filter (is_in topic q) order)
 
 module _ {E : Type 0} where
-  -- what all writers of a topic send to a partition, in the order of places, where the partitions have these contents
+  -- what all writers of a topic send to a partition, in the order of places, given the contents of the partitions
   abbrev pub sent_by_all : Wiring E → (ℕ → ℕ → List LogEntry) → ℕ → ℕ → List LogEntry
   sent_by_all w has topic q = map Said (merged (map (λ u. sent_to w.routes u q (w.gives u [] (all_entries w has u))) (w.routes.writers topic)))
 
@@ -120,14 +120,14 @@ module _ {E : Type 0} where
   abbrev pub contents_of : Wiring E → List ℕ → List SourceRecord → ℕ → ℕ → List LogEntry
   contents_of w topics order = contents_from w (source_contents order) topics
 
-  -- each topic comes once, and after the inputs of its writers
+  -- each topic comes once, after the inputs of its writers
   abbrev pub InStages : Wiring E → List ℕ → Type 0
   InStages w [] = Unit {0}
   InStages w (topic ∷ later) = (¬ Contains later topic)
       × ((u : TaskName) → Contains (w.routes.writers topic) u → (i : ℕ) → Contains (w.inputs u) i → ¬ Contains (topic ∷ later) i)
       × InStages w later
 
-  -- the topics are those that are written, each after the inputs of its writers
+  -- the topics are the written ones, each after the inputs of its writers
   pub record IsStaged (w : Wiring E) (topics : List ℕ) : Type 0 where
     pub stages : InStages w topics
     pub all : (topic : ℕ) → ¬ (w.routes.writers topic ≡ []) → Contains topics topic

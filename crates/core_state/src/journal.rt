@@ -1,11 +1,11 @@
 use ksql_types::{CopyOf, Items, TaskName};
 use std::alloc::{AllocError, Global};
 
-/// What happened to a cluster, in its order.
+/// What happened in a cluster, in order.
 pub type Journal = Items<JournalEntry>;
 
-/// An event of a run: a step of the schedule begins, with its line; a round begins; a feed; a commit; a task leaves its
-/// owner, or is made anew at one; a commit is refused.
+/// An event of a run: a step of the schedule begins, on its line; a round begins; a feed; a commit; a task leaves its
+/// owner, or is restored at one; a commit is refused.
 #[derive(Clone, Copy, Debug, PartialEq, Eq)]
 pub enum JournalEntry {
     Step {

@@ -8,8 +8,8 @@ ghost use Rattle.core_state.specs.Meaning.{Meaning, Means};
 ghost use Rattle.core_state.specs.Whole.{AreStores, Holding, HoldsWell, StepsWell, held_by};
 ghost use Rattle.core_state.specs.Wired.{AreCounted, CutsAlike, IsStaged, IsWired, Wiring, mean_of};
 
-/// Each event keeps a good state, and what comes of the opening state is good, whatever happens. The meaning of an order cut
-/// at a feed is the meaning of the order, cut there. Two good states of the same numbers show the same.
+/// Every event keeps a good state, so every state reachable from the opening state is good. The meaning of an order cut
+/// at a feed is the meaning of the whole order, cut there. Two good states with the same numbers show the same.
 pub fn events_keep_good()
     ensures each { (w : Wiring OneChange) (one : OneTask → List OneChange → OneChange → List OneChange) (topics : List ℕ) (hold : Holding OneChange (List OneEntry)) →
         StepsWell w one → IsWired w → IsStaged w topics → HoldsWell w (AreStores hold) hold.replay → EventsKeepGood (held_by w hold) AreCounted (mean_of w topics) }

@@ -1,5 +1,5 @@
-//! The core as definitions: what a broker and its tasks hold, the events, when a state is good, and the law that every
-//! event keeps a good state.
+//! The core as definitions: the state of a broker and its tasks, the events, which states are good, and the law that
+//! every event keeps a good state.
 #![tactic(auto)]
 
 mod journal;

@@ -9,8 +9,8 @@ pub enum LogEntry {
     Said(Change),
 }
 
-/// What a task offers to commit: its results in the feeds after `from` up to `to`, in the order of their places, and what
-/// became of its stores.
+/// What a task offers to commit: its results for the feeds after `from` up to `to`, in the order of their places, and
+/// the changes of its stores.
 #[derive(Debug, Drop)]
 pub struct Proposal {
     pub task: TaskName,

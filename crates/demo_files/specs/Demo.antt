@@ -1,9 +1,9 @@
--- What `ksql demo N` runs: its script, the file of its topic and its schedule.
+-- The files that `ksql demo N` runs: its script, topic file and schedule.
 use Rattle.std.specs.Prelude.{ℕ, ◌*◌, ◌%◌, List, ◌++◌, codes, decimal, flat_map}
 use Rattle.std.specs.Int.{div_ceil}
 use Rattle.std.specs.List.{range_with_len}
 
--- a stream of hits on pages, a table of each page's hits and one of its hits in each minute
+-- a stream of page hits, a table of each page's hits, and one of its hits per minute
 unfoldable pub demo_script : List ℕ
 demo_script =
     codes "CREATE STREAM HITS (ID BIGINT KEY, PAGE VARCHAR, N INTEGER)\n"
@@ -13,7 +13,7 @@ demo_script =
     ++ (codes "CREATE TABLE MINUTES AS SELECT PAGE, COUNT(*) AS C\n"
     ++ codes "  FROM HITS WINDOW TUMBLING (SIZE 1 MINUTE) GROUP BY PAGE;\n"))))
 
--- the line of record i: one record a second, of a thousand keys in turn, on ten pages in turn
+-- the line of record i: one record a second, with a thousand keys in turn and ten pages in turn
 unfoldable pub demo_line : ℕ → List ℕ
 demo_line i =
     codes "{\"t\":" ++ (decimal (1000 * i)
@@ -26,7 +26,8 @@ demo_line i =
 unfoldable pub demo_topic_file : ℕ → List ℕ
 demo_topic_file n = flat_map demo_line (range_with_len 0 n)
 
--- the lines of one feed: a tenth of n records, rounded up, a round in which worker 1's proposals are lost, and its start
+-- the lines of one feed: a tenth of n records, rounded up, a round in which worker 1's proposals are lost, and its
+-- restart
 unfoldable pub feed_lines : ℕ → List ℕ
 feed_lines n = codes "feed hits " ++ (decimal (div_ceil n 10) ++ codes "\nround lose 1\nstart 1\n")
 

@@ -1,4 +1,4 @@
-//! What `ksql demo N` runs, as texts: its script, the file of its topic and its schedule.
+//! The files that `ksql demo N` runs, as texts: its script, topic file and schedule.
 #![tactic(auto)]
 
 ghost use Rattle.std.specs.Prelude.{◌≡◌, ◌++◌, IfOk, OnOk, codes, decimal, string_bytes};
@@ -10,13 +10,13 @@ use std::alloc::{AllocError, Global};
 #[cfg(test)]
 mod tests;
 
-/// How many feeds the schedule has.
+/// The number of feeds in the schedule.
 const FEEDS: u32 = 10;
 
-/// How many bytes most lines of a file of 100,000 records have.
+/// The length of most lines in a file of 100,000 records, in bytes.
 const LINE: usize = 48;
 
-/// A stream of hits on pages, and tables of each page's hits: of all, and of those in each minute.
+/// A stream of page hits, and two tables that count each page's hits: in total, and per minute.
 const SCRIPT: &str = "CREATE STREAM HITS (ID BIGINT KEY, PAGE VARCHAR, N INTEGER)
   WITH (KAFKA_TOPIC='hits', VALUE_FORMAT='JSON', PARTITIONS=4);
 CREATE TABLE PAGES AS SELECT PAGE, COUNT(*) AS C, SUM(N) AS TOTAL
@@ -33,7 +33,7 @@ pub fn script() -> &'static str
     SCRIPT
 }
 
-/// The file of the topic `hits`, of this many records.
+/// The file of topic `hits`, with `records` records.
 #[tactic(auto, using(crate::proofs::Texts::texts_more), unfolding(crate::specs::Demo::demo_topic_file))]
 pub fn topic_file(alloc: Global, records: u32) -> Result<Vec<u8>, AllocError>
     ensures { IfOk result (λ bytes. bytes.items ≡ demo_topic_file records) }
@@ -45,7 +45,7 @@ pub fn topic_file(alloc: Global, records: u32) -> Result<Vec<u8>, AllocError>
     Ok(out.into_bytes())
 }
 
-/// Appends the line of record i.
+/// Appends the line of record `i`.
 #[tactic(auto, using(crate::proofs::Texts::appends), unfolding(crate::specs::Demo::demo_line))]
 fn push_line(out: &mut String, i: u32) -> Result<(), AllocError>
     ensures { OnOk result (string_bytes out.new ≡ string_bytes out.old ++ demo_line i) }
@@ -57,7 +57,7 @@ fn push_line(out: &mut String, i: u32) -> Result<(), AllocError>
     push_value(out, i % 10, i % 100)
 }
 
-/// Appends the value of a record with this page and this number, up to the end of the line.
+/// Appends the value of a record with this page and number, up to the end of the line.
 #[tactic(auto, using(crate::proofs::Texts::appends))]
 fn push_value(out: &mut String, page: u32, number: u32) -> Result<(), AllocError>
     ensures { OnOk result (string_bytes out.new ≡ string_bytes out.old
@@ -77,7 +77,7 @@ fn push_number(out: &mut String, number: u64) -> Result<(), AllocError>
     out.push_str(Buffer::new().format(number))
 }
 
-/// The schedule that feeds this many records.
+/// The schedule that feeds `records` records.
 #[tactic(auto, using(crate::proofs::Texts::texts_more), unfolding(crate::specs::Demo::demo_schedule, crate::specs::Demo::feeds_of))]
 pub fn schedule(alloc: Global, records: u32) -> Result<Vec<u8>, AllocError>
     ensures { IfOk result (λ bytes. bytes.items ≡ demo_schedule records) }
@@ -90,7 +90,7 @@ pub fn schedule(alloc: Global, records: u32) -> Result<Vec<u8>, AllocError>
     Ok(out.into_bytes())
 }
 
-/// Appends the lines of one feed.
+/// Appends the lines of a feed of `records` records.
 #[tactic(auto, using(crate::proofs::Texts::appends), unfolding(crate::specs::Demo::feed_lines))]
 fn push_feed(out: &mut String, records: u32) -> Result<(), AllocError>
     ensures { OnOk result (string_bytes out.new ≡ string_bytes out.old ++ feed_lines records) }

@@ -10,7 +10,7 @@ use Rattle.expression_trees.specs.declared.tree.WhenText.{WhenText, roll-WhenTex
 use Rattle.expression_trees.specs.Parts.{becomes, when_becomes}
 use Rattle.expression_trees.proofs.Forms as p
 
--- what is made of equal parts
+-- what equal parts give
 pub moved : {A E : Type 0} (r : Result A E) (a b : A) → b ≡ a → IfOk r (λ x. x ≡ a) → IfOk r (λ x. x ≡ b)
 moved r a b h = subst (λ z. IfOk r (λ x. x ≡ z)) (sym h)
 

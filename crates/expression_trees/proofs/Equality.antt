@@ -1,4 +1,4 @@
--- Two expressions are one exactly where they are equal.
+-- Two expressions are the same exactly if they are equal.
 use Rattle.std.proofs.Common.{◌≡◌, ℕ, Bool, true, false, ◌&&◌, List, [], ◌∷◌, map, Option, Some, None, refl, ap, ap₂, sym, subst, ◌∙◌}
 use Rattle.std.specs.Prelude.{bytes_eq}
 use denote.Enum.Bare.{same_true, true_same}
@@ -11,7 +11,7 @@ use Rattle.ksql_types.specs.contracts.value.SqlType.{the_type as the_sql_type}
 use Rattle.expression_trees.specs.declared.tree.Expr.{Expr, map-Expr, out-Expr, roll-Expr, out-roll-Expr, roll-out-Expr, fold-roll-Expr, ind-Expr}
 use Rattle.expression_trees.specs.declared.tree.Expr.TheOpen.{Expr-F, WhenText-F}
 use Rattle.expression_trees.specs.declared.tree.WhenText.{WhenText, roll-WhenText}
-use Rattle.expression_trees.proofs.Sameness.{same-when}
+use Rattle.expression_trees.proofs.Folds as f
 use Rattle.expression_trees.specs.Same.{Test, same_expr, same_when_text, same_form, same_when, same_part, same_parts, same_truth, same_name, same_op, same_type}
 
 -- ---- tests
@@ -69,7 +69,7 @@ op-self o = true_same the_op o o refl
 
 -- ---- forms
 
--- an expression that only itself is one with
+-- an expression that is the same only as itself
 record IsItself (a : Expr) : Type 0 where
   only : (b : Expr) → same_expr a b ≡ true → a ≡ b
   self : same_expr a a ≡ true
@@ -183,6 +183,10 @@ form-self (Expr-F.Call f m xs) = both-hold _ _ (both-hold _ _ (text-self f) (tru
 
 abbrev step : Expr-F (Test Expr) (Test WhenText) → Test Expr
 step form b = same_form form (out-Expr b)
+
+same-when : (v w : WhenText) → same_when_text v w ≡ (same_expr v.cond w.cond && same_expr v.result w.result)
+unfolding same_expr same_when_text
+same-when v w = ap (λ g. g w) (f.fold-when (Test Expr) (Test WhenText) step same_when v)
 
 at-roll : (d : Expr-F Expr WhenText) (b : Expr) → same_expr (roll-Expr d) b ≡ same_form (tests_of d) (out-Expr b)
 unfolding same_expr same_when_text

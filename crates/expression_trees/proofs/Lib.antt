@@ -3,6 +3,5 @@ pub mod Equality
 pub mod Folds
 pub mod Forms
 pub mod Passing
-pub mod Sameness
 pub mod Unchanged
 pub mod Words

@@ -5,7 +5,7 @@ use Rattle.std.proofs.lemmas.Bool.{false_from_ne_true}
 use Rattle.std.proofs.lemmas.Slice.Eq.{bytes_eq-Decides}
 use Rattle.expression_trees.specs.Words.{beside}
 
--- the word stands in no row
+-- the word is in no row
 abbrev pub IsApart : {A : Type 0} → List (List ℕ × A) → List ℕ → Type 0
 IsApart [] word = Unit {0}
 IsApart (row ∷ rows) word = (word ≡ row.0 → ⊥) × IsApart rows word

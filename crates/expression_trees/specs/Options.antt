@@ -1,7 +1,7 @@
--- What may be missing.
+-- Optional values.
 use Rattle.std.specs.Prelude.{Option, Some, None}
 
--- what a value gives, where there is one
+-- what a value gives, if any
 infixl 10 ◌>>=◌
 abbrev pub ◌>>=◌ : {A B : Type 0} → Option A → (A → Option B) → Option B
 None >>= f = None

@@ -30,22 +30,22 @@ any_part (Expr-F.Cast a to) = a
 any_part (Expr-F.Case operand whens otherwise) = any_perhaps operand || any_of whens || any_perhaps otherwise
 any_part (Expr-F.Call name star args) = any_of args
 
--- a form whose parts stand beside what was found of them: the expression, and the form of what was found
+-- a form whose parts are paired with what was found of them: the expression, and the form of what was found
 abbrev pub whole : (A B : Type 0) → Expr-F (Expr × A) (WhenText × B) → Expr
 whole A B form = roll-Expr (map-Expr (Expr × A) (WhenText × B) Expr WhenText (λ a. a.0) (λ w. w.0) form)
 
 abbrev pub found : (A B : Type 0) → Expr-F (Expr × A) (WhenText × B) → Expr-F A B
 found A B form = map-Expr (Expr × A) (WhenText × B) A B (λ a. a.1) (λ w. w.1) form
 
--- what is decided of an expression as a whole, or else what its parts give together
+-- the decision for an expression as a whole, or else what its parts give together
 abbrev pub decided_or : (A B : Type 0) → (Expr → Option A) → (Expr-F A B → A) → Expr-F (Expr × A) (WhenText × B) → A
 decided_or A B decide together form = unwrap_or (decide (whole A B form)) (together (found A B form))
 
--- whether an expression passes: as is decided of it, or else where one of its parts does
+-- whether an expression passes: by its decision, or else if one of its parts passes
 unfoldable pub passes : (Expr → Option Bool) → Expr → Bool
 passes decide = para-Expr Bool Bool (decided_or Bool Bool decide any_part) (λ w. w.cond.1 || w.result.1)
 
--- what an expression becomes: what is decided of it, or else itself with what its parts become
+-- an expression after replacement: its replacement as a whole, or else itself with its parts replaced
 unfoldable pub becomes : (Expr → Option Expr) → Expr → Expr
 becomes decide =
     para-Expr Expr WhenText (decided_or Expr WhenText decide roll-Expr) (λ w. roll-WhenText (record { cond = w.cond.1; result = w.result.1 }))

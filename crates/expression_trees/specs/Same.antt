@@ -1,4 +1,4 @@
--- Whether two expressions are one: the same form with the same parts.
+-- Whether two expressions are the same: the same form with the same parts.
 use denote.Enum.Bare.{sameb}
 use Rattle.std.specs.Prelude.{ℕ, ◌==◌, Bool, true, false, not, ◌&&◌, List, [], ◌∷◌, Option, Some, None, bytes_eq}
 use Rattle.ksql_types.specs.declared.operator.BinaryOp.{BinaryOp}
@@ -9,7 +9,7 @@ use Rattle.expression_trees.specs.declared.tree.Expr.{Expr, fold-Expr, out-Expr}
 use Rattle.expression_trees.specs.declared.tree.Expr.TheOpen.{Expr-F, WhenText-F}
 use Rattle.expression_trees.specs.declared.tree.WhenText.{WhenText, fold-WhenText}
 
--- a test of another value, for a part
+-- a test of another value against a part
 abbrev pub Test : Type 0 → Type 0
 Test A = A → Bool
 
@@ -59,10 +59,10 @@ same_form _ _ = false
 abbrev pub same_when : WhenText-F (Test Expr) (Test WhenText) → Test WhenText
 same_when w v = w.cond v.cond && w.result v.result
 
--- whether two expressions are one
+-- whether two expressions are the same
 unfoldable pub same_expr : Expr → Expr → Bool
 same_expr = fold-Expr (Test Expr) (Test WhenText) (λ form a. same_form form (out-Expr a)) same_when
 
--- whether two WHENs are one
+-- whether two WHENs are the same
 unfoldable pub same_when_text : WhenText → WhenText → Bool
 same_when_text = fold-WhenText (Test Expr) (Test WhenText) (λ form a. same_form form (out-Expr a)) same_when

@@ -1,11 +1,11 @@
-//! Copies of expressions: what they become where nothing is replaced.
+//! Copies of expressions, as replacements that replace nothing.
 
 use crate::replacing::{Replaces, becomes, when_becomes};
 use crate::tree::{Expr, WhenText};
 use ksql_types::CopyOf;
 use std::alloc::{AllocError, Global};
 
-/// Nothing is replaced.
+/// Replaces nothing.
 struct Nothing;
 
 impl Replaces for Nothing {

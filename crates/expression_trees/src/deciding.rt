@@ -1,4 +1,4 @@
-//! Whether an expression passes.
+//! Tests of expressions.
 
 ghost use Rattle.std.specs.Prelude.{◌≡◌, ◌||◌, map, option_map};
 ghost use Rattle.expression_trees.specs.Parts as spec;
@@ -6,15 +6,15 @@ ghost use Rattle.expression_trees.specs.Parts as spec;
 use crate::tree::{Expr, ExprTexts, WhenTexts};
 use ksql_types::Boxed;
 
-/// Which expressions pass, and which don't, whatever their parts are.
+/// A test of expressions: an expression passes if its decision says so, or if it has none and one of its parts passes.
 pub trait Decides {
     ghost use Rattle.std.specs.Prelude.{Bool, Option};
     ghost use Rattle.expression_trees.specs.declared.tree.Expr.{Expr as Tree};
 
-    // Whether an expression passes, where that is decided of it as a whole.
+    // The decision for an expression as a whole, if any.
     ghost decide: { Self → Tree → Option Bool };
 
-    /// Whether an expression passes, where that is decided of it as a whole.
+    /// The decision for an expression as a whole, if any.
     fn decision(&self, expr: &Expr) -> Option<bool>
         ensures { result ≡ decide self.now expr.now };
 }
@@ -25,7 +25,7 @@ fn either(one: bool, other: bool) -> bool
     one || other
 }
 
-/// Whether an expression passes: as is decided of it, or else where one of its parts does.
+/// Whether an expression passes: by its decision, or else if one of its parts passes.
 #[cycle(passes)]
 #[tactic(auto, using(crate::proofs::Passing::passes_forms))]
 pub fn passes<D: Decides>(decides: &D, expr: &Expr) -> bool

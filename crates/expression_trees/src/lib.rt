@@ -1,5 +1,4 @@
-//! The expressions of a script, as trees, and walks over them by their parts: what one becomes, whether it passes, and
-//! whether two are one.
+//! The expressions of a script as trees, and walks over their parts: replacement, tests and comparison.
 #![tactic(auto)]
 
 mod copies;

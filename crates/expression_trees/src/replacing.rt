@@ -1,4 +1,4 @@
-//! What an expression becomes where some of its parts are replaced.
+//! Replacement of parts of an expression.
 
 ghost use Rattle.std.specs.Prelude.{◌≡◌, ℕ, IfOk, List, Option, map, option_map};
 ghost use Rattle.expression_trees.specs.declared.tree.Expr.{Expr as Tree};
@@ -9,20 +9,20 @@ use crate::tree::{Expr, ExprTexts, WhenText, WhenTexts};
 use ksql_types::{BinaryOp, Boxed, Chars, CopyOf, Items, SqlType};
 use std::alloc::{AllocError, Global};
 
-/// What some parts of an expression are replaced by.
+/// Which expressions are replaced, and by what.
 pub trait Replaces {
     ghost use Rattle.std.specs.Prelude.{Option};
     ghost use Rattle.expression_trees.specs.declared.tree.Expr.{Expr as Tree};
 
-    // What stands in the place of an expression, where it is replaced as a whole.
+    // The replacement of an expression as a whole, if any.
     ghost decide: { Self → Tree → Option Tree };
 
-    /// What stands in the place of an expression, where it is replaced.
+    /// The replacement of an expression as a whole, if any.
     fn replacement(&self, alloc: Global, expr: &Expr) -> Result<Option<Expr>, AllocError>
         ensures { IfOk result (λ part. part ≡ decide self.now expr.now) };
 }
 
-/// An expression with its largest parts that are replaced in their place.
+/// The expression with its largest replaceable parts replaced.
 #[cycle(becomes)]
 pub fn becomes<R: Replaces>(alloc: Global, replaces: &R, expr: &Expr) -> Result<Expr, AllocError>
     ensures { IfOk result (λ made. made ≡ spec.becomes (R.decide replaces.now) expr.now) }
@@ -144,8 +144,8 @@ fn each_when_becomes<R: Replaces>(alloc: Global, replaces: &R, whens: &WhenTexts
     Ok(Items::of(made))
 }
 
-// What was made, unless memory ran out. The functions of such parts keep the frame of `becomes`, which stands on the
-// stack once for each level of a tree, small.
+// The new tree, unless memory ran out. Separate functions for such parts keep the stack frame of `becomes` small, which
+// stands on the stack once per level of a tree.
 type Made<T> = Result<T, AllocError>;
 
 fn text_of(content: Made<Chars>) -> Made<Expr>

@@ -1,7 +1,7 @@
 use ksql_types::{BinaryOp, Boxed as Box, Chars, CopyOf, Items, SqlType};
 use std::alloc::{AllocError, Global};
 
-/// An expression. One in parentheses is its inner tree.
+/// An expression. Parentheses leave no node.
 #[cycle(expr)]
 #[derive(Drop)]
 pub enum Expr {
@@ -9,12 +9,12 @@ pub enum Expr {
     Text(Chars),
     Truth(bool),
     Null,
-    /// A column, with the source that is written before it.
+    /// A column, and the source written before it, if any.
     Name {
         qualifier: Option<Chars>,
         name: Chars,
     },
-    /// `-` where `minus` is true, else `+`.
+    /// `-` if `minus` is true, else `+`.
     Sign {
         minus: bool,
         arg: Box<Expr>,
@@ -55,7 +55,7 @@ pub enum Expr {
         whens: WhenTexts,
         otherwise: Option<Box<Expr>>,
     },
-    /// A call. `star` is true for `*` as the only argument, and `args` is then empty.
+    /// A call. `star` is true if `*` is the only argument; `args` is then empty.
     Call {
         name: Chars,
         star: bool,
@@ -65,7 +65,7 @@ pub enum Expr {
 
 pub type ExprTexts = Items<Expr>;
 
-/// WHEN and THEN of a CASE.
+/// The WHEN and THEN of a CASE.
 #[cycle(expr)]
 #[derive(Drop)]
 pub struct WhenText {

@@ -37,7 +37,7 @@ hex-ascii x is = by (cases_lt x 123)
     by (inl low) = (omega arith, value)
     by (inr high) = absurd (grind (arith, nat_tests))
 
--- a byte and what it stands for behind a backslash are ASCII
+-- a byte and what it means after a backslash are ASCII
 abbrev AreAscii : ℕ → ℕ → Type 0
 AreAscii x c = (x < 128) × (c < 128)
 
@@ -124,7 +124,7 @@ prepended : (bytes : List ℕ) (o : Option (List ℕ)) → IsUtf8 bytes → IfSo
 prepended bytes None text rest = tt
 prepended bytes (Some s) text rest = IsUtf8-append bytes s text rest
 
--- a byte that isn't ASCII stands for itself
+-- a byte that isn't ASCII means itself
 high-byte : (x : ℕ) (xs : List ℕ) → 128 ≤ x → content plain (x ∷ xs) ≡ prepend (x ∷ []) (content plain xs)
 unfolding content
 high-byte x xs high = λ i.
@@ -155,7 +155,7 @@ char-high c high = recursion_from_All (λ b. 128 ≤ b) (encode_utf8 c) (All-fro
         by (inl low) = absurd (omega (arith, inside_one c [] (encode_utf8 c) k (sym (append-nil (encode_utf8 c))) below low, low, high))
         by (inr up) = up
 
--- where what comes of any text of at most so many bytes is of UTF-8
+-- if the result for any text of at most n bytes is UTF-8
 module _ (n : ℕ) (ih : (ys : List ℕ) → length ys ≤ n → IsUtf8 ys → IfSome (content plain ys) IsUtf8) where
   content-after_high : (h : ℕ) (xs : List ℕ) → 0xd800 ≤ h → h < 0xdc00 → length xs ≤ n → IsUtf8 xs → IfSome (content (after_high h) xs) IsUtf8
   unfolding content
@@ -229,7 +229,7 @@ module _ (n : ℕ) (ih : (ys : List ℕ) → length ys ≤ n → IsUtf8 ys → I
       by true is = content-after_u xs (omega arith) (text-after_ascii x xs (omega (arith, eqb-true x 117 is)) text)
       by false is = short (short_escape x) (short-ascii x)
 
-  -- a character that isn't ASCII stands for itself
+  -- a character that isn't ASCII means itself
   content-of_char : (x : ℕ) (xs : List ℕ) → 128 ≤ x → length xs ≤ n → IsUtf8 (x ∷ xs) → IfSome (content plain (x ∷ xs)) IsUtf8
   content-of_char x xs high few text = by text.0 text.1.0 text.1.1
     where

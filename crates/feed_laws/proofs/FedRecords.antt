@@ -30,8 +30,8 @@ use Rattle.topic_files.specs.declared.topic.Fed.{Fed}
 use Rattle.topic_feeds.specs.Feeding.{fed_after, fed_from, in_part}
 use Rattle.topic_feeds.proofs.Feeds.{fed-topic}
 use Rattle.topic_feeds.proofs.Partitions.{in_part-own}
-use Rattle.topology_laws.specs.Fed.{IsInItsPartition}
-use Rattle.storing_laws.specs.Short.{HoldsInDecoded, IsProper, IsShortRecord, IsText, IsTextRecord}
+use Rattle.short_laws.specs.Fed.{IsInItsPartition}
+use Rattle.short_laws.specs.Short.{HoldsInDecoded, IsProper, IsShortRecord, IsText, IsTextRecord}
 use Rattle.feed_laws.specs.Feeds.{Source, fed_of, records_of}
 use Rattle.feed_laws.specs.Fitting.{AreSourcesOf, Fits, IsFedOf, IsOfDeclared, IsSourceOf}
 use Rattle.feed_laws.proofs.Lists.{AllPairs-from_pairwise, Pairwise, each-ascending, each-flat_map, each-weaker, pairwise-append, pairwise-ascending, pairwise-from_AllPairs, pairwise-weaker}
@@ -46,7 +46,7 @@ more-in_part part before r =
     let passes = λ (s : SourceRecord). s.stamp.part == part in
     omega (arith, ap length (filter-append passes before (r ∷ [])), length-append (in_part part before) (in_part part (r ∷ [])))
 
--- offsets go on from the records before
+-- offsets continue from the earlier records
 low-offsets : (feed : ℕ) (relation : Relation) (before : List SourceRecord) (feds : List Fed) →
     AllByRecursion (λ r. length (in_part r.stamp.part before) ≤ r.stamp.offset) (fed_from feed relation before feds)
 unfolding fed_from
@@ -174,7 +174,7 @@ module _ (items : List Item) (feed : ℕ) (r : SourceRecord) (good : IsGood item
   good-text : IsTextRecord r
   good-text = (All-weaker IsProper IsText (λ v proper. proper.1) r.key good.fits.proper_key, holds-weaker IsProper IsText (λ v proper. proper.1) r.value good.fits.proper_row)
 
--- ---- behind the records of earlier feeds
+-- ---- after the records of earlier feeds
 
 nat-less : (a b : ℕ) → a < b → nat_cmp a b ≡ Less
 nat-less a b less = grind (arith, nat_tests)

@@ -38,7 +38,7 @@ use Rattle.topic_files.specs.File.{feds_of, topic_lines}
 use Rattle.topic_files.specs.Lines.{lines_of, record_lines}
 use Rattle.topic_files.specs.Record.{delimited_row, fed_of, fed_of_data, field_value, good_row, key_of, keyed, object_row, record_at, row_in}
 use Rattle.topic_files.specs.TopicLine.{as_time, data_of, is_key, is_value, last_time, present, time_of, topic_time, unless_null, whole_number}
-use Rattle.storing_laws.specs.Short.{HoldsInDecoded, IsProper}
+use Rattle.short_laws.specs.Short.{HoldsInDecoded, IsProper}
 use Rattle.feed_laws.specs.Fitting.{IsFedOf}
 use Rattle.feed_laws.proofs.Strings.{IsTextData, AreTextFields, anything, onto, onward, text-read}
 

@@ -1,4 +1,4 @@
--- What holds of each member of a list, and of any two of them.
+-- Properties of each member of a list, and of any two of them.
 use Rattle.std.proofs.Common.{suc, List, [], ◌∷◌, ◌++◌, true, false, map, arith}
 use Rattle.std.specs.Prelude.{if◌then◌else◌}
 use Rattle.std.specs.List.{AllByRecursion, AllPairs, flat_map}

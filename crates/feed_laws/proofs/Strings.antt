@@ -35,7 +35,7 @@ abbrev mutual
   AreTextMembers json.no_members = Unit {0}
   AreTextMembers (json.member k j ms) = IsTextJson j × AreTextMembers ms
 
--- something holds of what is read, and the tokens that are left are texts
+-- a property of what is read, where the remaining tokens are texts
 abbrev OnRead : {A : Type 0} → (A → Type 0) → Option (A × List Token) → Type 0
 OnRead P r = IfSome r (λ q. P q.0 × AreTokens q.1)
 
@@ -156,7 +156,7 @@ text-put k d (tree.member l e ms) is are = by (slice_cmp nat_cmp k l) (text-put 
     by Equal rest = (is, are.1)
     by Greater rest = (are.0, rest)
 
--- what holds of something holds of what is made of it
+-- a property of something holds of its image
 pub onto : {A B : Type 0} (f : A → B) (P : A → Type 0) (Q : B → Type 0) → ((a : A) → P a → Q (f a)) → (o : Option A) → IfSome o P → IfSome (option_map f o) Q
 onto f P Q to None is = tt
 onto f P Q to (Some a) is = to a is
@@ -194,7 +194,7 @@ text-last : (j : json.Json) (rest : List Token) → IsTextJson j → IfSome (if_
 text-last j [] is = is
 text-last j (t ∷ rest) is = tt
 
--- what is read of a text of UTF-8
+-- what is read of a UTF-8 text
 pub text-read : (text : List ℕ) → IsUtf8 text → IfSome (read text) IsTextData
 text-read text utf8 =
     onward of_json IsTextJson IsTextData (λ j is. text-of_json j is) (option_and_then (λ p. if_last p.0 p.1) (value max_depth (tokens text)))

@@ -1,4 +1,4 @@
--- What feeds take of topic files, one feed after another.
+-- What feeds take from topic files, feed by feed.
 use Rattle.std.specs.Prelude.{ℕ, List, [], ◌∷◌, ◌++◌, flat_map, take, drop}
 use Rattle.ksql_types.specs.declared.relation.Relation.{Relation}
 use Rattle.ksql_place.specs.Ascending.{ascending}
@@ -10,7 +10,7 @@ use Rattle.topic_files.specs.declared.topic.Fed.{Fed}
 use Rattle.topic_files.specs.declared.topic.TopicLines.{TopicLines}
 use Rattle.topic_feeds.specs.Feeding.{fed_from}
 
--- a declared relation's topic: the records that were fed to it, and those of its file that are left
+-- a declared relation's topic: the records that were fed to it, and the remaining ones of its file
 pub record Source : Type 0 where
   pub relation : Relation
   pub before : List SourceRecord
@@ -22,7 +22,7 @@ sources_of (Declared r ∷ items) (file ∷ files) = record { relation = r; befo
 sources_of (Started q ∷ items) files = sources_of items files
 sources_of _ _ = []
 
--- what one feed brings of a source, of which it takes so many records, as far as there are any left
+-- what one feed brings from a source: this many of its records, at most as many as remain
 abbrev pub fed_of : ℕ → (Source → ℕ) → Source → List SourceRecord
 fed_of feed count s = fed_from feed s.relation s.before (take (count s) s.left)
 

@@ -7,10 +7,10 @@ use Rattle.ksql_program.specs.declared.program.Item.{Item}
 use Rattle.ksql_program.specs.declared.program.Item.TheVariants.{Declared, Started}
 use Rattle.ksql_program.specs.Program.{relation_at}
 use Rattle.meaning_laws.specs.Bounds.{IsDecodedOf, IsInTime, IsKeyOf}
-use Rattle.storing_laws.specs.Short.{HoldsInDecoded, IsProper, IsShortRecord, IsTextRecord}
+use Rattle.short_laws.specs.Short.{HoldsInDecoded, IsProper, IsShortRecord, IsTextRecord}
 use Rattle.topic_files.specs.declared.topic.Fed.{Fed}
 use Rattle.topic_files.specs.declared.topic.TopicLines.{TopicLines}
-use Rattle.topology_laws.specs.Fed.{IsFed}
+use Rattle.short_laws.specs.Fed.{IsFed}
 use Rattle.core_state.specs.Wired.{AreCounted}
 use Rattle.feed_laws.specs.Feeds.{Source}
 
@@ -33,12 +33,12 @@ AreFilesOf _ _ = ⊥
 
 -- ---- records
 
--- a record stands in the topic of a declared relation
+-- a record is in the topic of a declared relation
 abbrev pub IsOfDeclared : List Item → SourceRecord → Type 0
 IsOfDeclared items x = (r : Relation) × (relation_at items x.stamp.topic ≡ Some r) × (r.declared ≡ true)
 
--- records that a program can be fed: in the order of consumption, in the topics of declared relations and there in their partitions,
--- with keys and rows of their columns that are short, with times of at most 2^53, and of feeds from 1 on
+-- records that a program can be fed: in the order of consumption, in their partitions of the topics of declared
+-- relations, with short keys and rows of their columns, with times of at most 2^53, and of feeds from 1 on
 pub record Fits (items : List Item) (order : List SourceRecord) : Type 0 where
   pub fed : IsFed items order
   pub declared : All (IsOfDeclared items) order
@@ -47,7 +47,7 @@ pub record Fits (items : List Item) (order : List SourceRecord) : Type 0 where
   pub text : All IsTextRecord order
   pub counted : AreCounted order
 
--- a source is a declared relation's; its records that are left fit, and those before are of feeds up to the last one
+-- a source is a declared relation's; its remaining records fit, and the earlier ones are of feeds up to the last one
 pub record IsSourceOf (items : List Item) (fed : ℕ) (s : Source) : Type 0 where
   pub relation : relation_at items s.relation.number ≡ Some s.relation
   pub declared : s.relation.declared ≡ true
@@ -56,7 +56,7 @@ pub record IsSourceOf (items : List Item) (fed : ℕ) (s : Source) : Type 0 wher
   pub left : All (IsFedOf s.relation) s.left
   pub before : All (λ r. r.stamp.feed ≤ fed) s.before
 
--- sources of a program after so many feeds; no two are of one relation
+-- the sources of a program after n feeds, at most one for each relation
 pub record AreSourcesOf (items : List Item) (fed : ℕ) (sources : List Source) : Type 0 where
   pub each : All (IsSourceOf items fed) sources
   pub apart : AllPairs (λ a b. a.relation.number ≢ b.relation.number) sources

@@ -1,4 +1,4 @@
-//! Laws of what is fed. None of these functions does anything.
+//! Laws of what is fed. These functions do nothing.
 ghost use Rattle.std.specs.Prelude.{◌≡◌, ◌≤◌, ◌+◌, ◌++◌, ℕ, All, List, map};
 ghost use Rattle.ksql_types.specs.declared.relation.Relation.{Relation as OneRelation};
 ghost use Rattle.ksql_place.specs.Ascending.{Rises};
@@ -11,13 +11,14 @@ ghost use Rattle.topic_files.specs.declared.topic.TopicLines.{TopicLines as OneF
 ghost use Rattle.feed_laws.specs.Feeds.{Source, after_feed, records_of, sources_of};
 ghost use Rattle.feed_laws.specs.Fitting.{AreFilesOf, AreSourcesOf, Fits, IsFedOf};
 
-/// The records of a topic file have keys and rows of their relation's columns, with short values, and times of at most 2^53.
+/// The records of a topic file have keys and rows of their relation's columns, with short values, and times of at most
+/// 2^53.
 pub fn files_fit()
     ensures { (relation : OneRelation) (file : List ℕ) → All (IsFedOf relation) (topic_lines relation file).feds }
 {}
 
-/// The sources of a sound program are as they should be before any feed. A feed brings records in the order of consumption, of
-/// its own number; with them the order still fits the program, and the sources are as they should be after it.
+/// Before any feed, the sources of a sound program are in order. A feed brings records in the order of consumption,
+/// with its own number; with them the order still fits the program, and the sources stay in order.
 pub fn feeds_fit()
     ensures begins { (items : List OneItem) (files : List OneFile) → IsSound items → AreFilesOf items files → AreSourcesOf items 0 (sources_of items files) }
     ensures rises { (items : List OneItem) (fed : ℕ) (count : Source → ℕ) (sources : List Source) → AreSourcesOf items fed sources →

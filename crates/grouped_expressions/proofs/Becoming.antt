@@ -14,12 +14,12 @@ use Rattle.ksql_expr.specs.declared.typed.TypedWhen.{TypedWhen, para-roll-TypedW
 use Rattle.ksql_expr.specs.Typing.{of}
 use Rattle.grouped_expressions.specs.Grouped.{after, node_after, when_after, node_step, tree_step, when_step, place_among, placed_or, column_or, old, new}
 
--- what is made of equal parts
+-- what equal parts give
 pub moved : {A E : Type 0} (r : Result A E) (a b : A) → b ≡ a → IfOk r (λ x. x ≡ a) → IfOk r (λ x. x ≡ b)
 moved r a b h = subst (λ z. IfOk r (λ x. x ≡ z)) (sym h)
 
 module _ (columns : List TypedNode) where
-  -- a form whose parts stand beside what becomes of them
+  -- a form whose parts are paired with their rewritten ones
   abbrev beside : TypedNode-F TypedNode Typed TypedWhen → TypedNode-F (TypedNode × TypedNode) (Typed × Typed) (TypedWhen × TypedWhen)
   beside d =
       map-TypedNode TypedNode Typed TypedWhen (TypedNode × TypedNode) (Typed × Typed) (TypedWhen × TypedWhen)
@@ -56,7 +56,7 @@ module _ (columns : List TypedNode) where
   at-Case (Some x) ws (Some z) =
       listed (when_after columns) (λ ys. n.Case (Some x) ys (Some z)) (λ ys. n.Case (Some (after columns x)) ys (Some (after columns z))) ws
 
-  -- a form, what it becomes where it is no column, and that its step says so
+  -- a form, its rewritten form if it is no column, and that its step says so
   abbrev stepped : (d : TypedNode-F TypedNode Typed TypedWhen)
       → (form : TypedNode) × (rebuilt : TypedNode) × (roll-TypedNode d ≡ form) × (node_step columns (beside d) ≡ placed_or columns form rebuilt)
   stepped (TypedNode-F.Literal x) = (n.Literal x, n.Literal x, n.rolls-Literal x, refl)
@@ -87,7 +87,7 @@ module _ (columns : List TypedNode) where
   pub after-column : (form : TypedNode) (number : ℕ) → place_among columns form ≡ Some number → node_after columns form ≡ n.Column number
   after-column form number = placed form (out-TypedNode form) (Some number) (sym (roll-out-TypedNode form) ∙ (stepped (out-TypedNode form)).2)
 
-  -- and one that is none
+  -- a form that is none of the columns
   pub after-Literal : (form : TypedNode) (x : Value) → form ≡ n.Literal x → place_among columns form ≡ None → node_after columns form ≡ n.Literal x
   after-Literal form x = placed form (TypedNode-F.Literal x) None
 

@@ -1,4 +1,4 @@
--- Two forms are one exactly where they are equal; the first of some that is one with another.
+-- Two forms are the same exactly if they are equal; the first of some forms that is the same as another.
 use base.Stored.{Gv, gnil, gnum, gcons}
 use Rattle.std.proofs.Common.{◌≡◌, ◌∙◌, ◌==◌, ℕ, suc, ◌+◌, ◌<◌, Bool, ◌&&◌, true, false, if◌then◌else◌, IsTrue, List, length, drop, get_or, Some, refl, ap, ap₂, sym, subst}
 use Rattle.std.specs.Prelude.{◌↔◌}
@@ -58,7 +58,7 @@ decided false a b h = at (same_form a b) refl
 
 -- ---- places
 
--- the first of some forms, and what is left of them
+-- the first of some forms, and the rest
 pub place-next : (cs : List TypedNode) (form x : TypedNode) (i : ℕ) (b : Bool) → i < length cs → x ≡ get_or cs i x → same_form x form ≡ b
     → place_from i (drop i cs) form ≡ (if b then Some i else place_from (i + 1) (drop (i + 1) cs) form)
 place-next cs form x i b below at is =

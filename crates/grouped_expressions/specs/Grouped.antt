@@ -1,4 +1,4 @@
--- What a typed tree becomes after a grouping.
+-- A typed tree as it reads after a grouping.
 use Rattle.std.specs.Prelude.{ℕ, suc, if◌then◌else◌, List, [], ◌∷◌, map, Option, Some, None, option_map}
 use Rattle.ksql_expr.specs.declared.typed.Typed.{Typed, para-Typed, roll-Typed}
 use Rattle.ksql_expr.specs.declared.typed.TypedNode.{TypedNode, para-TypedNode}
@@ -7,7 +7,7 @@ use Rattle.ksql_expr.specs.declared.typed.TypedNode.TheOpen.{TypedNode-F, Typed-
 use Rattle.ksql_expr.specs.declared.typed.TypedWhen.{TypedWhen, para-TypedWhen, roll-TypedWhen}
 use Rattle.grouped_expressions.specs.Same.{same_form}
 
--- the number of the first of some forms that this is, where they are numbered from here
+-- the index of the first of these forms that is the same, counted from a number on
 abbrev pub place_from : ℕ → List TypedNode → TypedNode → Option ℕ
 place_from number [] form = None
 place_from number (c ∷ cs) form = if same_form c form then Some number else place_from (suc number) cs form
@@ -15,12 +15,12 @@ place_from number (c ∷ cs) form = if same_form c form then Some number else pl
 abbrev pub place_among : List TypedNode → TypedNode → Option ℕ
 place_among columns form = place_from 0 columns form
 
--- the column of a place, or else another form
+-- the column at a place, or else another form
 abbrev pub column_or : TypedNode → Option ℕ → TypedNode
 column_or other (Some number) = n.Column number
 column_or other None = other
 
--- a part, and what it becomes
+-- a part, before it was rewritten
 abbrev pub old : {A : Type 0} → A × A → A
 old part = part.0
 
@@ -28,11 +28,11 @@ abbrev pub new : {A : Type 0} → A × A → A
 new part = part.1
 
 module _ (columns : List TypedNode) where
-  -- the column that has this form, or else the form of the parts as they become
+  -- the column with this form, or else the form with its rewritten parts
   abbrev pub placed_or : TypedNode → TypedNode → TypedNode
   placed_or form rebuilt = column_or rebuilt (place_among columns form)
 
-  -- what a form becomes, whose parts stand beside what becomes of them
+  -- a rewritten form, given its parts and their rewritten ones
   abbrev pub node_step : TypedNode-F (TypedNode × TypedNode) (Typed × Typed) (TypedWhen × TypedWhen) → TypedNode
   node_step (TypedNode-F.Literal x) = placed_or (n.Literal x) (n.Literal x)
   node_step (TypedNode-F.Column i) = placed_or (n.Column i) (n.Column i)
@@ -57,8 +57,8 @@ module _ (columns : List TypedNode) where
   abbrev pub when_step : TypedWhen-F (TypedNode × TypedNode) (Typed × Typed) (TypedWhen × TypedWhen) → TypedWhen
   when_step w = roll-TypedWhen (record { cond = new w.cond; result = new w.result })
 
-  -- a tree over the rows after a grouping, which have columns of these forms: each largest part of one of these forms becomes the
-  -- first such column, and all types stay
+  -- a tree over the rows after a grouping, whose columns have these forms: each largest part that is one of these forms
+  -- becomes the first such column, and all types stay
   unfoldable pub after : Typed → Typed
   after = para-Typed TypedNode Typed TypedWhen node_step tree_step when_step
 

@@ -1,4 +1,4 @@
-//! What a typed tree becomes after a grouping.
+//! A typed tree as it reads after a grouping.
 
 ghost use Rattle.std.specs.Prelude.{◌≡◌, ◌≤◌, ◌^◌, IfOk, List, Option, length, map, option_map};
 ghost use Rattle.ksql_expr.specs.declared.typed.Typed.{Typed as Tree};
@@ -11,7 +11,7 @@ use ksql_expr::{AggFun, Exprs, Fun, Typed, TypedNode, TypedWhen, TypedWhens};
 use ksql_types::{BinaryOp, Boxed, Chars, CopyOf, Items, SqlType};
 use std::alloc::{AllocError, Global};
 
-/// The number of the first of some forms that this is.
+/// The index of the first form of `columns` that is the same as `node`, if any.
 fn place_among(columns: &[TypedNode], node: &TypedNode) -> Option<u32>
     requires { length columns.now ≤ 2 ^ 32 }
     ensures { result ≡ spec.place_among columns.now node.now }
@@ -24,8 +24,8 @@ fn place_among(columns: &[TypedNode], node: &TypedNode) -> Option<u32>
     None
 }
 
-/// A tree over the rows after a grouping, which have columns of these forms: each largest part of one of these forms
-/// becomes the first such column.
+/// The tree as it reads after a grouping, over rows whose columns are the forms of `columns`: each largest part that is
+/// one of these forms becomes the first such column.
 #[cycle(after)]
 #[tactic(auto, using(crate::proofs::Becoming::after_forms))]
 pub fn after(alloc: Global, tree: &Typed, columns: &[TypedNode]) -> Result<Typed, AllocError>
@@ -101,8 +101,8 @@ fn node_after(
     }
 }
 
-// What was made, unless memory ran out. A function for each form keeps the frame of `node_after`, which stands on the
-// stack once for each level of a tree, small.
+// A rewritten tree, unless memory ran out. A function of its own for each form keeps the stack frame of `node_after`
+// small, which stands on the stack once per level of a tree.
 type Made<T> = Result<T, AllocError>;
 
 #[cycle(after)]

@@ -1,4 +1,4 @@
-//! Typed trees: which forms are one, and what a tree becomes after a grouping.
+//! Typed trees: which forms are the same, and how a tree reads after a grouping.
 #![tactic(auto)]
 
 mod grouped;

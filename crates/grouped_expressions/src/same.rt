@@ -1,4 +1,4 @@
-//! Whether two typed trees are one.
+//! Whether two typed trees are the same.
 
 ghost use Rattle.std.specs.Prelude.{◌≡◌, ◌↔◌, IsTrue, List, Option, ℕ};
 ghost use Rattle.ksql_expr.specs.declared.typed.TypedNode.TheVariants as node;
@@ -6,7 +6,7 @@ ghost use Rattle.ksql_expr.specs.declared.typed.TypedNode.TheVariants as node;
 use ksql_expr::{AggFun, Exprs, Fun, Typed, TypedNode, TypedWhen, TypedWhens};
 use ksql_types::{BinaryOp, Boxed, Chars, SqlType, Value};
 
-/// Whether two trees are one: the same form with the same parts and the same type.
+/// Whether two trees are the same: the same form with the same parts and the same type.
 #[cycle(same)]
 pub fn same_tree(a: &Typed, b: &Typed) -> bool
     ensures { IsTrue result ↔ (a.now ≡ b.now) }
@@ -14,7 +14,7 @@ pub fn same_tree(a: &Typed, b: &Typed) -> bool
     a.ty == b.ty && same_node(&a.node, &b.node)
 }
 
-/// Whether two forms are one: they have the same parts.
+/// Whether two forms are the same: they have the same parts.
 #[cycle(same)]
 pub fn same_node(a: &TypedNode, b: &TypedNode) -> bool
     ensures { IsTrue result ↔ (a.now ≡ b.now) }
@@ -284,7 +284,7 @@ fn same_whens(a: &TypedWhens, b: &TypedWhens) -> bool
     rest.is_empty()
 }
 
-/// Whether two values are one.
+/// Whether two values are the same.
 fn same_value(a: &Value, b: &Value) -> bool
     ensures { IsTrue result ↔ (a.now ≡ b.now) }
 {

@@ -30,7 +30,7 @@ own-rows m s es e is h b = h.rows b ∙ ap (λ (es : List Entry). rows_at es b) 
 other-rows : (m : Values) (s : ℕ) (es : List Entry) (e : Entry) → e.side ≢ s → ((b : List ℕ) → get m b ≡ rows_at (of_side s es) b) → (b : List ℕ) → get m b ≡ rows_at (of_side s (es ++ e ∷ [])) b
 other-rows m s es e not h b = h b ∙ ap (λ (es : List Entry). rows_at es b) (sym (side-other s es e not))
 
--- what turning a table at some entries answers and leaves, where another one is at others
+-- what turning a table at some entries returns and leaves, where another one is at others
 abbrev pub Turns : Values → Values → Values → Change → Option (ℕ × Row) → Option (ℕ × Row) → Type 0
 Turns old new standing c own other =
     (side : ℕ) (mine others : List Entry) → HoldsRows old mine → HoldsRows standing others →

@@ -1,4 +1,4 @@
-ghost use Rattle.std.specs.Prelude.{◌≡◌, ℕ, false, List, [], ◌∷◌, ◌++◌, All, IfOk, OnOk, OnErr, IsTrue};
+ghost use Rattle.std.specs.Prelude.{◌≡◌, ℕ, List, [], ◌∷◌, ◌++◌, All, IfOk, OnOk, OnErr};
 ghost use Rattle.std.specs.Option.{option_to_list};
 ghost use Rattle.ksql_nodes.specs.declared.node.Node.TheVariants as nodes;
 ghost use Rattle.ksql_nodes.specs.Entries.{Entry, of_side};
@@ -6,7 +6,6 @@ ghost use Rattle.ksql_nodes.specs.Joins.{join_row, join_stream};
 ghost use Rattle.state_store.specs.Store.{Values, IsBase};
 ghost use Rattle.record_codec.specs.Spelling.{IsShort};
 ghost use Rattle.operator.specs.Holding.{nothing};
-ghost use Rattle.operator.specs.StandsFor.{StandsFor};
 ghost use Rattle.operator.specs.Storable.{HasShortRow};
 ghost use Rattle.row_ops.specs.InputTable.{HoldsRows};
 ghost use Rattle.join_ops.specs.Kinds.{is_stream_join};
@@ -15,37 +14,38 @@ use ksql_expr::Typed;
 use ksql_nodes::Node;
 use ksql_place::Change;
 use ksql_types::{Changelog, CopyOf, StoreEntry};
-use node_steps::{push_given, rekeyed};
-use operator::{Operator, StoredOperator, with_number};
+use operator::{Guarded, Processor, StoredProcessor, with_number};
 use row_ops::{row_of, standing, turn};
+use row_steps::{Join, push_given, rekeyed, stream_joined};
 use state_store::Store;
 use std::alloc::{AllocError, Global};
-use table_steps::{Join, stream_joined};
 
-/// The operator of a join of a stream with a table, whose rows it holds.
+/// The operator of a join of a stream with a table, whose rows it keeps.
+pub type StreamTableOp = Guarded<StreamTable>;
+
+/// A join of a stream with a table, and the rows of the table.
 #[derive(Drop)]
-pub struct StreamTableOp {
+pub struct StreamTable {
     on: Typed,
     join: Join,
     rows: Store,
-    failed: bool,
 }
 
-impl StreamTableOp {
-    /// The operator of a join of a stream with a table, before any entry.
-    pub fn new(alloc: Global, node: &Node) -> Result<StreamTableOp, AllocError>
-        requires { IsTrue (is_stream_join node.now) }
-        ensures node { IfOk result (λ made. ⟦<StreamTableOp as Operator>⟧.node made ≡ node.now) }
-        ensures stands { IfOk result (λ made. StandsFor (⟦<StreamTableOp as Operator>⟧.node made) (⟦<StreamTableOp as Operator>⟧.held made) []) }
-        ensures sound { IfOk result (λ made. ⟦<StreamTableOp as Operator>⟧.failed made ≡ false) }
-    {
-        match node {
+impl Processor for StreamTable {
+    ghost is_of = { is_stream_join };
+
+    ghost node = { λ s. nodes.JoinStreamTable s.join.kind s.on s.join.left s.join.right };
+
+    ghost held = { λ s. record nothing { right = s.rows } };
+
+    fn of(alloc: Global, origin: &Node) -> Result<StreamTable, AllocError> {
+        match origin {
             Node::JoinStreamTable {
                 kind,
                 on,
                 left,
                 right,
-            } => Ok(StreamTableOp {
+            } => Ok(StreamTable {
                 on: on.copy(alloc)?,
                 join: Join {
                     kind: *kind,
@@ -53,45 +53,24 @@ impl StreamTableOp {
                     right: *right,
                 },
                 rows: Store::new(alloc),
-                failed: false,
             }),
             _ => unreachable!(),
         }
     }
-}
 
-impl Operator for StreamTableOp {
-    ghost node = { λ s. nodes.JoinStreamTable s.join.kind s.on s.join.left s.join.right };
-
-    ghost held = { λ s. record nothing { right = s.rows } };
-
-    ghost failed = { λ s. s.failed };
-
-    fn step(
+    fn process(
         &mut self,
         alloc: Global,
         side: u32,
         change: Change,
         out: &mut Vec<Change>,
     ) -> Result<(), AllocError> {
-        if self.failed {
-            return Err(AllocError);
-        }
-        let stepped = take(
-            &mut self.rows,
-            alloc,
-            &self.on,
-            &self.join,
-            side,
-            change,
-            out,
-        );
-        self.failed = stepped.is_err();
-        stepped
+        let rows = &mut self.rows;
+        take(rows, alloc, &self.on, &self.join, side, change, out)
     }
 }
 
-impl StoredOperator for StreamTableOp {
+impl StoredProcessor for StreamTable {
     fn changes(&mut self, alloc: Global) -> Result<Changelog, AllocError> {
         Ok(with_number(self.rows.changes(alloc)?, 1))
     }
@@ -101,7 +80,7 @@ impl StoredOperator for StreamTableOp {
     }
 }
 
-/// Gives what comes of a stream's change, and puts a table's change into the table.
+/// Gives the joined change for a stream's change, and stores a table's change in the table.
 fn take(
     rows: &mut Store,
     alloc: Global,
@@ -127,7 +106,7 @@ fn take(
     }
 }
 
-/// Puts a table's change into the table.
+/// Stores a table's change in the table.
 fn put(rows: &mut Store, alloc: Global, change: &Change) -> Result<(), AllocError>
     requires key { All IsShort change.now.key }
     requires row { HasShortRow change.now }
@@ -139,7 +118,7 @@ fn put(rows: &mut Store, alloc: Global, change: &Change) -> Result<(), AllocErro
     Ok(())
 }
 
-/// Gives a stream's change beside the row that the table has for its join key; nothing where it has no join key.
+/// Gives a stream's change joined with the table's row for its join key; nothing if it has no join key.
 fn give(
     rows: &Store,
     alloc: Global,
@@ -159,7 +138,7 @@ fn give(
     push_given(out, given)
 }
 
-/// A stream's change, which has its join key, beside the row that the table has for that key.
+/// A stream's change, which has its join key, joined with the table's row for that key.
 fn beside_row(
     rows: &Store,
     alloc: Global,

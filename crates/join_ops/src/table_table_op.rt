@@ -1,11 +1,10 @@
-ghost use Rattle.std.specs.Prelude.{◌≡◌, ◌<◌, false, List, [], ◌∷◌, ◌++◌, All, IfOk, OnOk, OnErr, IsTrue};
+ghost use Rattle.std.specs.Prelude.{◌≡◌, ◌<◌, List, [], ◌∷◌, ◌++◌, All, OnOk, OnErr};
 ghost use Rattle.ksql_nodes.specs.declared.node.Node.TheVariants as nodes;
 ghost use Rattle.ksql_nodes.specs.Entries.{Entry};
 ghost use Rattle.ksql_nodes.specs.Joins.{join_tables};
 ghost use Rattle.state_store.specs.Store.{Values, IsBase};
 ghost use Rattle.record_codec.specs.Spelling.{IsShort};
 ghost use Rattle.operator.specs.Holding.{nothing};
-ghost use Rattle.operator.specs.StandsFor.{StandsFor};
 ghost use Rattle.operator.specs.Storable.{HasShortRow};
 ghost use Rattle.join_ops.specs.Kinds.{is_table_join};
 ghost use Rattle.join_ops.specs.Tables.{HoldTables};
@@ -14,67 +13,54 @@ use crate::tables::Tables;
 use ksql_nodes::Node;
 use ksql_place::Change;
 use ksql_types::{Changelog, StoreEntry};
-use node_steps::push_given;
-use operator::{Operator, StoredOperator};
+use operator::{Guarded, Processor, StoredProcessor};
 use row_ops::{row_of, time_of};
+use row_steps::{Join, Standing, push_given, tables_joined};
 use std::alloc::{AllocError, Global};
-use table_steps::{Join, Standing, tables_joined};
 
-/// The operator of a join of two tables, whose rows it holds.
+/// The operator of a join of two tables, whose rows it keeps.
+pub type TableTableOp = Guarded<TableTable>;
+
+/// A join of two tables, and their rows.
 #[derive(Drop)]
-pub struct TableTableOp {
+pub struct TableTable {
     join: Join,
     tables: Tables,
-    failed: bool,
 }
 
-impl TableTableOp {
-    /// The operator of a join of two tables, before any entry. Takes no memory.
-    pub fn new(alloc: Global, node: &Node) -> Result<TableTableOp, AllocError>
-        requires { IsTrue (is_table_join node.now) }
-        ensures node { IfOk result (λ made. ⟦<TableTableOp as Operator>⟧.node made ≡ node.now) }
-        ensures stands { IfOk result (λ made. StandsFor (⟦<TableTableOp as Operator>⟧.node made) (⟦<TableTableOp as Operator>⟧.held made) []) }
-        ensures sound { IfOk result (λ made. ⟦<TableTableOp as Operator>⟧.failed made ≡ false) }
-    {
-        match node {
-            Node::JoinTables { kind, left, right } => Ok(TableTableOp {
+impl Processor for TableTable {
+    ghost is_of = { is_table_join };
+
+    ghost node = { λ s. nodes.JoinTables s.join.kind s.join.left s.join.right };
+
+    ghost held = { λ s. record nothing { left = s.tables.left; right = s.tables.right } };
+
+    fn of(alloc: Global, origin: &Node) -> Result<TableTable, AllocError> {
+        match origin {
+            Node::JoinTables { kind, left, right } => Ok(TableTable {
                 join: Join {
                     kind: *kind,
                     left: *left,
                     right: *right,
                 },
                 tables: Tables::new(alloc),
-                failed: false,
             }),
             _ => unreachable!(),
         }
     }
-}
 
-impl Operator for TableTableOp {
-    ghost node = { λ s. nodes.JoinTables s.join.kind s.join.left s.join.right };
-
-    ghost held = { λ s. record nothing { left = s.tables.left; right = s.tables.right } };
-
-    ghost failed = { λ s. s.failed };
-
-    fn step(
+    fn process(
         &mut self,
         alloc: Global,
         side: u32,
         change: Change,
         out: &mut Vec<Change>,
     ) -> Result<(), AllocError> {
-        if self.failed {
-            return Err(AllocError);
-        }
-        let stepped = give(&mut self.tables, alloc, &self.join, side, change, out);
-        self.failed = stepped.is_err();
-        stepped
+        give(&mut self.tables, alloc, &self.join, side, change, out)
     }
 }
 
-impl StoredOperator for TableTableOp {
+impl StoredProcessor for TableTable {
     fn changes(&mut self, alloc: Global) -> Result<Changelog, AllocError> {
         self.tables.changes(alloc)
     }
@@ -84,7 +70,7 @@ impl StoredOperator for TableTableOp {
     }
 }
 
-/// Puts a change into the table of its side, and gives the change of the joined row.
+/// Stores a change in the table of its side, and gives the change of the joined row.
 fn give(
     tables: &mut Tables,
     alloc: Global,

@@ -17,14 +17,14 @@ use row_ops::{standing_at, turn_at};
 use state_store::Store;
 use std::alloc::{AllocError, Global};
 
-/// Two tables: for each key of either the change that set its row.
+/// Two tables: for each key of either, the change that set its row.
 #[derive(Drop)]
 pub(crate) struct Tables {
     pub(crate) left: Store,
     pub(crate) right: Store,
 }
 
-/// The rows of a key, each after the time of its change: in the table of a change, and in the other one.
+/// The rows of a key, each after the time of its change: in the table that a change is for, and in the other one.
 #[derive(Drop)]
 pub(crate) struct Latest {
     pub(crate) own: Option<(u64, Row)>,
@@ -32,7 +32,7 @@ pub(crate) struct Latest {
 }
 
 impl Tables {
-    /// Tables without rows. Takes no memory.
+    /// Empty tables. Takes no memory.
     pub(crate) fn new(alloc: Global) -> Tables
         ensures left { result.left ≡ unwritten finite.empty }
         ensures right { result.right ≡ unwritten finite.empty }
@@ -43,8 +43,7 @@ impl Tables {
         }
     }
 
-    /// Puts a change into the table of its side, and answers the rows that its key had. Side 0 is the
-    /// left one and 1 the right one.
+    /// Stores a change in the table of its side, and returns the rows that its key had. Side 0 is left, 1 is right.
     pub(crate) fn turn(
         &mut self,
         alloc: Global,
@@ -69,8 +68,8 @@ impl Tables {
         }
     }
 
-    /// Commits, and answers what changed since the last commit: the left table's entries with the number 0, and then the
-    /// right one's with the number 1. After an error the tables are as before.
+    /// Commits, and returns the changes since the last commit: the left table's entries with number 0, then the right
+    /// table's with number 1. After an error the tables are unchanged.
     pub(crate) fn changes(&mut self, alloc: Global) -> Result<Changelog, AllocError>
         ensures given { IfOk result (λ log. log ≡ changes_of self.old.left ++ map (in_store 1) (changes_of self.old.right)) }
         ensures left { OnOk result (self.new.left ≡ unwritten self.old.left.map) }
@@ -80,7 +79,7 @@ impl Tables {
     {
         let mut log = self.left.changes_since_commit(alloc)?.into_items();
         let right = self.right.changes_since_commit(alloc)?;
-        // All memory is there before the first commit.
+        // All memory is allocated before the first commit.
         log.reserve(right.items().len())?;
         self.left.commit(log.as_slice());
         self.right.commit(right.items());
@@ -88,7 +87,7 @@ impl Tables {
         Ok(Changelog::of(log))
     }
 
-    /// Puts what the entries of a log make of empty tables in place of the tables. After an error they are as before.
+    /// Replaces the tables by the replay of a log on empty tables. After an error they are unchanged.
     pub(crate) fn load(&mut self, alloc: Global, log: &[StoreEntry]) -> Result<(), AllocError>
         ensures left { OnOk result (self.new.left ≡ unwritten (replay finite.empty (numbered 0 log.now))) }
         ensures right { OnOk result (self.new.right ≡ unwritten (replay finite.empty (numbered 1 log.now))) }
@@ -103,7 +102,7 @@ impl Tables {
     }
 }
 
-/// Puts a change into its own table, and answers the rows that its key had there and in the other table.
+/// Stores a change in its own table, and returns the rows that its key had there and in the other table.
 fn turned(
     own: &mut Store,
     other: &Store,

@@ -1,4 +1,4 @@
--- Columns one by one, and trees that are one.
+-- Consecutive columns, and trees that are the same.
 use Rattle.std.proofs.Common.{◌≡◌, ◌∙◌, ap, sym, refl, ℕ, zero, suc, ◌+◌, Bool, true, false, IsTrue, List, [], ◌∷◌, length}
 use Rattle.std.specs.Prelude.{◌↔◌, ◌&&◌, ◌≢◌}
 use Rattle.ksql_expr.specs.declared.typed.Typed.{Typed}

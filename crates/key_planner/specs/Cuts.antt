@@ -1,4 +1,4 @@
--- The stages of a plan: its steps, cut where the key of what a step gets isn't the key that the step needs.
+-- The stages of a plan: its steps, cut where a step needs another key than its input has.
 use Rattle.std.specs.Prelude.{ℕ, Bool, true, false, if◌then◌else◌, List, [], ◌∷◌, ◌++◌}
 use Rattle.ksql_expr.specs.declared.typed.Typed.{Typed}
 use Rattle.ksql_program.specs.declared.program.Item.{Item}
@@ -22,11 +22,11 @@ use Rattle.key_planner.specs.declared.staging.Open.{Open}
 abbrev pub read : List Item → ℕ → Open
 read items number = record { stages = []; inputs = Relation number ∷ []; nodes = table_of items (One number); leftmost = number }
 
--- a step more
+-- one more step
 abbrev pub with_node : Node → Open → Open
 with_node x o = record { stages = o.stages; inputs = o.inputs; nodes = o.nodes ++ x ∷ []; leftmost = o.leftmost }
 
--- all stages, where the open one writes a topic
+-- all stages, if the open one writes a topic
 abbrev pub closed : List Item → Link → Open → List Stage
 closed items output o = o.stages ++ record { inputs = o.inputs; nodes = o.nodes; partitions = partitions_at items o.leftmost; output = output } ∷ []
 
@@ -34,13 +34,13 @@ closed items output o = o.stages ++ record { inputs = o.inputs; nodes = o.nodes;
 abbrev pub cut : List Item → CutName → Open → Open
 cut items name o = record { stages = closed items (Cut name o.leftmost) o; inputs = Cut name o.leftmost ∷ []; nodes = []; leftmost = o.leftmost }
 
--- whether something is done to what is read
+-- whether a stage has steps
 abbrev pub has_steps : List Node → Bool
 has_steps [] = false
 has_steps (node.Table number ∷ []) = false
 has_steps _ = true
 
--- a side of a join: a relation's topic as it is, or what a stage of its own makes
+-- a side of a join: a relation's topic as it is, or the output of a stage of its own
 abbrev pub as_side : List Item → CutName → Open → Open
 as_side items name o = if has_steps o.nodes then cut items name o else record { stages = o.stages; inputs = o.inputs; nodes = []; leftmost = o.leftmost }
 
@@ -52,30 +52,30 @@ both l r = record { stages = l.stages ++ r.stages; inputs = l.inputs ++ r.inputs
 abbrev pub joined : List Item → Node → Open → Open → Open
 joined items x l r = with_node x (both (as_side items name.Left l) (as_side items name.Right r))
 
--- a grouping: what is grouped by anything but its own key goes through a repartition topic
+-- a grouping: a grouping by anything but its input's own key goes through a repartition topic
 abbrev pub grouped : List Item → Bool → List Typed → Open → Open
 grouped items own keys o = if own then with_node (node.Group keys) o else cut items name.Group (with_node (node.Group keys) o)
 
--- ---- parts of a plan
+-- ---- the parts of a plan
 
--- what a part of a plan comes to: the stages so far, the leftmost relation that it reads, whether some expressions are, one by
--- one, the key of what it makes, and its stages where it is the whole of a plan
+-- the result for a part of a plan: the stages so far, the leftmost relation that it reads, whether some expressions
+-- are, in order, the key of its result, and its stages if it is the whole plan
 pub record Part : Type 0 where
   pub last : Open
   pub leftmost : ℕ
   pub own : List Typed → Bool
   pub stages : List Stage
 
--- whether there is one expression, for which a test holds
+-- whether there is exactly one expression, and it passes a test
 abbrev pub is_one : (Typed → Bool) → List Typed → Bool
 is_one test (e ∷ []) = test e
 is_one test _ = false
 
--- a part that has no key of its own, and isn't the whole of a plan
+-- a part without a key of its own that isn't the whole plan
 abbrev pub inner : ℕ → Open → Part
 inner number o = record { last = o; leftmost = number; own = λ keys. false; stages = [] }
 
--- what a step comes to, from what the parts before it come to
+-- the result for a step, given those for its parts
 abbrev pub part_step : List Item → Plan-F Part → Part
 part_step items (Plan-F.Source number) = record { last = read items number; leftmost = number; own = are_columns_from 0 (key_columns items number); stages = [] }
 part_step items (Plan-F.Filter on p) = record { last = with_node (node.Filter on) p.last; leftmost = p.leftmost; own = p.own; stages = [] }
@@ -106,7 +106,7 @@ part_of items = fold-Plan Part (part_step items)
 abbrev pub opened : List Item → Plan → Open
 opened items p = (part_of items p).last
 
--- whether some expressions are, one by one, the key of what a plan makes
+-- whether some expressions are, in order, the key of a plan's result
 abbrev pub own_key : List Item → Plan → List Typed → Bool
 own_key items p = (part_of items p).own
 

@@ -1,4 +1,4 @@
-//! Whether expressions are the key of what a plan makes.
+//! Whether expressions are the key of a plan's result.
 ghost use Rattle.std.specs.Prelude.{◌≡◌, ◌↔◌, IfOk, IsTrue, List};
 ghost use Rattle.ksql_expr.specs.declared.typed.TypedNode.TheVariants as form;
 ghost use Rattle.grouped_expressions.specs.Same.{same_tree};
@@ -7,14 +7,15 @@ ghost use Rattle.topology.specs.Stages.{are_columns_from, is_column, is_stream_k
 ghost use Rattle.key_planner.specs.Cuts.{is_one, leftmost_of, own_key};
 
 use crate::relations::side_of;
+use grouped_expressions::same_tree;
 use ksql_expr::{Typed, TypedNode};
 use ksql_nodes::Side;
 use ksql_program::{JoinKind, Program};
-use grouped_expressions::same_tree;
 use logical_plan::{Plan, key_columns};
 use std::alloc::AllocError;
 
-/// Whether some expressions are, one by one, the key of what a plan makes. A step other than WHERE has no key of its own.
+/// Whether the expressions are, in order, the key of the plan's result. Of the steps after a source, only WHERE and
+/// joins have a key of their own.
 #[tactic(auto, using(crate::proofs::Parts::own_forms))]
 pub fn is_own_key(program: &Program, keys: &[Typed], plan: &Plan) -> Result<bool, AllocError>
     ensures { IfOk result (λ own. own ≡ own_key program.now.items plan.now keys.now) }
@@ -53,7 +54,7 @@ pub fn leftmost(plan: &Plan) -> u32
     }
 }
 
-/// Whether some expressions are so many columns, one by one, from the first on.
+/// Whether the expressions are the first `count` columns, in order.
 fn are_columns(keys: &[Typed], count: usize) -> bool
     ensures { result ≡ are_columns_from 0 count keys.now }
 {
@@ -68,14 +69,14 @@ fn are_columns(keys: &[Typed], count: usize) -> bool
     true
 }
 
-/// Whether an expression is the column of a number.
+/// Whether an expression is column `number`.
 fn is_column(e: &Typed, number: u64) -> bool
     ensures { result ≡ is_column number e.now }
 {
     has_number(&e.node, number)
 }
 
-/// Whether a form is the column of a number.
+/// Whether a form is column `number`.
 fn has_number(node: &TypedNode, number: u64) -> bool
     ensures { IsTrue result ↔ (node.now ≡ form.Column number) }
 {
@@ -85,14 +86,14 @@ fn has_number(node: &TypedNode, number: u64) -> bool
     }
 }
 
-/// Whether two expressions are one.
+/// Whether two expressions are the same.
 fn is_same(a: &Typed, b: &Typed) -> bool
     ensures { result ≡ same_tree a.now b.now }
 {
     same_tree(a, b)
 }
 
-/// Whether one expression is the key of a join of a stream and a table: the join key, and in an INNER join also the table's.
+/// Whether `keys` is one key of a join of a stream and a table: the join key, or in an INNER join also the table's key.
 fn is_stream_key(kind: JoinKind, left: &Side, on: &Typed, keys: &[Typed]) -> bool
     ensures { result ≡ is_one (is_stream_key kind left.now on.now) keys.now }
 {
@@ -105,8 +106,8 @@ fn is_stream_key(kind: JoinKind, left: &Side, on: &Typed, keys: &[Typed]) -> boo
     }
 }
 
-/// Whether one expression is the key of a join of two tables: the left key, in an INNER join also the right one, and in a
-/// FULL one ROWKEY alone.
+/// Whether `keys` is one key of a join of two tables: the left key, in an INNER join also the right key, and in a FULL
+/// join ROWKEY alone.
 fn is_tables_key(kind: JoinKind, left: &Side, right: &Side, keys: &[Typed]) -> bool
     ensures { result ≡ is_one (is_tables_key kind left.now right.now) keys.now }
 {

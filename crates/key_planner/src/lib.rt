@@ -1,4 +1,4 @@
-//! The stages of a query: its plan, cut where the key of what a step gets isn't the key that the step needs.
+//! The stages of a query: its plan, cut where a step needs another key than its input has.
 #![tactic(auto)]
 
 mod keys;

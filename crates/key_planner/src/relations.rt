@@ -1,4 +1,4 @@
-//! What the stages of a query have to know of the relations of a program.
+//! What the stages of a query need to know about the relations of a program.
 ghost use Rattle.std.specs.Prelude.{◌≡◌, IfOk, length};
 ghost use Rattle.ksql_types.specs.Columns.{columns};
 ghost use Rattle.query_meaning.specs.Queries.{partitions_at, side_at};
@@ -18,7 +18,7 @@ pub fn partitions_of(program: &Program, number: u32) -> u32
     }
 }
 
-/// A side of a join. A relation of 2^32 columns and more, as no script makes, is out of memory.
+/// A side of a join. Fails with out of memory for a relation with 2^32 or more columns, which no script makes.
 pub fn side_of(program: &Program, number: u32) -> Result<Side, AllocError>
     ensures { IfOk result (λ side. side ≡ side_at program.now.items number) }
 {
@@ -32,7 +32,7 @@ pub fn side_of(program: &Program, number: u32) -> Result<Side, AllocError>
     })
 }
 
-/// How many columns a relation has. One of 2^32 columns and more is out of memory.
+/// The number of columns of a relation. Fails with out of memory for 2^32 or more.
 fn columns_of(relation: &Relation) -> Result<u32, AllocError>
     ensures { IfOk result (λ count. count ≡ length (columns relation.now)) }
 {

@@ -20,8 +20,8 @@ use logical_plan::{Plan, kind_of};
 use std::alloc::{AllocError, Global};
 use topology::{CutName, Link, Links, Stage, Stages};
 
-/// The stages so far: those that are closed, and the topics and the nodes of the open one. `leftmost` is the leftmost
-/// relation that is read.
+/// The stages so far: the closed ones, and the topics and nodes of the open one. `leftmost` is the leftmost relation
+/// that is read.
 #[derive(Debug, Drop)]
 struct Open {
     stages: Stages,
@@ -30,11 +30,11 @@ struct Open {
     leftmost: u32,
 }
 
-/// What was made, unless memory ran out.
+/// A result, unless memory ran out.
 type Made<T> = Result<T, AllocError>;
 
-/// Cuts the plan of a query of the program into stages: after the rekeyed side of a join, and before an aggregate where the
-/// groups aren't by the key of what is grouped. A tree without a select list at its top has no stages.
+/// Cuts the plan of a query of the program into stages: after the rekeyed side of a join, and before an aggregate whose
+/// groups aren't by the key of its input. A tree without a select list at its top has no stages.
 pub fn keyed(alloc: Global, plan: Plan, program: &Program) -> Result<Keyed, AllocError>
     ensures cuts { IfOk result (λ k. (q : OneQuery) → plan ≡ plan_of program.now.items q → k.stages ≡ stages_of program.now.items q) }
 {
@@ -66,7 +66,7 @@ fn stages_from(alloc: Global, program: &Program, plan: Plan) -> Made<Stages>
     }
 }
 
-/// Goes over a plan and puts each step into the open stage.
+/// Walks a plan and adds each step to the open stage.
 #[cycle(opened)]
 #[tactic(auto, using(crate::proofs::Parts::opened_forms))]
 fn opened(alloc: Global, program: &Program, plan: Plan) -> Made<Open>
@@ -116,7 +116,7 @@ fn opened(alloc: Global, program: &Program, plan: Plan) -> Made<Open>
     }
 }
 
-/// Goes over a part of a plan.
+/// Walks a part of a plan.
 #[cycle(opened)]
 fn below(alloc: Global, program: &Program, plan: Boxed<Plan>) -> Made<Open>
     ensures { IfOk result (λ o. o ≡ opened program.now.items plan) }
@@ -141,7 +141,7 @@ fn read(alloc: Global, program: &Program, relation: u32) -> Made<Open>
     })
 }
 
-/// Adds a step to the open stage.
+/// Appends a step to the open stage.
 fn with_node(last: Made<Open>, node: Node) -> Made<Open>
     ensures { (o : OneOpen) → IfOk last (λ x. x ≡ o) → IfOk result (λ made. made ≡ with_node node o) }
 {
@@ -176,7 +176,7 @@ fn closed(program: &Program, last: Open, output: Link) -> Made<Stages>
     Ok(Items::of(stages))
 }
 
-/// Closes the open stage, which writes the repartition topic of this name, and opens one that reads it.
+/// Closes the open stage, which writes the repartition topic with this name, and opens one that reads it.
 fn cut(alloc: Global, program: &Program, name: CutName, last: Open) -> Made<Open>
     ensures { IfOk result (λ o. o ≡ cut program.now.items name last) }
 {
@@ -194,14 +194,14 @@ fn cut(alloc: Global, program: &Program, name: CutName, last: Open) -> Made<Open
     })
 }
 
-/// Whether something is done to what is read.
+/// Whether a stage has steps.
 fn has_steps(nodes: &[Node]) -> bool
     ensures { result ≡ has_steps nodes.now }
 {
     !matches!(nodes, [] | [Node::Table { .. }])
 }
 
-/// A side of a join: a relation's topic as it is, or what a stage of its own makes.
+/// A side of a join: a relation's topic as it is, or the output of a stage of its own.
 fn as_side(alloc: Global, program: &Program, name: CutName, last: Made<Open>) -> Made<Open>
     ensures { (o : OneOpen) → IfOk last (λ x. x ≡ o) → IfOk result (λ made. made ≡ as_side program.now.items name o) }
 {
@@ -217,7 +217,7 @@ fn as_side(alloc: Global, program: &Program, name: CutName, last: Made<Open>) ->
     })
 }
 
-/// Puts two sides into one stage, which has no steps yet.
+/// Joins two sides into one stage, which has no steps yet.
 fn both(left: Made<Open>, right: Made<Open>) -> Made<Open>
     ensures { (l r : OneOpen) → IfOk left (λ x. x ≡ l) → IfOk right (λ x. x ≡ r) → IfOk result (λ made. made ≡ both l r) }
 {
@@ -276,7 +276,7 @@ fn table_join(program: &Program, kind: JoinKind, left: u32, right: u32) -> Made<
     Ok(Node::JoinTables { kind, left, right })
 }
 
-/// A grouping. What is grouped by anything but its own key goes through a repartition topic.
+/// A grouping. A grouping by anything but its input's own key goes through a repartition topic.
 fn grouped(
     alloc: Global,
     program: &Program,

@@ -1,4 +1,4 @@
--- What is known of an accepted query when its item is made.
+-- What is known about an accepted query when its item is built.
 use Rattle.std.specs.Prelude.{◌≡◌, ◌<◌, ◌^◌, List, false, true, is_some, unwrap_or, codes}
 use Rattle.statement_trees.specs.declared.tree.Property.{Property}
 use Rattle.statement_trees.specs.declared.tree.Select.{Select}
@@ -15,22 +15,21 @@ use Rattle.ksql_analyse.specs.Judgement.{IsShape, shape_keys, shape_values}
 use Rattle.ksql_analyse.specs.Readable.{IsReadable}
 use Rattle.ksql_analyse.specs.Typable.{AreColumnTrees, IsQueryTypable}
 
--- a query of which all is found out: what it reads is there, its expressions have typed trees, and its window keeps its
--- limit
+-- a query with all its findings: what it reads exists, its expressions have typed trees, and its window keeps its limit
 pub record IsReady (f : Findings) : Type 0 where
   pub found : AreFindings f
   pub readable : IsReadable f.select.now f.known.items
   pub typable : IsQueryTypable f.select.now f.known.items
   pub window_small : has_large_window f.select.now.window ≡ false
 
--- it is the body of this statement, has few partitions, and a topic where it names one
+-- the body of this statement, with few partitions, and with a legal topic if it names one
 pub record IsAcceptedQuery (st : Statement) (ps : List Property) (f : Findings) : Type 0 where
   pub ready : IsReady f
   pub stated : st.body ≡ body.Query ps f.select.now
   pub few_partitions : unwrap_or (partitions_in ps) 1 < 2 ^ 32
   pub topic_there : is_some (value_of (codes "KAFKA_TOPIC") ps) ≡ true → is_some (topic_in ps) ≡ true
 
--- a shape that is so, with a tree that has a type for each column
+-- a shape of the query, with a tree that has a type for each column
 pub record IsMade (q : Select) (ks : List Known) (made : Shape) : Type 0 where
   pub is : IsShape q ks made
   pub keyed : AreColumnTrees (key_columns q ks) (shape_keys made)

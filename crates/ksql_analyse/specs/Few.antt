@@ -1,4 +1,4 @@
--- How many functions the expressions of a statement call.
+-- The number of function calls in the expressions of a statement.
 use Rattle.std.specs.Prelude.{◌≤◌, length}
 use Rattle.std.specs.List.{AllByRecursion}
 use Rattle.expression_trees.specs.declared.tree.Expr.{Expr}
@@ -11,7 +11,7 @@ use Rattle.ksql_clauses.specs.Sources.{late_exprs}
 abbrev pub CallsFew : Expr → Type 0
 CallsFew a = length (calls a) ≤ 2000
 
--- and so does each of the items of a query, and its HAVING
+-- so does each of the items of a query, and its HAVING
 abbrev pub HasFewCalls : StatementBody → Type 0
 HasFewCalls (Declared cs ps) = Unit {0}
 HasFewCalls (Query ps q) = AllByRecursion CallsFew (late_exprs q)

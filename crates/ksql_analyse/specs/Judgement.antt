@@ -1,4 +1,4 @@
--- The judgement of statements: the program that they are, or their first refusal.
+-- The judgement of statements: their program, or the first refusal.
 use Rattle.std.specs.Prelude.{Result, Ok, Err, ◌≡◌, ℕ, ◌+◌, suc, Bool, true, false, if◌then◌else◌, List, [], ◌∷◌, ◌++◌, length, map, filter, not, Option, Some, None, is_some, unwrap_or, option_map, IsTrue}
 use Rattle.std.specs.List.{flat_map}
 use Rattle.ksql_types.specs.declared.relation.Column.{Column}
@@ -58,7 +58,7 @@ column_of c = record { name = c.name; ty = c.ty }
 abbrev pub kind_of : Bool → Kind
 kind_of table = if table then kind.Table else kind.Stream
 
--- JSON and one partition, unless the properties say otherwise
+-- with JSON and one partition, unless the properties say otherwise
 abbrev pub declared_relation : ℕ → Statement → List ColumnText → List Property → Relation
 declared_relation number st cs ps = record {
   number = number;
@@ -86,7 +86,7 @@ IsFrom q ks (from.Join k left right on) =
     × (left ≡ l.relation.number) × (right ≡ r.relation.number)
     × (sides : Expr × Expr) × (join_key q ks ≡ Some sides) × IsTypedTree (on_scope q ks) sides.0 on
 
--- the typed tree of a part that may be left out
+-- the typed tree of an optional part
 abbrev pub IsTypedPart : Scope → Option Expr → Option Typed → Type 0
 IsTypedPart s None None = Unit {0}
 IsTypedPart s (Some a) (Some x) = IsTypedTree s a x
@@ -101,15 +101,15 @@ AreTypedTrees s _ _ = ⊥
 abbrev pub exprs : List Named → List Expr
 exprs cs = map (λ c. c.expr) cs
 
--- the aggregates of a query: those of its items and then those of HAVING, equal ones once
+-- the aggregates of a query without duplicates: those of its items, then those of HAVING
 abbrev pub aggregate_exprs : Select → List Known → List Expr
 aggregate_exprs q ks = once_from [] (flat_map aggregates_of (shown_exprs q ks))
 
--- an aggregate, as a form of typed trees
+-- an aggregate as the form of a typed tree
 abbrev pub agg_form : Agg → TypedNode
 agg_form g = n.Aggregate g.fun g.arg
 
--- what some aggregates are in the program
+-- the aggregates in the program
 abbrev pub AreAggs : Scope → List Expr → List Agg → Type 0
 AreAggs s es gs = (xs : List Typed) × AreTypedTrees s es xs × (map (λ x. x.node) xs ≡ map agg_form gs)
 
@@ -117,19 +117,19 @@ AreAggs s es gs = (xs : List Typed) × AreTypedTrees s es xs × (map (λ x. x.no
 abbrev pub bound_forms : Scope → List TypedNode
 bound_forms s = if s.windowed then n.Column (length s.columns) ∷ n.Column (length s.columns + 1) ∷ [] else []
 
--- what the columns after a grouping stand for in the scope of the items: the keys, the aggregates and, where there is a window, its
--- start and end
+-- what the columns of a row after the grouping stand for, in the scope of the items: the keys, the aggregates and, if
+-- windowed, the window's start and end
 abbrev pub grouped_columns : Scope → List Typed → List Agg → List TypedNode
 grouped_columns s keys gs = map (λ x. x.node) keys ++ map agg_form gs ++ bound_forms s
 
--- a part that may be left out, and some expressions, over the rows after a grouping that have these columns
+-- an optional part, and some expressions, over the rows after a grouping with these columns
 abbrev pub IsPartAfter : List TypedNode → Scope → Option Expr → Option Typed → Type 0
 IsPartAfter columns s part made = (x : Option Typed) × IsTypedPart s part x × (made ≡ option_map (after columns) x)
 
 abbrev pub AreTreesAfter : List TypedNode → Scope → List Expr → List Typed → Type 0
 AreTreesAfter columns s es made = (xs : List Typed) × AreTypedTrees s es xs × (made ≡ map (after columns) xs)
 
--- what is made of the rows
+-- the shape of a query
 abbrev pub IsShape : Select → List Known → Shape → Type 0
 IsShape q ks (shape.Plain keys values) =
     IsTrue (not (is_grouped q)) × AreTypedTrees (item_scope q ks) (exprs (key_columns q ks)) keys
@@ -150,11 +150,12 @@ abbrev pub shape_values : Shape → List Typed
 shape_values (shape.Plain keys values) = values
 shape_values (shape.Group keys window aggs having values) = values
 
--- the kind of a result: of a grouping a table, with a window or without; else a stream where the left source is one
+-- the kind of a result: a grouping gives a table, with a window or without; anything else a stream if the left source
+-- is one
 abbrev pub result_kind : Select → List Known → Kind
 result_kind q ks = if is_grouped q then (if is_some q.window then kind.Windowed else kind.Table) else if reads_stream ks then kind.Stream else kind.Table
 
--- columns have the names and the types of expressions, one by one
+-- columns have the names and the types of expressions, in order
 abbrev pub AreColumnsOf : List Named → List Typed → List Column → Type 0
 AreColumnsOf cs xs columns = (map (λ c. c.name) columns ≡ map (λ c. c.name) cs) × (map (λ c. Some c.ty) columns ≡ map (λ x. x.ty) xs)
 
@@ -180,7 +181,7 @@ pub record IsQuery (number : ℕ) (st : Statement) (ps : List Property) (q : Sel
   pub makes : IsShape q ks made.shape
   pub gives : IsResult number st ps q ks made.shape made.out
 
--- the item of an accepted statement, where these relations stand before it
+-- the item of an accepted statement, given the relations of the earlier statements
 abbrev pub IsItemOf : List Relation → Statement → Item → Type 0
 IsItemOf catalog st i = of st.body i
   where
@@ -191,13 +192,13 @@ IsItemOf catalog st i = of st.body i
 
 -- ---- statements
 
--- the items of statements after other items: each statement is accepted after those before it
+-- the items of statements after other items: each statement is accepted, given those before it
 pub data Judged : List Item → List Statement → List Item → Type 0 where
   done : {items : List Item} → Judged items [] items
   next : {before items : List Item} {st : Statement} {sts : List Statement} (i : Item) → IsAccepted (relations before) st
       → IsItemOf (relations before) st i → Judged (before ++ i ∷ []) sts items → Judged before (st ∷ sts) items
 
--- the first statement that is refused has this number, and this is its lowest code
+-- the number of the first refused statement, and its lowest code
 pub data FirstRefused : List Item → List Statement → ℕ → Code → Type 0 where
   here : {before : List Item} {st : Statement} {sts : List Statement} {c : Code} → IsRefused (relations before) st c
       → FirstRefused before (st ∷ sts) 1 c
@@ -212,19 +213,19 @@ IsProgramOf sts items = Judged [] sts items
 abbrev pub AreRefused : List Statement → ℕ → Code → Type 0
 AreRefused sts number c = FirstRefused [] sts number c
 
--- ---- what is answered
+-- ---- results
 
--- statements that are the trees of some tokens, none of which the grammar's rules refuse
+-- the statements are the trees of some tokens that no rule of the grammar refuses
 abbrev pub AreParsed : List Statement → Type 0
 AreParsed sts = (parts : List (List TokenKind)) × AreTrees parts sts
 
--- an answer is so: the program of the statements, or their first refusal
+-- a result is right: the program of the statements, or their first refusal
 abbrev pub IsJudgement : List Statement → Result Program AnalyseFault → Type 0
 IsJudgement sts (Ok program) = IsProgramOf sts program.items
 IsJudgement sts (Err (Refused number c)) = AreRefused sts number c
 IsJudgement sts (Err OutOfMemory) = Unit {0}
 
--- what is answered is this, unless memory ran out
+-- the result is this, unless memory ran out
 abbrev pub Answers : Result Program AnalyseFault → Result Program AnalyseFault → Type 0
 Answers (Err OutOfMemory) wanted = Unit {0}
 Answers answer wanted = answer ≡ wanted

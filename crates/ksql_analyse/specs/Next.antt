@@ -6,7 +6,7 @@ use Rattle.ksql_rules.specs.Lowest.{IsRefused}
 use Rattle.ksql_analyse.specs.declared.fault.AnalyseFault.{AnalyseFault}
 use Rattle.ksql_analyse.specs.declared.fault.AnalyseFault.TheVariants.{Refused, OutOfMemory}
 
--- the statement of a number is refused with its lowest code, or memory is short
+-- the statement with a number is refused with its lowest code, or memory is short
 abbrev pub IsFaultOf : List Relation → Statement → ℕ → AnalyseFault → Type 0
 IsFaultOf catalog st number (Refused m c) = (m ≡ number) × IsRefused catalog st c
 IsFaultOf catalog st number OutOfMemory = Unit {0}

@@ -1,4 +1,4 @@
--- What a query reads, as far as it needs to be known: one source, or two with a join that has a key.
+-- What a query reads, as far as needed: one source, or a join of two that has a key.
 use Rattle.std.specs.Prelude.{◌≡◌, List, [], ◌∷◌, Some, None}
 use Rattle.expression_trees.specs.declared.tree.Expr.{Expr}
 use Rattle.statement_trees.specs.declared.tree.JoinText.{JoinText}

@@ -1,4 +1,4 @@
--- Which expressions have typed trees, and that all of an accepted query have them.
+-- Which expressions have typed trees, and that all expressions of an accepted query have them.
 use Rattle.std.specs.Prelude.{◌≡◌, ◌+◌, ◌≤◌, ◌-◌, ◌^◌, All, IsTrue, is_some, List, length, Option, option_map, true}
 use Rattle.expression_trees.specs.declared.tree.Expr.{Expr}
 use Rattle.statement_trees.specs.declared.tree.Select.{Select}
@@ -26,7 +26,7 @@ pub record IsTypable (s : Scope) (a : Expr) : Type 0 where
   pub tree : Typed
   pub is : IsTypedTree s a tree
 
--- a tree that has a type other than that of NULL alone
+-- a tree with a type other than that of plain NULL
 abbrev pub IsValue : Typed → Type 0
 IsValue x = IsTrue (is_some x.ty)
 
@@ -35,7 +35,7 @@ pub record IsValued (s : Scope) (a : Expr) : Type 0 where
   pub typable : IsTypable s a
   pub value : IsValue typable.tree
 
--- an aggregate, as a form of typed trees
+-- an aggregate as the form of a typed tree
 abbrev pub IsAggregateNode : TypedNode → Type 0
 IsAggregateNode form = (f : AggFun) × (arg : Option Typed) × (form ≡ n.Aggregate f arg)
 

@@ -6,11 +6,11 @@ ghost use Rattle.ksql_rules.specs.Breaks.{is_key};
 ghost use Rattle.ksql_analyse.specs.Judgement as spec;
 
 use ksql_clauses::{format_in, partitions_in, topic_in};
-use statement_trees::{ColumnText, KeyMark, Property, Statement};
 use ksql_types::{Chars, Column, CopyOf, Format, Items, Kind, Relation, Schema};
+use statement_trees::{ColumnText, KeyMark, Property, Statement};
 use std::alloc::{AllocError, Global};
 
-/// The relation of a declaration of these columns with these properties.
+/// The relation declared by these columns and properties.
 pub(crate) fn declared_relation(
     alloc: Global,
     number: u32,
@@ -52,7 +52,7 @@ fn topic_or_empty(alloc: Global, topic: Option<&Chars>) -> Result<Chars, AllocEr
     }
 }
 
-/// The columns of a declaration: those of its key, and the others.
+/// The columns of a declaration: its key columns, and the others.
 fn schema_of(alloc: Global, columns: &[ColumnText]) -> Result<Schema, AllocError>
     ensures { IfOk result (λ schema. schema ≡ record {
       keys = map spec.column_of (filter is_key columns.now);

@@ -1,7 +1,7 @@
 use ksql_types::Code;
 use std::alloc::{AllocError, AllocFailed};
 
-/// Why statements have no program: the first that is refused, counted from 1, with its lowest code, or out of memory.
+/// Why statements give no program: the first refused one, counted from 1, with its lowest code, or out of memory.
 #[derive(Clone, Copy, Debug, PartialEq, Eq)]
 pub enum AnalyseFault {
     Refused { statement: u32, code: Code },

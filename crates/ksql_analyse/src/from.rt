@@ -1,4 +1,4 @@
-//! What a query reads, as a part of its program.
+//! The FROM of a query in its program.
 
 ghost use Rattle.std.specs.Prelude.{◌≡◌, ◌∷◌, [], IfOk};
 ghost use Rattle.ksql_rules.specs.Findings.{AreFindings};
@@ -12,7 +12,7 @@ use ksql_rules::Findings;
 use statement_trees::JoinWord;
 use std::alloc::{AllocError, Global};
 
-/// What a query reads: one relation, or two that are joined.
+/// What a query reads: one relation, or a join of two.
 pub(crate) fn from_of(alloc: Global, findings: &Findings) -> Result<From, AllocError>
     requires found { AreFindings findings.now }
     requires readable { IsReadable findings.now.select.now findings.now.known.items }

@@ -1,4 +1,4 @@
-//! What a grouped query makes of its rows.
+//! The shape of a grouped query.
 
 ghost use Rattle.std.specs.Prelude.{◌≡◌, ◌≤◌, ◌-◌, ◌^◌, ◌++◌, [], All, IfOk, length, map};
 ghost use Rattle.std.specs.List.{flat_map};
@@ -10,17 +10,17 @@ ghost use Rattle.ksql_analyse.specs.Judgement as spec;
 ghost use Rattle.ksql_analyse.specs.Typable.{IsAggregable, IsAggregateNode, IsTypable};
 
 use crate::trees::tree_of;
+use aggregate_rules::{aggregates_of, once};
+use expression_trees::Expr;
+use grouped_expressions::after;
 use ksql_clauses::Named;
 use ksql_expr::{Typed, TypedNode};
-use expression_trees::Expr;
-use aggregate_rules::{aggregates_of, once};
-use ksql_scopes::Scope;
 use ksql_program::Agg;
-use grouped_expressions::after;
+use ksql_scopes::Scope;
 use ksql_types::{Boxed, CopyOf};
 use std::alloc::{AllocError, Global};
 
-/// The aggregates of a query: those of its columns and then those of HAVING, equal ones once.
+/// The aggregates of a query without duplicates: those of its columns, then those of HAVING.
 pub(crate) fn aggregate_exprs(
     alloc: Global,
     columns: &[Named],
@@ -38,7 +38,7 @@ pub(crate) fn aggregate_exprs(
     once(alloc, all)
 }
 
-/// Puts expressions after others.
+/// Appends expressions.
 fn push_all(all: &mut Vec<Expr>, more: Vec<Expr>) -> Result<(), AllocError>
     ensures { IfOk result (λ _. all.new.items ≡ all.old.items ++ more.items) }
 {
@@ -48,7 +48,7 @@ fn push_all(all: &mut Vec<Expr>, more: Vec<Expr>) -> Result<(), AllocError>
     Ok(())
 }
 
-/// What the aggregates of a query are in its program.
+/// The aggregates of a query, in its program.
 pub(crate) fn aggs_of(alloc: Global, scope: &Scope, exprs: &[Expr]) -> Result<Vec<Agg>, AllocError>
     requires aggregable { All (IsAggregable scope.now) exprs.now }
     requires columns { length scope.now.columns ≤ 2 ^ 32 - 2 }
@@ -61,7 +61,7 @@ pub(crate) fn aggs_of(alloc: Global, scope: &Scope, exprs: &[Expr]) -> Result<Ve
     Ok(aggs)
 }
 
-/// The aggregate that a tree is.
+/// The aggregate at the root of a tree.
 fn agg_in(tree: Typed) -> Agg
     requires { IsAggregateNode tree.node }
     ensures { tree.node ≡ node.Aggregate result.fun result.arg }
@@ -84,7 +84,7 @@ fn unboxed(part: Option<Boxed<Typed>>) -> Option<Typed>
     }
 }
 
-/// What the columns after a grouping stand for in the scope of the items.
+/// What the columns of a row after the grouping stand for, in the scope of the items.
 pub(crate) fn grouped_columns(
     alloc: Global,
     scope: &Scope,
@@ -101,7 +101,7 @@ pub(crate) fn grouped_columns(
     Ok(columns)
 }
 
-/// Puts the forms of trees after others.
+/// Appends the forms of trees.
 fn push_keys(alloc: Global, columns: &mut Vec<TypedNode>, keys: &[Typed]) -> Result<(), AllocError>
     ensures { IfOk result (λ _. columns.new.items ≡ columns.old.items ++ map (λ x. x.node) keys.now) }
 {
@@ -111,7 +111,7 @@ fn push_keys(alloc: Global, columns: &mut Vec<TypedNode>, keys: &[Typed]) -> Res
     Ok(())
 }
 
-/// Puts the forms of aggregates after others.
+/// Appends the forms of aggregates.
 fn push_aggs(alloc: Global, columns: &mut Vec<TypedNode>, aggs: &[Agg]) -> Result<(), AllocError>
     ensures { IfOk result (λ _. columns.new.items ≡ columns.old.items ++ map spec.agg_form aggs.now) }
 {
@@ -121,7 +121,7 @@ fn push_aggs(alloc: Global, columns: &mut Vec<TypedNode>, aggs: &[Agg]) -> Resul
     Ok(())
 }
 
-/// An aggregate, as a form of typed trees.
+/// An aggregate as the form of a typed tree.
 fn agg_form(alloc: Global, agg: &Agg) -> Result<TypedNode, AllocError>
     ensures { IfOk result (λ made. made ≡ spec.agg_form agg.now) }
 {
@@ -132,7 +132,7 @@ fn agg_form(alloc: Global, agg: &Agg) -> Result<TypedNode, AllocError>
     Ok(TypedNode::Aggregate { fun: agg.fun, arg })
 }
 
-/// Puts the bounds of a window after others.
+/// Appends the bounds of a window.
 fn push_bounds(columns: &mut Vec<TypedNode>, scope: &Scope) -> Result<(), AllocError>
     requires { length scope.now.columns ≤ 2 ^ 32 - 2 }
     ensures { IfOk result (λ _. columns.new.items ≡ columns.old.items ++ spec.bound_forms scope.now) }
@@ -145,7 +145,7 @@ fn push_bounds(columns: &mut Vec<TypedNode>, scope: &Scope) -> Result<(), AllocE
     Ok(())
 }
 
-/// A part that may be left out, over the rows after a grouping.
+/// An optional part, over the rows after a grouping.
 pub(crate) fn part_after(
     alloc: Global,
     scope: &Scope,

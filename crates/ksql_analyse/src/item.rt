@@ -12,11 +12,11 @@ use crate::declaration::declared_relation;
 use crate::query::query_of;
 use ksql_program::Item;
 use ksql_rules::Body;
-use statement_trees::Statement;
 use ksql_types::Catalog;
+use statement_trees::Statement;
 use std::alloc::{AllocError, Global};
 
-/// The item of an accepted statement, of what is found out of its body.
+/// The item of an accepted statement, given the findings about its body.
 pub(crate) fn item_of(
     alloc: Global,
     catalog: &Catalog,

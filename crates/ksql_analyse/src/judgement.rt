@@ -15,12 +15,12 @@ use crate::fault::AnalyseFault;
 use crate::item::item_of;
 use ksql_program::{Item, Program, relation_of};
 use ksql_rules::{Verdict, judge_statement};
-use statement_trees::Statement;
 use ksql_types::{AddRefusal, Boxed, Catalog, CopyOf, Items, Relation};
+use statement_trees::Statement;
 use std::alloc::{AllocError, Global};
 
-/// The program of statements, or the first that is refused with its lowest code. The statements are trees of tokens that
-/// the grammar accepts. `OutOfMemory` says nothing of them.
+/// The program of the statements, or the first refused statement with its lowest code. The statements are trees of
+/// tokens that the grammar accepts. `OutOfMemory` says nothing about them.
 pub fn analyse(alloc: Global, statements: &[Statement]) -> Result<Program, AnalyseFault>
     requires { AreParsed statements.now }
     ensures found { IsJudgement statements.now result }
@@ -40,7 +40,7 @@ pub fn analyse(alloc: Global, statements: &[Statement]) -> Result<Program, Analy
     })
 }
 
-/// The item of the statement of a number, or its lowest code.
+/// The item of statement `number`, or its lowest code.
 fn judged(
     alloc: Global,
     catalog: &Catalog,
@@ -64,7 +64,7 @@ fn judged(
     }
 }
 
-/// Puts an item after the others, and its relation into the catalog.
+/// Appends an item, and adds its relation to the catalog.
 fn accept(
     alloc: Global,
     catalog: &mut Catalog,
@@ -82,7 +82,7 @@ fn accept(
     Ok(())
 }
 
-/// Adds a relation whose name and topic no other has.
+/// Adds a relation, whose name and topic nothing else in the catalog has.
 fn add(alloc: Global, catalog: &mut Catalog, relation: Relation) -> Result<(), AllocError>
     requires numbered { relation.number ≡ length catalog.old }
     requires free { is_taken relation.name relation.topic catalog.old ≡ false }

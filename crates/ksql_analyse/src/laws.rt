@@ -1,11 +1,11 @@
-//! Laws of the judgement. None of these functions does anything.
+//! Laws of the judgement. These functions do nothing.
 ghost use Rattle.std.specs.Prelude.{◌≡◌, ◌⊎◌, List, ℕ};
 ghost use Rattle.statement_trees.specs.declared.tree.Statement.{Statement as OneStatement};
 ghost use Rattle.ksql_program.specs.declared.program.Item.{Item as OneItem};
 ghost use Rattle.ksql_types.specs.declared.code.Code.{Code as OneCode};
 ghost use Rattle.ksql_analyse.specs.Judgement.{AreParsed, AreRefused, IsProgramOf};
 
-/// Statements have at most one program, or one refusal, and not both.
+/// Statements have at most one program or one refusal, and not both.
 pub fn one_judgement()
     ensures program { (statements : List OneStatement) (a b : List OneItem) → IsProgramOf statements a → IsProgramOf statements b
         → a ≡ b }
@@ -15,7 +15,7 @@ pub fn one_judgement()
         → AreRefused statements number code → ⊥ }
 {}
 
-/// Statements that the grammar accepts have a program, or a refusal.
+/// Statements that the grammar accepts have a program or a refusal.
 pub fn some_judgement()
     ensures { (statements : List OneStatement) → AreParsed statements
         → ((items : List OneItem) × IsProgramOf statements items) ⊎ ((number : ℕ) × (code : OneCode) × AreRefused statements number code) }

@@ -1,4 +1,4 @@
-//! The judgement of statements: the program that they are, or their first refusal.
+//! The judgement of statements: their program, or the first refusal.
 #![tactic(auto)]
 
 mod declaration;

@@ -10,11 +10,11 @@ use crate::shape::shape_of;
 use crate::trees::part_tree;
 use ksql_program::Query;
 use ksql_rules::Findings;
-use statement_trees::{Property, Statement};
 use ksql_types::Boxed;
+use statement_trees::{Property, Statement};
 use std::alloc::{AllocError, Global};
 
-/// The query of a statement, whose result has this number, of what is found out of it.
+/// The query of a statement, whose result has this number, given the findings about it.
 pub(crate) fn query_of(
     alloc: Global,
     number: u32,

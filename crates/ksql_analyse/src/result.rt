@@ -12,11 +12,11 @@ use ksql_clauses::{Known, Named, has_topic, partitions_in, reads_stream, topic_i
 use ksql_expr::Typed;
 use ksql_program::Shape;
 use ksql_rules::{Findings, is_grouped, result_format};
-use statement_trees::{Property, Select, Statement};
 use ksql_types::{Chars, Column, Columns, CopyOf, Items, Kind, Relation, Schema};
+use statement_trees::{Property, Select, Statement};
 use std::alloc::{AllocError, Global};
 
-/// The relation of a query's result, where it makes this of its rows.
+/// The relation of a query's result, given the query's shape.
 pub(crate) fn result_of(
     alloc: Global,
     number: u32,
@@ -44,7 +44,7 @@ pub(crate) fn result_of(
     })
 }
 
-/// The columns of a result of this shape.
+/// The columns of a result with this shape.
 fn schema_of(alloc: Global, findings: &Findings, shape: &Shape) -> Result<Schema, AllocError>
     requires found { AreFindings findings.now }
     requires made { IsMade findings.now.select.now findings.now.known.items shape.now }
@@ -71,7 +71,7 @@ fn schema_of(alloc: Global, findings: &Findings, shape: &Shape) -> Result<Schema
     }
 }
 
-/// The columns of these names and of these types.
+/// Columns with these names and the types of these trees.
 fn columns_of(alloc: Global, named: &[&Named], trees: &[Typed]) -> Result<Columns, AllocError>
     requires { AreColumnTrees (map (λ c. c.now) named.now) trees.now }
     ensures { IfOk result (λ columns. spec.AreColumnsOf (map (λ c. c.now) named.now) trees.now columns) }
@@ -125,7 +125,7 @@ fn result_topic(alloc: Global, name: &Chars, props: &[Property]) -> Result<Chars
     }
 }
 
-/// How many partitions a query's result has: as the properties say, or else as its left source.
+/// The number of partitions of a query's result: as in its properties, or else that of its left source.
 fn result_partitions(props: &[Property], known: &[Known]) -> u32
     requires { unwrap_or (properties.partitions_in props.now) 1 < 2 ^ 32 }
     ensures { result ≡ unwrap_or (properties.partitions_in props.now) (spec.left_partitions known.now) }

@@ -1,4 +1,4 @@
-//! What a query makes of its rows.
+//! The shape of a query: how it turns rows into its result.
 
 ghost use Rattle.std.specs.Prelude.{◌≡◌, ◌≤◌, ◌-◌, ◌^◌, All, IfOk, IsTrue, false, length, map, not, option_map};
 ghost use Rattle.ksql_clauses.specs.Windows as windows;
@@ -10,17 +10,17 @@ ghost use Rattle.ksql_analyse.specs.Typable.{AreColumnTrees, IsTypable, IsValued
 
 use crate::grouped::{aggregate_exprs, aggs_of, grouped_columns, part_after, trees_after};
 use crate::trees::{column_trees, trees_of};
+use expression_trees::Expr;
 use ksql_clauses::{Named, window_of};
 use ksql_expr::{Typed, TypedNode};
-use expression_trees::Expr;
-use ksql_scopes::Scope;
 use ksql_program::{Agg, Shape};
 use ksql_rules::{Findings, is_grouped};
-use statement_trees::WindowText;
+use ksql_scopes::Scope;
 use ksql_types::{Boxed, Items, Window};
+use statement_trees::WindowText;
 use std::alloc::{AllocError, Global};
 
-/// What a query makes of its rows.
+/// The shape of a query.
 pub(crate) fn shape_of(alloc: Global, findings: &Findings) -> Result<Shape, AllocError>
     requires { IsReady findings.now }
     ensures { IfOk result (λ made. IsMade findings.now.select.now findings.now.known.items made) }
@@ -69,7 +69,7 @@ fn grouped_shape(alloc: Global, findings: &Findings) -> Result<Shape, AllocError
     })
 }
 
-/// What stands after a grouping.
+/// HAVING and the values of a grouped query.
 #[derive(Drop)]
 struct After {
     having: Option<Typed>,
@@ -97,7 +97,7 @@ fn after_grouping(
     after_of(alloc, scope, having, values, columns.as_slice())
 }
 
-/// HAVING and the values over rows of these columns after a grouping.
+/// HAVING and the values over rows with these columns after a grouping.
 fn after_of(
     alloc: Global,
     scope: &Scope,

@@ -6,9 +6,9 @@ ghost use Rattle.ksql_clauses.specs.Sources.{there};
 ghost use Rattle.ksql_analyse.specs.Judgement.{AreTypedTrees, IsTypedPart, exprs};
 ghost use Rattle.ksql_analyse.specs.Typable.{AreColumnTrees, IsTypable, IsValue, IsValued};
 
+use expression_trees::Expr;
 use ksql_clauses::Named;
 use ksql_expr::Typed;
-use expression_trees::Expr;
 use ksql_scopes::Scope;
 use ksql_typing::{TypeFault, typed};
 use std::alloc::{AllocError, Global};
@@ -65,7 +65,7 @@ pub(crate) fn column_trees(
     Ok(trees)
 }
 
-/// The typed tree of a part that may be left out.
+/// The typed tree of an optional part.
 pub(crate) fn part_tree(
     alloc: Global,
     scope: &Scope,

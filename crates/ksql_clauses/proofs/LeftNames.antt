@@ -1,4 +1,4 @@
--- Whether a name that is looked for stands in an expression, form by form.
+-- Whether an expression contains a name that is looked for, form by form.
 use Rattle.std.proofs.Common.{◌≡◌, ℕ, suc, arith, List, [], ◌∷◌, ◌++◌, ◌||◌, map, Bool, true, false, if◌then◌else◌, not, ◌&&◌, Bor, nat_lt, Option, Some, None, refl, ap, ap₂, sym, ◌∙◌}
 use Rattle.std.specs.Prelude.{◌==◌, bytes_eq, filter, find, length, option_map}
 use Rattle.std.specs.List.{list_any, list_all, AllByRecursion as Each}
@@ -82,7 +82,7 @@ pub of-left : (scope : Bor Scope) (left : Bor Known) (a : Expr) (any other : Boo
 of-left scope left a any other h i =
     ap₂ (λ b c. b && c) (h ∙ some-any (names a)) (ap not i ∙ sym (all-not (is_left_name scope.now left.now) (names a)))
 
--- ---- a name that is looked for stands in an expression exactly where the expression passes
+-- ---- an expression contains a name that is looked for exactly if it passes
 
 abbrev when_names : WhenText → List Use
 when_names = folds.folded_when (List Use) (List Use) names_step of_when
@@ -91,7 +91,7 @@ one_when : (p : Use → Bool) (w : WhenText) → list_any p (when_names w) ≡ (
 unfolding names
 one_when p w = ap (list_any p) (folds.fold-when (List Use) (List Use) names_step of_when w) ∙ list_any-append p (names w.cond) (names w.result)
 
--- a name in an aggregate is looked for where it is outside
+-- a name in an aggregate is looked for if it is outside
 same-within : (sought : Sought) (u : Use) → is_sought sought (in_aggregate u) ≡ is_sought sought u
 same-within Any u = refl
 same-within (Other scope left) u = refl
@@ -142,7 +142,7 @@ module _ (sought : Sought) where
       → (b || c || d) ≡ list_any (is_sought sought) (us ++ vs ++ ws)
   any-three us vs ws b c d h k l = any-two (us ++ vs) ws (b || c) d (any-two us vs b c h k) l
 
-  -- what an expression's names are, and so what is found among them
+  -- the names of an expression, and so what is found among them
   by-names : (a : Expr) (us : List Use) (b : Bool) → names a ≡ us → b ≡ list_any (is_sought sought) us → b ≡ has_name sought a
   by-names a us b h k = k ∙ sym (ap (list_any (is_sought sought)) h)
 

@@ -40,7 +40,7 @@ numbered_is_short n h =
 
 -- ---- items
 
--- what is put after, in front of what is left
+-- appending, in front of the rest
 pub appended : (items found more after whole : List Named) → items ≡ found ++ more → whole ≡ more ++ after → items ++ after ≡ found ++ whole
 appended items found more after whole h k =
     let e : (found ++ more) ++ after ≡ found ++ (more ++ after) = simp append_assoc in

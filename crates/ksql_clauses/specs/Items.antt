@@ -20,11 +20,11 @@ abbrev pub is_join : List Known → Bool
 is_join (l ∷ r ∷ more) = true
 is_join _ = false
 
--- the name that a column gets in a join
+-- the name of a column in a join
 abbrev pub made_name : List ℕ → List ℕ → List ℕ
 made_name alias name = alias ++ (codes "_" ++ name)
 
--- a column that a star gives; in a join it is named by its relation's alias too
+-- a column that a star gives; in a join its name includes its relation's alias
 abbrev pub star_column : Bool → List ℕ → Column → Named
 star_column join alias c = record { name = if join then made_name alias c.name else c.name; expr = e.Name (Some alias) c.name }
 
@@ -32,30 +32,30 @@ star_column join alias c = record { name = if join then made_name alias c.name e
 abbrev pub star_of : List Known → Known → List Named
 star_of ks k = map (star_column (is_join ks) k.alias) (columns k.relation)
 
--- all columns of the relations, and those of the relation known by an alias
+-- all columns of the relations, and those of the relation with an alias
 abbrev pub all_stars : List Known → List Named
 all_stars ks = flat_map (star_of ks) ks
 
 abbrev pub stars_of : List ℕ → List Known → List Named
 stars_of alias ks = flat_map (star_of ks) (filter (λ k. bytes_eq k.alias alias) ks)
 
--- whether a column of these has the name
+-- whether one of these columns has the name
 abbrev pub is_among : List ℕ → List Column → Bool
 is_among name cs = list_any (λ c. bytes_eq c.name name) cs
 
 abbrev pub has_column : List ℕ → Known → Bool
 has_column name k = is_among name (columns k.relation)
 
--- whether a relation of these is known by the alias
+-- whether one of these relations has the alias
 abbrev pub is_alias : List ℕ → List Known → Bool
 is_alias alias ks = list_any (λ k. bytes_eq k.alias alias) ks
 
--- the name of a plain column: its own, or with the alias that it is written with where both joined relations have it
+-- the name of a plain column: its own, or with its alias in front if both joined relations have that name
 abbrev pub column_name : List Known → Option (List ℕ) → List ℕ → List ℕ
 column_name ks None name = name
 column_name ks (Some q) name = if is_join ks && is_alias q ks && list_all (has_column name) ks then made_name q name else name
 
--- what a form without an alias is named; nothing where it isn't a plain column
+-- the name of a form without an alias; None if it isn't a plain column
 abbrev pub plain_step : {A B : Type 0} → List Known → Expr-F A B → Option (List ℕ)
 plain_step ks (Expr-F.Name q name) = Some (column_name ks q name)
 plain_step ks form = None
@@ -63,12 +63,12 @@ plain_step ks form = None
 unfoldable pub plain_name : List Known → Expr → Option (List ℕ)
 plain_name ks = fold-Expr (Option (List ℕ)) (Option (List ℕ)) (plain_step ks) (λ w. None)
 
--- a name after a qualifier, each of at most 128 bytes as the grammar has them
+-- a name after a qualifier, each of at most 128 bytes as in the grammar
 abbrev pub IsShortName : Option (List ℕ) → List ℕ → Type 0
 IsShortName None name = ⊤
 IsShortName (Some q) name = (length q ≤ 128) × (length name ≤ 128)
 
--- an expression that isn't a name, or a name as the grammar has it
+-- an expression that isn't a name, or a name as in the grammar
 abbrev pub IsShort : Expr → Type 0
 IsShort a = (q : Option (List ℕ)) (name : List ℕ) → a ≡ e.Name q name → IsShortName q name
 
@@ -88,12 +88,13 @@ numbered_name number = codes "KSQL_COL_" ++ decimal number
 abbrev pub named : List ℕ → Expr → Named
 named name a = record { name = name; expr = a }
 
--- the column of an item without an alias, and the columns after it: those if it isn't numbered, and those if it is
+-- the column of an item without an alias, and the columns after it: the first list if it isn't numbered, the second if
+-- it is
 abbrev pub without_alias : ℕ → Option (List ℕ) → Expr → List Named → List Named → List Named
 without_alias number (Some name) a others numbered = record { name = name; expr = a } ∷ others
 without_alias number None a others numbered = record { name = numbered_name number; expr = a } ∷ numbered
 
--- the result columns of items in a scope, where so many before them were numbered
+-- the result columns of items in a scope, where this many before them were numbered
 unfoldable pub named_from : Scope → List Known → ℕ → List SelectItem → List Named
 named_from s ks number [] = []
 named_from s ks number (Star ∷ is) = all_stars ks ++ named_from s ks number is

@@ -42,12 +42,12 @@ is_only_key s k a = of (key_exprs k)
     of (key ∷ []) = same_expr (resolved s a) key
     of _ = false
 
--- whether a column that is known by this alias is the relation's
+-- whether a column with this alias is the relation's
 abbrev pub is_alias_of : Known → Option (List ℕ) → Bool
 is_alias_of k None = false
 is_alias_of k (Some alias) = bytes_eq alias k.alias
 
--- whether a name is that of the left relation's column, or of its time
+-- whether a name is a column of the left relation, or its time
 abbrev pub is_left_name : Scope → Known → Use → Bool
 is_left_name s k u = of (filter (is_known_as u.qualifier u.name) s.columns)
   where
@@ -55,20 +55,20 @@ is_left_name s k u = of (filter (is_known_as u.qualifier u.name) s.columns)
     of [] = length (row_time s u.qualifier u.name) == 1
     of (c ∷ cs) = is_alias_of k c.alias
 
--- whether an expression has a column, and none but the left relation's
+-- whether an expression has a column, and only columns of the left relation
 abbrev pub is_of_left : Scope → Known → Expr → Bool
 is_of_left s k a = nat_lt 0 (length (names a)) && list_all (is_left_name s k) (names a)
 
--- whether an expression is a key of the left side: of a stream an expression of its columns, of a table its only key
--- column
+-- whether an expression can be the key of the left side: for a stream an expression of its columns, for a table its
+-- only key column
 abbrev pub is_left_side : Scope → Known → Expr → Bool
 is_left_side s l a = if is_stream l.relation then is_of_left s l a else is_only_key s l a
 
--- whether these two are the left side's key and the right relation's only key column
+-- whether the two sides are the left side's key and the right relation's only key column
 abbrev pub are_sides : Scope → Known → Known → Expr → Expr → Bool
 are_sides s l r a b = is_left_side s l a && is_only_key s r b
 
--- the two sides of ON, the left relation's first, where they are of this form in one of the two orders
+-- the two sides of ON, the left relation's first, if they have this form in either order
 abbrev pub key_sides : Scope → Known → Known → Option (Expr × Expr) → Option (Expr × Expr)
 key_sides s l r None = None
 key_sides s l r (Some sides) =
@@ -76,7 +76,7 @@ key_sides s l r (Some sides) =
     else if are_sides s l r sides.1 sides.0 then Some (sides.1, sides.0)
     else None
 
--- the key of a join: both sides of ON, the left relation's first, where ON is `a = b` of the stated form
+-- the key of a join: both sides of ON, the left relation's first, if ON is `a = b` of the required form
 abbrev pub join_key : Select → List Known → Option (Expr × Expr)
 join_key q (l ∷ r ∷ more) = of (option_map (λ j. j.on) q.join)
   where
@@ -85,9 +85,10 @@ join_key q (l ∷ r ∷ more) = of (option_map (λ j. j.on) q.join)
     of (Some on) = key_sides (on_scope q (l ∷ r ∷ more)) l r (on_sides on)
 join_key q _ = None
 
--- ---- the key that a result needs: for each of its columns the expressions of which one has to stand among the items
+-- ---- the key that a result needs: for each of its columns the expressions that can fill it, one of which must be an
+-- item
 
--- two lists side by side: each of the left, with its counterpart where there is one
+-- two lists side by side: each member of the left with its counterpart, if any
 abbrev pub beside : List Expr → List Expr → List (List Expr)
 beside (a ∷ ls) [] = (a ∷ []) ∷ beside ls []
 beside (a ∷ ls) (b ∷ rs) = (a ∷ b ∷ []) ∷ beside ls rs
@@ -102,7 +103,7 @@ tables_need Inner l r = beside (key_exprs l) (key_exprs r)
 tables_need Left l r = alone (key_exprs l)
 tables_need Full l r = (e.Name None (codes "ROWKEY") ∷ []) ∷ []
 
--- of a stream and a table, where the stream's side of ON is this; nothing where ON isn't of the stated form
+-- of a stream and a table, given the stream's side of ON; none if ON doesn't have the required form
 abbrev pub stream_needs : JoinWord → Known → Option Expr → List (List Expr)
 stream_needs word r None = []
 stream_needs Inner r (Some a) = (a ∷ key_exprs r) ∷ []
@@ -122,7 +123,7 @@ sources_need q (l ∷ r ∷ more) = of (join_word q)
     of None = []
     of (Some word) = if is_stream l.relation then stream_needs word r (left_side q (l ∷ r ∷ more)) else tables_need word l r
 
--- of a query: its group expressions, else that of PARTITION BY, else what its sources need
+-- of a query: its group expressions, else the expression of PARTITION BY, else what its sources need
 abbrev pub needs : Select → List Known → List (List Expr)
 needs q ks = of q.group q.partition
   where
@@ -135,12 +136,12 @@ needs q ks = of q.group q.partition
 abbrev pub is_one_of : List Expr → Named → Bool
 is_one_of es c = list_any (same_expr c.expr) es
 
--- the number of the first column that is one of these expressions, where they are numbered from here
+-- the index of the first column that is one of these expressions, counted from a number on
 unfoldable pub first_of : List Expr → ℕ → List Named → Option ℕ
 first_of es number [] = None
 first_of es number (c ∷ cs) = if is_one_of es c then Some number else first_of es (number + 1) cs
 
--- the numbers of the key's columns among those of the result; nothing for one that is missing
+-- for each key column, its index among the result's columns, or None if it is missing
 abbrev pub key_places : Select → List Known → List (Option ℕ)
 key_places q ks = map (λ es. first_of es 0 (result_columns q ks)) (needs q ks)
 
@@ -160,12 +161,12 @@ abbrev pub is_place : ℕ → Option ℕ → Bool
 is_place number None = false
 is_place number (Some place) = number == place
 
--- the columns at no such place, where the first of these has this number
+-- the columns at none of these places, where the first column has this number
 unfoldable pub besides : List (Option ℕ) → ℕ → List Named → List Named
 besides places number [] = []
 besides places number (c ∷ cs) = if list_any (is_place number) places then besides places (number + 1) cs else c ∷ besides places (number + 1) cs
 
--- those of its key, and the others
+-- the key columns of the result, and its other columns
 abbrev pub key_columns : Select → List Known → List Named
 key_columns q ks = at_places (result_columns q ks) (key_places q ks)
 

@@ -20,7 +20,7 @@ digits_properties = codes "PARTITIONS" ∷ codes "REPLICAS" ∷ []
 abbrev pub name_of : Property → List ℕ
 name_of p = str_to_ascii_uppercase p.name
 
--- whether a property is known, and its value of its kind
+-- whether a property is known, and its value has the property's kind
 abbrev pub has_kind : List ℕ → PropertyValue → Bool
 has_kind name (is.Text content) = is_among text_properties name
 has_kind name (is.Digits number) = is_among digits_properties name
@@ -43,7 +43,7 @@ topic_in ps = option_and_then text_in (value_of (codes "KAFKA_TOPIC") ps)
 abbrev pub partitions_in : List Property → Option ℕ
 partitions_in ps = option_and_then digits_in (value_of (codes "PARTITIONS") ps)
 
--- the format of a name, in any case
+-- the format with a name, in any case
 abbrev pub format_named : List ℕ → Option Format
 format_named name =
     if bytes_eq (str_to_ascii_uppercase name) (codes "JSON") then Some Json
@@ -53,7 +53,7 @@ format_named name =
 abbrev pub format_in : List Property → Option Format
 format_in ps = option_and_then format_named (option_and_then text_in (value_of (codes "VALUE_FORMAT") ps))
 
--- whether a format is none that is known
+-- whether a format is unknown
 abbrev pub is_bad_format : Option PropertyValue → Bool
 is_bad_format (Some (is.Text name)) = not (is_some (format_named name))
 is_bad_format _ = false
@@ -67,7 +67,7 @@ is_zero None = false
 is_zero (Some number) = number == 0
 
 -- whether properties are wrong by themselves: one is unknown, repeated or of the wrong kind, a format is unknown, or
--- there are no partitions
+-- the number of partitions is 0
 abbrev pub are_bad : List Property → Bool
 are_bad ps =
     not (list_all (λ p. has_kind (name_of p) p.value) ps) || not (are_distinct (map name_of ps))

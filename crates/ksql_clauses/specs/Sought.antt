@@ -1,4 +1,4 @@
--- Names that are looked for in an expression.
+-- Searching for names in an expression.
 use Rattle.std.specs.Prelude.{ℕ, Bool, true, false, not, List, Option, Some, None}
 use Rattle.std.specs.List.{list_any}
 use Rattle.expression_trees.specs.declared.tree.Expr.{Expr, out-Expr}
@@ -18,11 +18,11 @@ abbrev pub is_sought : Sought → Use → Bool
 is_sought Any u = true
 is_sought (Other scope left) u = not (is_left_name scope.now left.now u)
 
--- whether such a name stands in an expression
+-- whether an expression has such a name
 abbrev pub has_name : Sought → Expr → Bool
 has_name sought a = list_any (is_sought sought) (names a)
 
--- what is decided of an expression where such a name is looked for in it
+-- the decision for an expression in a search for such a name
 abbrev pub sought_name : Sought → Expr → Option Bool
 sought_name sought a = of (out-Expr a)
   where

@@ -19,7 +19,7 @@ use Rattle.ksql_scopes.specs.declared.scope.Scope.{Scope}
 use Rattle.ksql_scopes.specs.declared.scope.ScopeColumn.{ScopeColumn}
 use Rattle.ksql_clauses.specs.declared.sources.Known.{Known}
 
--- a source is known by its alias, or by its name
+-- a source's alias, or else its name
 abbrev pub alias_of : Source → List ℕ
 alias_of s = unwrap_or s.alias s.name
 
@@ -31,7 +31,7 @@ sources q = q.source ∷ joined q.join
     joined None = []
     joined (Some j) = j.source ∷ []
 
--- those of them that are in the catalog
+-- a source, if it is in the catalog
 abbrev pub known : List Relation → Source → List Known
 known catalog s = of (find_named s.name catalog)
   where
@@ -46,7 +46,7 @@ all_known catalog q = flat_map (known catalog) (sources q)
 abbrev pub has_unknown_source : List Relation → Select → Bool
 has_unknown_source catalog q = list_any (λ s. length (known catalog s) == 0) (sources q)
 
--- whether two sources are known by one name
+-- whether two sources have the same alias
 abbrev pub have_one_alias : Select → Bool
 have_one_alias q = alike (map alias_of (sources q))
   where
@@ -75,7 +75,7 @@ abbrev pub reads_stream : List Known → Bool
 reads_stream [] = false
 reads_stream (k ∷ ks) = is_stream k.relation
 
--- what is joined: a stream on the left, a stream on the right; nothing where there is no join
+-- the kinds that are joined: whether a stream is on the left, and on the right; None if there is no join
 abbrev pub joined_streams : List Known → Option (Bool × Bool)
 joined_streams (l ∷ r ∷ more) = Some (is_stream l.relation, is_stream r.relation)
 joined_streams _ = None
@@ -97,11 +97,11 @@ is_full q = of (join_word q)
 
 -- ---- scopes
 
--- a column of the relation that is known by an alias, as that of a row
+-- a column of the relation with this alias, as a column of a row
 abbrev pub scope_column : List ℕ → Column → ScopeColumn
 scope_column alias c = record { alias = Some alias; column = c }
 
--- the columns of a relation, as those of a row
+-- the columns of a relation, as columns of a row
 abbrev pub scope_columns : Known → List ScopeColumn
 scope_columns k = map (scope_column k.alias) (columns k.relation)
 
@@ -109,15 +109,15 @@ scope_columns k = map (scope_column k.alias) (columns k.relation)
 abbrev pub rowkey_of : Column → ScopeColumn
 rowkey_of c = record { alias = None; column = record { name = codes "ROWKEY"; ty = c.ty } }
 
--- the key columns of all that is read
+-- the key columns of everything that is read
 abbrev pub key_columns_of : List Known → List Column
 key_columns_of ks = flat_map (λ k. k.relation.schema.keys) ks
 
--- ROWKEY, in a FULL join: it has the type of the first key column, which is the left source's where that has one
+-- ROWKEY, in a FULL join: it has the type of the first key column, which is the left source's if that has one
 abbrev pub rowkey : Select → List Known → List ScopeColumn
 rowkey q ks = if is_full q then map rowkey_of (take 1 (key_columns_of ks)) else []
 
--- the columns of all that is read, and ROWKEY
+-- the columns of everything that is read, and ROWKEY
 abbrev pub from_columns : Select → List Known → List ScopeColumn
 from_columns q ks = flat_map scope_columns ks ++ rowkey q ks
 
@@ -129,7 +129,7 @@ from_scope q ks = record { columns = from_columns q ks; stream = reads_stream ks
 abbrev pub item_scope : Select → List Known → Scope
 item_scope q ks = record (from_scope q ks) { windowed = is_some q.window }
 
--- what names can stand for in ON: today what they stand for in WHERE, GROUP BY and PARTITION BY
+-- what names can stand for in ON: currently the same as in WHERE, GROUP BY and PARTITION BY
 abbrev pub on_scope : Select → List Known → Scope
 on_scope q ks = from_scope q ks
 

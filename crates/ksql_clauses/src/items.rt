@@ -10,8 +10,8 @@ ghost use Rattle.ksql_clauses.specs.Sources as sources;
 use crate::sources::Known;
 use expression_trees::Expr;
 use ksql_scopes::{Scope, resolved};
-use statement_trees::{Select, SelectItem};
 use ksql_types::{Chars, Column, CopyOf};
+use statement_trees::{Select, SelectItem};
 use std::alloc::{AllocError, Global};
 
 /// A column of a result: its name, and its expression with resolved names.
@@ -21,16 +21,16 @@ pub struct Named {
     pub expr: Expr,
 }
 
-/// Whether two relations are read.
+/// Whether the query reads two relations.
 pub fn is_join(known: &[Known]) -> bool
     ensures { result ≡ spec.is_join known.now }
 {
     matches!(known, [_, _, ..])
 }
 
-/// The name that a column gets in a join: the alias, `_` and its own.
+/// The name of a column in a join: the alias, `_` and the column's own name.
 #[tactic(auto, unfolding(ksql_types::specs::Text::longest_text))]
-pub fn made_name(alloc: Global, alias: &Chars, name: &Chars) -> Result<Chars, AllocError>
+fn made_name(alloc: Global, alias: &Chars, name: &Chars) -> Result<Chars, AllocError>
     requires alias_is_short { length alias.now ≤ 128 }
     requires name_is_short { length name.now ≤ 128 }
     ensures { IfOk result (λ made. made ≡ spec.made_name alias.now name.now) }
@@ -41,7 +41,7 @@ pub fn made_name(alloc: Global, alias: &Chars, name: &Chars) -> Result<Chars, Al
     Chars::of(made)
 }
 
-/// Whether a relation has a column of the name.
+/// Whether a relation has a column of that name.
 fn has_column(name: &Chars, known: &Known) -> bool
     ensures { result ≡ spec.has_column name.now known.now }
 {
@@ -55,7 +55,7 @@ fn is_among(name: &Chars, columns: &[Column]) -> bool
     columns.iter().any(|column| column.name == *name)
 }
 
-/// Whether one of these relations is known by the alias.
+/// Whether one of the relations has this alias.
 pub fn is_alias(alias: &Chars, known: &[Known]) -> bool
     ensures { result ≡ spec.is_alias alias.now known.now }
 {
@@ -68,7 +68,7 @@ fn is_in_each(name: &Chars, known: &[Known]) -> bool
     known.iter().all(|source| has_column(name, source))
 }
 
-/// The name of a plain column: its own, or with the alias that it is written with where both joined relations have it.
+/// The name of a plain column: its own, or with its alias in front if both joined relations have that name.
 fn column_name(
     alloc: Global,
     known: &[Known],
@@ -89,7 +89,7 @@ fn column_name(
     }
 }
 
-/// What an expression without an alias is named; nothing where it isn't a plain column.
+/// The name of an expression without an alias, or None if it isn't a plain column.
 fn plain_name(alloc: Global, known: &[Known], expr: &Expr) -> Result<Option<Chars>, AllocError>
     requires { spec.IsShort expr.now }
     ensures { IfOk result (λ name. name ≡ spec.plain_name known.now expr.now) }
@@ -153,7 +153,7 @@ fn with_columns(
     Ok(found)
 }
 
-/// With all columns of a relation after the others, key first.
+/// Appends all columns of a relation, key first.
 fn with_star(
     alloc: Global,
     known: &[Known],
@@ -214,7 +214,7 @@ fn with_named(
     Ok(found)
 }
 
-/// With the column of an expression that has no alias after the others, and how many are numbered then.
+/// Appends the column of an expression without an alias, and counts it if it is named by its number.
 fn with_plain(
     alloc: Global,
     known: &[Known],
@@ -239,7 +239,7 @@ fn with_plain(
     }
 }
 
-/// With the columns of an item after the others, and how many are numbered then.
+/// Appends the columns of an item, and counts those that are named by their numbers.
 fn with_item(
     alloc: Global,
     known: &[Known],
@@ -268,8 +268,8 @@ fn with_item(
     }
 }
 
-/// The columns of a query's result, in the order of its items, in the scope of its items. Names have at most 128 bytes,
-/// but for those that are made of an alias and a name.
+/// The columns of a query's result, in the order of its items, whose names `scope` resolves. Names have at most 128
+/// bytes, except those made of an alias and a name.
 pub fn result_columns(
     alloc: Global,
     select: &Select,

@@ -11,8 +11,8 @@ use crate::left_names::{Sought, has_name};
 use crate::sources::{Known, is_stream};
 use expression_trees::{Expr, same_expr};
 use ksql_scopes::{Scope, resolved};
-use statement_trees::{JoinWord, Select};
 use ksql_types::{BinaryOp, Boxed, Chars, Column, CopyOf};
+use statement_trees::{JoinWord, Select};
 use std::alloc::{AllocError, Global};
 
 /// The two sides of `a = b`.
@@ -29,7 +29,7 @@ pub fn on_sides(on: &Expr) -> Option<(&Expr, &Expr)>
     }
 }
 
-/// A column of the relation that is known by an alias, as an expression.
+/// A column of the relation with this alias, as an expression.
 fn column_expr(alloc: Global, alias: &Chars, column: &Column) -> Result<Expr, AllocError>
     ensures { IfOk result (λ key. key ≡ Expr.Name (Some alias.now) column.now.name) }
 {
@@ -55,7 +55,7 @@ fn is_only_key(alloc: Global, scope: &Scope, known: &Known, expr: &Expr) -> Resu
     }
 }
 
-/// Whether an expression has a column, and none but the left relation's.
+/// Whether an expression has at least one column, and only columns of the left relation.
 fn is_of_left(scope: &Scope, left: &Known, expr: &Expr) -> bool
     ensures { result ≡ spec.is_of_left scope.now left.now expr.now }
 {
@@ -71,7 +71,7 @@ fn is_left_side(alloc: Global, scope: &Scope, left: &Known, expr: &Expr) -> Resu
     is_only_key(alloc, scope, left, expr)
 }
 
-/// Whether these two are the left side's key and the right relation's.
+/// Whether the two sides are the left side's key and the right relation's key.
 fn are_sides(
     alloc: Global,
     scope: &Scope,
@@ -87,7 +87,7 @@ fn are_sides(
     Ok(left_is && right_is)
 }
 
-/// The two sides of ON, the left relation's first, where they are of the stated form in one of the two orders.
+/// The two sides of ON, the left relation's first, if they have the required form in either order.
 fn key_sides<'a>(
     alloc: Global,
     scope: &Scope,
@@ -108,8 +108,8 @@ fn key_sides<'a>(
     Ok(None)
 }
 
-/// The key of a join: both sides of ON, the left relation's first, where ON is `a = b` of the stated form. The scope is
-/// that of ON.
+/// The key of a join: both sides of ON, the left relation's first, if ON is `a = b` of the required form. `scope` is
+/// ON's.
 pub fn join_key<'a>(
     alloc: Global,
     on_scope: &Scope,
@@ -131,7 +131,7 @@ pub fn join_key<'a>(
     }
 }
 
-/// For each of some expressions, itself alone.
+/// A list of one expression.
 fn alone(alloc: Global, expr: Expr) -> Result<Vec<Expr>, AllocError>
     ensures { IfOk result (λ one. one.items ≡ expr ∷ []) }
 {
@@ -140,7 +140,7 @@ fn alone(alloc: Global, expr: Expr) -> Result<Vec<Expr>, AllocError>
     Ok(one)
 }
 
-/// Each of some expressions alone, with resolved names.
+/// A list of one expression for each of `exprs`, with resolved names.
 fn resolved_alone(
     alloc: Global,
     scope: &Scope,
@@ -155,7 +155,7 @@ fn resolved_alone(
     Ok(each)
 }
 
-/// Each key column of a relation alone.
+/// A list of one expression for each key column of a relation.
 fn each_key(alloc: Global, known: &Known) -> Result<Vec<Vec<Expr>>, AllocError>
     ensures { IfOk result (λ each. map (λ es. es.items) each.items ≡ spec.alone (spec.key_exprs known.now)) }
 {
@@ -166,7 +166,7 @@ fn each_key(alloc: Global, known: &Known) -> Result<Vec<Vec<Expr>>, AllocError>
     Ok(each)
 }
 
-/// The key columns of the left relation one by one, each beside that of the right one, where there is one.
+/// For each key column of the left relation, that column and the right relation's key column at the same index, if any.
 fn beside(alloc: Global, left: &Known, right: &Known) -> Result<Vec<Vec<Expr>>, AllocError>
     ensures { IfOk result (λ each. map (λ es. es.items) each.items ≡ spec.beside (spec.key_exprs left.now) (spec.key_exprs right.now)) }
 {
@@ -202,7 +202,7 @@ fn rowkey(alloc: Global) -> Result<Expr, AllocError>
     })
 }
 
-/// What the key of a join of two tables needs.
+/// The key columns that a join of two tables needs.
 fn tables_need(
     alloc: Global,
     word: JoinWord,
@@ -222,7 +222,7 @@ fn tables_need(
     }
 }
 
-/// What the key of a join of a stream and a table needs, where the stream's side of ON is this.
+/// The key columns that a join of a stream and a table needs, given the stream's side of ON.
 fn stream_needs(
     alloc: Global,
     word: JoinWord,
@@ -242,7 +242,7 @@ fn stream_needs(
     Ok(needs)
 }
 
-/// What the key of a query without GROUP BY and PARTITION BY needs, where a join has this key. The scope is that of ON.
+/// The key columns that a query without GROUP BY and PARTITION BY needs, given the key of its join. `on_scope` is ON's.
 fn sources_need(
     alloc: Global,
     on_scope: &Scope,
@@ -274,8 +274,8 @@ fn sources_need(
     }
 }
 
-/// For each column of the key that a query's result needs, the expressions of which one has to stand among the items,
-/// where a join has this key.
+/// For each key column of a query's result, the expressions that can fill it: one of them has to stand among the items.
+/// `key` is the key of the query's join, if any.
 pub fn needs(
     alloc: Global,
     scope: &Scope,
@@ -302,14 +302,14 @@ pub fn needs(
     }
 }
 
-/// Whether a column is one of some expressions.
+/// Whether a result column is one of the expressions.
 fn is_one_of(exprs: &[Expr], column: &Named) -> bool
     ensures { result ≡ spec.is_one_of exprs.now column.now }
 {
     exprs.iter().any(|expr| same_expr(&column.expr, expr))
 }
 
-/// The number of the first column that is one of some expressions.
+/// The index of the first result column that is one of the expressions.
 #[tactic(auto, unfolding(crate::specs::Keys::first_of))]
 fn first_of(exprs: &[Expr], columns: &[Named]) -> Option<usize>
     ensures { result ≡ spec.first_of exprs.now 0 columns.now }
@@ -322,7 +322,7 @@ fn first_of(exprs: &[Expr], columns: &[Named]) -> Option<usize>
     None
 }
 
-/// The numbers of the key's columns among those of a result, where the key needs these; nothing for one that is missing.
+/// For each needed key column, its index among the result's columns, or None if it is missing.
 pub fn key_places(
     alloc: Global,
     needs: &[Vec<Expr>],
@@ -346,7 +346,7 @@ fn column_at(columns: &[Named], place: Option<usize>) -> Option<&Named>
     }
 }
 
-/// The columns of a result at some places: those of its key, where these are the key's.
+/// The result's columns at these places. Given the places of the key, they are the key columns.
 pub fn columns_at<'a>(
     alloc: Global,
     columns: &'a [Named],
@@ -363,14 +363,14 @@ pub fn columns_at<'a>(
     Ok(found)
 }
 
-/// Whether a number is one of some places.
+/// Whether a number is one of the places.
 fn is_place(number: usize, places: &[Option<usize>]) -> bool
     ensures { result ≡ list_any (spec.is_place number) places.now }
 {
     places.iter().any(|place| *place == Some(number))
 }
 
-/// The columns of a result at no such place: those of its value, where these are the key's.
+/// The result's columns at none of these places. Given the places of the key, they are the value columns.
 #[tactic(auto, unfolding(crate::specs::Keys::besides))]
 pub fn columns_besides<'a>(
     alloc: Global,

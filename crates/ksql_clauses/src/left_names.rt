@@ -1,4 +1,4 @@
-//! Which names in an expression are those of a join's left relation.
+//! Which names in an expression belong to a join's left relation.
 
 ghost use Rattle.std.specs.Prelude.{◌≡◌};
 ghost use Rattle.ksql_clauses.specs.Keys as keys;
@@ -9,16 +9,16 @@ use expression_trees::{Decides, Expr, passes};
 use ksql_scopes::{Scope, first_known_as, is_row_time};
 use ksql_types::Chars;
 
-/// Which names are looked for in an expression.
+/// The names to look for in an expression.
 #[derive(Clone, Copy)]
 pub enum Sought<'a> {
     /// All.
     Any,
-    /// Those that are neither the left relation's columns nor its time.
+    /// Names that are neither a column of the left relation nor its time.
     Other(&'a Scope, &'a Known),
 }
 
-/// Whether a name is that of the left relation's column, or of its time.
+/// Whether a name is a column of the left relation, or its time.
 fn is_left_name(scope: &Scope, left: &Known, qualifier: &Option<Chars>, name: &Chars) -> bool
     ensures { result ≡ keys.is_left_name scope.now left.now (spec.use_of qualifier.now name.now) }
 {
@@ -51,7 +51,7 @@ impl Decides for Sought<'_> {
     }
 }
 
-/// Whether a name that is looked for stands in an expression.
+/// Whether an expression has a name that is looked for.
 pub fn has_name(sought: Sought, expr: &Expr) -> bool
     ensures { result ≡ spec.has_name sought.entry expr.now }
 {

@@ -6,14 +6,14 @@ ghost use Rattle.std.specs.Str.{str_to_ascii_uppercase};
 ghost use Rattle.ksql_types.specs.Names as names;
 ghost use Rattle.ksql_clauses.specs.Properties as spec;
 
-use statement_trees::{Property, PropertyValue};
 use ksql_types::{Chars, Format};
+use statement_trees::{Property, PropertyValue};
 
 const TEXT_PROPERTIES: [&str; 3] = ["KAFKA_TOPIC", "KEY_FORMAT", "VALUE_FORMAT"];
 
 const DIGITS_PROPERTIES: [&str; 2] = ["PARTITIONS", "REPLICAS"];
 
-/// Whether a name, in any case, is a word, which is in upper case.
+/// Whether a name, in any case, is `word`, which is in upper case.
 pub fn is_word(name: &str, word: &str) -> bool
     ensures { result ≡ bytes_eq (str_to_ascii_uppercase name.now) word.now }
 {
@@ -34,7 +34,7 @@ pub fn is_word(name: &str, word: &str) -> bool
     word.is_empty()
 }
 
-/// Whether two names are one, without regard to case.
+/// Whether two names are the same, ignoring case.
 fn is_same_name(name: &str, other: &str) -> bool
     ensures { result ≡ bytes_eq (str_to_ascii_uppercase name.now) (str_to_ascii_uppercase other.now) }
 {
@@ -55,7 +55,7 @@ fn is_same_name(name: &str, other: &str) -> bool
     other.is_empty()
 }
 
-/// Whether a name, in any case, is one of some words, which are in upper case.
+/// Whether a name, in any case, is one of `words`, which are in upper case.
 fn is_word_among(words: &[&str], name: &str) -> bool
     ensures { result ≡ names.is_among (map (λ word. word.now) words.now) (str_to_ascii_uppercase name.now) }
 {
@@ -69,7 +69,7 @@ fn is_word_among(words: &[&str], name: &str) -> bool
     false
 }
 
-/// Whether a property is known, and its value of its kind.
+/// Whether a property is known, and its value has the property's kind.
 fn has_kind(property: &Property) -> bool
     ensures { result ≡ spec.has_kind (spec.name_of property.now) property.now.value }
 {
@@ -85,7 +85,7 @@ fn have_kinds(properties: &[Property]) -> bool
     properties.iter().all(has_kind)
 }
 
-/// Whether one of some properties has a name.
+/// Whether one of the properties has this name.
 fn is_named_among(name: &str, properties: &[Property]) -> bool
     ensures { result ≡ names.is_among (map spec.name_of properties.now) (str_to_ascii_uppercase name.now) }
 {
@@ -112,8 +112,8 @@ fn are_distinct(properties: &[Property]) -> bool
     true
 }
 
-/// The first value of a property, whose name is in upper case.
-pub fn value_of<'a>(word: &str, properties: &'a [Property]) -> Option<&'a PropertyValue>
+/// The first value of the property `word`, which is in upper case.
+fn value_of<'a>(word: &str, properties: &'a [Property]) -> Option<&'a PropertyValue>
     ensures { option_copied result ≡ spec.value_of word.now properties.now }
 {
     properties
@@ -131,21 +131,21 @@ fn text_of<'a>(word: &str, properties: &'a [Property]) -> Option<&'a Chars>
     }
 }
 
-/// The topic that properties name.
+/// The topic that the properties name.
 pub fn topic_in(properties: &[Property]) -> Option<&Chars>
     ensures { option_copied result ≡ spec.topic_in properties.now }
 {
     text_of("KAFKA_TOPIC", properties)
 }
 
-/// Whether properties have KAFKA_TOPIC, whatever its value.
+/// Whether the properties have KAFKA_TOPIC, whatever its value.
 pub fn has_topic(properties: &[Property]) -> bool
     ensures { result ≡ is_some (spec.value_of (codes "KAFKA_TOPIC") properties.now) }
 {
     value_of("KAFKA_TOPIC", properties).is_some()
 }
 
-/// The number of partitions that properties want.
+/// The number of partitions that the properties ask for.
 pub fn partitions_in(properties: &[Property]) -> Option<u64>
     ensures { result ≡ spec.partitions_in properties.now }
 {
@@ -155,7 +155,7 @@ pub fn partitions_in(properties: &[Property]) -> Option<u64>
     }
 }
 
-/// The format of a name, in any case.
+/// The format of this name, in any case.
 fn format_named(name: &str) -> Option<Format>
     ensures { result ≡ spec.format_named name.now }
 {
@@ -168,7 +168,7 @@ fn format_named(name: &str) -> Option<Format>
     }
 }
 
-/// The format of values that properties want, where it is known.
+/// The format of values that the properties ask for, if it is known.
 pub fn format_in(properties: &[Property]) -> Option<Format>
     ensures { result ≡ spec.format_in properties.now }
 {
@@ -196,8 +196,8 @@ fn has_bad_key_format(properties: &[Property]) -> bool
     }
 }
 
-/// Whether properties are wrong by themselves: one is unknown, repeated or of the wrong kind, a format is unknown, or
-/// there are no partitions.
+/// Whether the properties are wrong by themselves: one is unknown, repeated or of the wrong kind, a format is unknown,
+/// or the number of partitions is 0.
 pub fn are_bad(properties: &[Property]) -> bool
     ensures { result ≡ spec.are_bad properties.now }
 {

@@ -4,19 +4,19 @@ ghost use Rattle.std.specs.Prelude.{◌≡◌, ◌==◌, ◌++◌, map, length, 
 ghost use Rattle.ksql_clauses.specs.Sources as spec;
 
 use ksql_scopes::{Scope, ScopeColumn};
-use statement_trees::{JoinText, JoinWord, Select, Source};
 use ksql_types::{Catalog, Chars, Column, CopyOf, Items, Kind, Relation};
+use statement_trees::{JoinText, JoinWord, Select, Source};
 use std::alloc::{AllocError, Global};
 
-/// A relation that is read, and the name by which it is known.
+/// A relation that a query reads, and its alias there.
 #[derive(Drop)]
 pub struct Known {
     pub alias: Chars,
     pub relation: Relation,
 }
 
-/// The name by which a source is known: its alias, or its name.
-pub fn alias_of(source: &Source) -> &Chars
+/// The alias of a source, or else its name.
+fn alias_of(source: &Source) -> &Chars
     ensures { result.now ≡ spec.alias_of source.now }
 {
     match &source.alias {
@@ -25,7 +25,7 @@ pub fn alias_of(source: &Source) -> &Chars
     }
 }
 
-/// The sources of a query that are in the catalog, in their order.
+/// The sources of a query that are in the catalog, in order.
 pub fn all_known(
     alloc: Global,
     catalog: &Catalog,
@@ -73,7 +73,7 @@ fn is_unknown(catalog: &Catalog, source: &Source) -> bool
     catalog.find(&source.name).is_none()
 }
 
-/// Whether both sources of a join are known by one name.
+/// Whether both sources of a join have the same alias.
 pub fn have_one_alias(select: &Select) -> bool
     ensures { result ≡ spec.have_one_alias select.now }
 {
@@ -107,7 +107,7 @@ pub fn reads_stream(known: &[Known]) -> bool
     }
 }
 
-/// Of a join, whether its left source is a stream, and whether its right one is.
+/// For a join, whether its left source is a stream, and whether its right source is; None for any other query.
 pub fn joined_streams(known: &[Known]) -> Option<(bool, bool)>
     ensures { result ≡ spec.joined_streams known.now }
 {

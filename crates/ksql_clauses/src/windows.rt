@@ -3,16 +3,16 @@
 ghost use Rattle.std.specs.Prelude.{◌≡◌, ◌<◌, ◌^◌, false};
 ghost use Rattle.ksql_clauses.specs.Windows as spec;
 
-use statement_trees::{SpanText, Unit, WindowText};
 use ksql_types::Window;
+use statement_trees::{SpanText, Unit, WindowText};
 
 /// The longest span of a window, 2^53 milliseconds.
 const LONGEST_SPAN: u128 = 9_007_199_254_740_992;
 
-/// The most windows that a record can be in.
+/// The most windows that one record can be in.
 const MOST_WINDOWS: u128 = 64;
 
-/// GRACE PERIOD where it is left out: 24 hours.
+/// The GRACE PERIOD if none is written: 24 hours.
 const GRACE: u128 = 86_400_000;
 
 /// The length of a span in milliseconds.
@@ -62,7 +62,7 @@ fn has_many(size: SpanText, advance: SpanText) -> bool
     0 < advance && MOST_WINDOWS * advance < millis(size)
 }
 
-/// Whether a window passes a limit: a span is above 2^53 milliseconds, or a record has more than 64 windows.
+/// Whether a window exceeds a limit: a span is above 2^53 milliseconds, or a record has more than 64 windows.
 pub fn is_too_large(window: &WindowText) -> bool
     ensures { result ≡ spec.is_too_large window.now }
 {
@@ -96,8 +96,8 @@ fn keeps_too_little(size: SpanText, retention: Option<SpanText>, grace: Option<S
     }
 }
 
-/// Whether a window is none: its size or advance is 0, it moves on by more than its size, or it keeps less than the
-/// window and its grace.
+/// Whether a window is invalid: its size or advance is 0, it advances by more than its size, or its retention is
+/// shorter than the window and its grace.
 pub fn is_bad(window: &WindowText) -> bool
     ensures { result ≡ spec.is_bad window.now }
 {
@@ -121,7 +121,7 @@ pub fn is_bad(window: &WindowText) -> bool
     }
 }
 
-/// The window that is written, in milliseconds; a tumbling one moves on by its size.
+/// The window as written, in milliseconds; a tumbling window advances by its size.
 pub fn window_of(window: &WindowText) -> Window
     requires { spec.is_too_large window.now ≡ false }
     ensures { result ≡ spec.window_of window.now }

@@ -1,4 +1,4 @@
--- The causes of statuses: what the words and the files decide is one answer.
+-- The causes of statuses: the words and the files decide at most one status.
 use Rattle.std.proofs.Common.{◌≡◌, ◌∙◌, ap, ap₂, sym, refl, subst, ℕ, List, [], ◌∷◌, ◌++◌, inl, inr, length, arith, length-append}
 use Rattle.std.specs.Prelude.{codes, ◌⊎◌, Option, None, Some, IfSome, Result, Ok, Err, OnOk, OnErr, ◌≤◌}
 use Rattle.std.proofs.lemmas.Option.{same_Some}
@@ -132,7 +132,7 @@ one_line (Some name) workers all p l m w v a b =
 
 -- ---- one answer
 
--- What the names of a run and the files decide is one answer.
+-- The names of a run and the files decide at most one status.
 module _ (a : Asked) (all : Files) where
   read_bad : (p q : Program) (files : List TopicLines) (topic : List ℕ) (line : ℕ) (why : LineWhy) → IsProgramRead a.script all p →
       AreFed a.topics all whole_room (declared_of p.items) files → IsProgramRead a.script all q → IsFirstBad a.topics all whole_room (declared_of q.items) topic line why → ⊥
@@ -311,7 +311,7 @@ wrote_either (Ok a) old new piece whole front =
     (length piece, omega arith, whole ∙ ap (followed_by old) (sym (take_all (length piece) piece (omega arith))))
 wrote_either (Err e) old new piece whole front = front
 
--- a front of what was written is one of the text
+-- a prefix of what was written is a prefix of the text
 pub front_written : (known : Option Files) (words : List (List ℕ)) (old new : Option (List ℕ)) (text piece : List ℕ) → piece ≡ text →
     WrotePrefix old new piece → IfSome known (λ all. HasText words all text) →
     IfSome known (λ all. (text : List ℕ) × HasText words all text × WrotePrefix old new text)

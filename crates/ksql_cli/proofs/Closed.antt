@@ -9,10 +9,11 @@ use Rattle.core_state.specs.Shelf.{shelf_closed}
 use Rattle.topic_log.specs.Giving.{with_gone}
 use Rattle.topic_log.specs.Shelves.{routes_in, shelf_of, topics_of}
 use Rattle.task_core.specs.declared.task.Moved.{Moved}
-use Rattle.cluster_core.specs.Cluster.{HasCome, idle}
-use Rattle.cluster_core.specs.Progress.{Progress, closed}
+use Rattle.cluster_core.specs.Cluster.{HasCome}
+use Rattle.cluster_laws.specs.Tasks.{idle}
+use Rattle.cluster_laws.specs.Progress.{Progress, closed}
 use Rattle.cluster_core.specs.declared.cluster.Cluster.{Cluster}
-use Rattle.cluster_core.specs.declared.seats.Seat.{Seat}
+use Rattle.cluster_laws.specs.declared.seats.Seat.{Seat}
 use Rattle.cluster_core.proofs.Coming as coming
 use Rattle.cluster_core.proofs.Numbers.{closed-same}
 

@@ -28,7 +28,7 @@ prefix-rest old mid new first rest before wrote = (
       ∙ followed-on old first (take wrote.0 rest) ∙ ap (followed_by old) (sym (take-append-add first rest wrote.0)),
 )
 
--- pieces of which the last failed
+-- pieces whose last one failed
 pub prefix-last : {A E : Type 0} (r : Result A E) (old mid new : Option (List ℕ)) (first rest : List ℕ) → mid ≡ followed_by old first →
     OnErr r (WrotePrefix mid new rest) → OnErr r (WrotePrefix old new (first ++ rest))
 prefix-last (Ok x) old mid new first rest before wrote = tt
@@ -56,7 +56,7 @@ pieces-last r old mid new ps none filled before wrote =
     subst (λ (bytes : List ℕ). OnErr r (WrotePrefix old new bytes)) (first-and-others ps none filled)
     (prefix-last r old mid new (get_or ps 0 none).now (flat_map (λ p. p.now) (take (length ps - 1) (drop 1 ps))) before wrote)
 
--- the same line, said otherwise
+-- the same line in another form
 pub whole-as : {A E : Type 0} (r : Result A E) (old new : Option (List ℕ)) (piece line : List ℕ) → piece ≡ line →
     OnOk r (new ≡ followed_by old piece) → OnOk r (new ≡ followed_by old line)
 whole-as r old new piece line same wrote = subst (λ (bytes : List ℕ). OnOk r (new ≡ followed_by old bytes)) same wrote

@@ -16,23 +16,24 @@ use Rattle.query_meaning.specs.Queries.{changes_at}
 use Rattle.topology.specs.Topologies.{cut_topics, relation_topic, subs}
 use Rattle.topic_log.specs.Giving.{with_gone}
 use Rattle.topic_log.specs.Shelves.{shelf_of}
-use Rattle.core_laws.proofs.Writers.{numbered}
+use Rattle.wiring_laws.proofs.Writers.{numbered}
 use Rattle.feed_laws.specs.Fitting.{IsOfDeclared as IsFedTo}
 use Rattle.run_text.specs.Report.{Section, meant, report, section_of, summary}
 use Rattle.run_text.specs.Shown.{HasTopicOf, shown_report, shown_summary}
 use Rattle.report_laws.specs.Reported.{IsGoodBroker, IsOfDeclared, section_known}
 use Rattle.report_laws.proofs.Reporting.{reports-meaning, summarizes-meaning}
 use Rattle.report_laws.proofs.ShownRecords.{declaration-at}
-use Rattle.cluster_core.specs.Cluster.{HasCome, idle}
-use Rattle.cluster_core.specs.Progress.{Progress}
+use Rattle.cluster_core.specs.Cluster.{HasCome}
+use Rattle.cluster_laws.specs.Tasks.{idle}
+use Rattle.cluster_laws.specs.Progress.{Progress}
 use Rattle.core_state.specs.declared.journal.JournalEntry.{JournalEntry}
 use Rattle.core_state.specs.declared.log.LogEntry.{LogEntry}
 use Rattle.topology.specs.declared.schedule.Lined.{Lined}
 use Rattle.trace_text.specs.Trace.{trace_of}
 use Rattle.cluster_core.specs.declared.cluster.Cluster.{Cluster}
-use Rattle.cluster_core.specs.declared.seats.Seat.{Seat}
+use Rattle.cluster_laws.specs.declared.seats.Seat.{Seat}
 use Rattle.cluster_core.proofs.Coming.{running-of}
-use Rattle.cluster_core.proofs.Running.{parts_of}
+use Rattle.cluster_laws.proofs.Running.{parts_of}
 use Rattle.ksql_cli.proofs.Closed.{closed-come, topics-come}
 use Rattle.ksql_cli.specs.Ran.{HasRun}
 use Rattle.ksql_cli.specs.Run.{Run, progress_of, report_of, section_at, summary_of, trace_in}
@@ -127,12 +128,12 @@ summary-run run program c is sound come =
     subst (λ (p : Program). shown_summary p.items c.broker ≡ summary_of run) is
     (summary-shown run (subst (λ (p : Program). IsSound p.items) (sym is) sound) c come)
 
--- the trace of a cluster that ran, where it is asked for
+-- the trace of a cluster that ran, if it is printed
 pub trace-run : (run : Run) (c : Cluster) (steps : List Lined) → run.steps ≡ steps → HasRun run c → run.trace ≡ true → trace_of c.journal.items steps ≡ trace_in run
 trace-run run c steps of-steps come asked =
     ap₂ (λ (j : List JournalEntry) (ss : List Lined). trace_of j ss) come.journal (sym of-steps)
     ∙ ap (λ (b : Bool). cond b (trace_of (progress_of run).journal run.steps) []) (sym asked)
 
--- without one there is none
+-- otherwise there is none
 pub no-trace : (run : Run) → run.trace ≡ false → [] ≡ trace_in run
 no-trace run none = ap (λ (b : Bool). cond b (trace_of (progress_of run).journal run.steps) []) (sym none)

@@ -1,4 +1,4 @@
--- One stage of a run after another: the names that joined, those that were due, and the causes.
+-- The stages of a run one by one: the names that joined, those that were due, and the causes.
 use Rattle.std.proofs.Common.{◌≡◌, ◌∙◌, ap, sym, refl, subst, ℕ, List, [], ◌∷◌, ◌++◌, append_assoc, inl, inr}
 use Rattle.std.specs.Prelude.{Option, None, Some, IfSome}
 use Rattle.std.specs.List.{AllByRecursion}
@@ -27,7 +27,7 @@ pub when-known : (P Q : Files → Type 0) (known : Option Files) → ((all : Fil
 when-known P Q None give p = tt
 when-known P Q (Some all) give p = give all p
 
--- what is known of the files as they are later is known of them as they were
+-- facts about the files as they are later hold of the files as they were
 pub as-they-were : (P : Files → Type 0) (known later : Option Files) → later ≡ known → IfSome later P → IfSome known P
 as-they-were P known later same p = subst (λ (o : Option Files). IfSome o P) same p
 

@@ -1,4 +1,4 @@
--- From what is said of one topic file, and of those after it, to what is said of all of them.
+-- From the facts about one topic file, and about those after it, to the facts about all of them.
 use Rattle.std.proofs.Common.{◌≡◌, ◌∙◌, ap, sym, refl, subst, ℕ, ◌-◌, List, [], ◌∷◌, ◌++◌, append_assoc, inl, inr, length, take, drop, arith}
 use Rattle.std.specs.Prelude.{◌≤◌, All, Option, None, Some, IfSome, Result, Ok, Err, IfOk, IfErr, slice_index_or}
 use Rattle.std.specs.List.{AllByRecursion}
@@ -22,7 +22,7 @@ use Rattle.ksql_cli.specs.Steps.{AreTopicsDue, IsFeedable, IsJoined, IsTopicFail
 abbrev pub rest_of : List Item → List Item
 rest_of items = take (length items - 1) (drop 1 items)
 
--- a declared relation is the first of those that are declared
+-- a declared relation is the first of the declared ones
 pub declared_first : (items : List Item) (item : Item) (relation : Relation) → 1 ≤ length items → item ≡ slice_index_or items 0 item →
     item ≡ Declared relation → declared_of items ≡ relation ∷ declared_of (rest_of items)
 declared_first [] item relation some first is = absurd (omega (arith, some))
@@ -174,7 +174,8 @@ pub whole_short : (room : Room) → room ≡ whole_room → room.bytes ≤ 67108
 unfolding whole_room
 whole_short room is = omega (arith, ap (λ (r : Room). r.bytes) is)
 
--- what is said of the files as they are later, of a room and of some items is said of the files as they were, of that room and of those items
+-- what is said of the files as they are later, of a room and of some items is said of the files as they were, of that
+-- room and of those items
 pub as_before : (P : Files → Room → List Item → Type 0) (known later : Option Files) (room whole : Room) (items all : List Item) →
     later ≡ known → room ≡ whole → items ≡ all → IfSome later (λ files. P files room items) → IfSome known (λ files. P files whole all)
 as_before P known later room whole items all same is are said =

@@ -1,4 +1,4 @@
--- What a command reads and runs, and the cause of each way in which it ends.
+-- What a command reads and runs, and the cause of each of its statuses.
 use Rattle.std.specs.Prelude.{◌≡◌, ◌⊎◌, ℕ, ◌-◌, length, false, List, [], ◌∷◌, ◌++◌, codes, Option, None, Some, Ok, Err}
 use Rattle.std.specs.List.{AllByRecursion}
 use Rattle.ksql_types.specs.declared.code.Code.{Code}
@@ -26,17 +26,17 @@ use Rattle.ksql_cli.specs.declared.status.Status.{Status}
 use Rattle.ksql_cli.specs.declared.status.Status.TheVariants as ended
 use Rattle.ksql_cli.specs.Run.{Run, declared_of, report_of, summary_of}
 
--- files, by their names
+-- files, by name
 abbrev pub Files : Type 0
 Files = List (List ℕ × List ℕ)
 
 -- ---- the script
 
--- the script of this name is accepted as this program
+-- the script with this name is accepted as this program
 abbrev pub IsProgramRead : List ℕ → Files → Program → Type 0
 IsProgramRead name all program = (script : List ℕ) × (read_bytes name all ≡ Some script) × IsAccepted script program
 
--- the script of this name is refused in this statement by this code
+-- the script with this name is refused in this statement with this code
 abbrev pub IsScriptRefused : List ℕ → Files → ℕ → Code → Type 0
 IsScriptRefused name all statement code = (script : List ℕ) × (read_bytes name all ≡ Some script) × IsRefused script statement code
 
@@ -46,11 +46,11 @@ IsScriptRefused name all statement code = (script : List ℕ) × (read_bytes nam
 abbrev pub topic_file : List ℕ → Relation → List ℕ
 topic_file dir relation = dir ++ (codes "/" ++ (relation.topic ++ codes ".jsonl"))
 
--- how many records and bytes the topic files can have, all together
+-- the most records and bytes that all topic files can have together
 unfoldable pub whole_room : Room
 whole_room = record { records = 200000; bytes = 67108864 }
 
--- what a file leaves of the room for those after it
+-- the room that a file leaves for those after it
 abbrev pub room_after_feds : Room → List ℕ → List Fed → Room
 room_after_feds room file feds = record { records = room.records - length feds; bytes = room.bytes - length file }
 
@@ -63,14 +63,14 @@ abbrev pub room_after : Room → Relation → List ℕ → Room
 room_after room relation file = room_after_feds room file (topic_lines relation file).feds
 
 -- the topic files of the relations are good within a room that they share, and these are their records: one file for
--- each relation, in their order
+-- each relation, in order
 abbrev pub AreFed : List ℕ → Files → Room → List Relation → List TopicLines → Type 0
 AreFed dir all room [] files = files ≡ []
 AreFed dir all room (relation ∷ relations) files =
     (file : List ℕ) × (others : List TopicLines) × IsGood dir all room relation file
     × AreFed dir all (room_after room relation file) relations others × (files ≡ topic_lines relation file ∷ others)
 
--- the first topic file that isn't good is that of this topic, with this first fault
+-- the first topic file that isn't good is that of this topic, with this as its first fault
 abbrev pub IsFirstBad : List ℕ → Files → Room → List Relation → List ℕ → ℕ → LineWhy → Type 0
 IsFirstBad dir all room [] topic line why = ⊥
 IsFirstBad dir all room (relation ∷ relations) topic line why =
@@ -78,7 +78,7 @@ IsFirstBad dir all room (relation ∷ relations) topic line why =
     × (((first_fault room file ≡ Some (line, why)) × (topic ≡ relation.topic))
     ⊎ ((first_fault room file ≡ None) × IsFirstBad dir all (room_after room relation file) relations topic line why))
 
--- the topic files before the one of this name are good
+-- the topic files before the one with this name are good
 abbrev pub IsTopicDue : List ℕ → Files → Room → List Relation → List ℕ → Type 0
 IsTopicDue dir all room [] name = ⊥
 IsTopicDue dir all room (relation ∷ relations) name =
@@ -90,7 +90,7 @@ IsTopicDue dir all room (relation ∷ relations) name =
 abbrev pub fed_once : List Lined
 fed_once = record { line = 1; step = step.FeedAll } ∷ record { line = 2; step = step.Drain } ∷ []
 
--- the steps of a run: without a schedule one feed of all records and a drain, and else those that the schedule's file says
+-- the steps of a run: without a schedule one feed of all records and a drain, else those of the schedule's file
 abbrev pub IsScheduled : Option (List ℕ) → ℕ → Files → Program → List Lined → Type 0
 IsScheduled None workers all program steps = steps ≡ fed_once
 IsScheduled (Some name) workers all program steps =
@@ -104,7 +104,7 @@ IsScheduleRefused (Some name) workers all program line why =
 
 -- ---- the demo
 
--- the files of a demo of so many records, which aren't read from a folder
+-- the files of a demo of n records, which aren't read from a folder
 abbrev pub demo_files : ℕ → Files
 demo_files records =
     (codes "script.sql", demo_script) ∷ (codes "./hits.jsonl", demo_topic_file records) ∷ (codes "schedule", demo_schedule records) ∷ []
@@ -120,13 +120,14 @@ demo_asked workers =
 abbrev pub AreRead : Asked → Files → Program → List TopicLines → Type 0
 AreRead a all program files = IsProgramRead a.script all program × AreFed a.topics all whole_room (declared_of program.items) files
 
--- a file of this name is due in a run after its script: a topic file where those before it are good, or the schedule where all are
+-- a file with this name is due in a run after its script: a topic file if those before it are good, or the schedule if
+-- all are
 abbrev pub IsLaterDue : Asked → Files → List ℕ → Type 0
 IsLaterDue a all name =
     ((program : Program) × IsProgramRead a.script all program × IsTopicDue a.topics all whole_room (declared_of program.items) name)
     ⊎ ((program : Program) × (files : List TopicLines) × AreRead a all program files × (a.schedule ≡ Some name))
 
--- a file of this name is due for a command: its script, and in a run the others
+-- a file with this name is due for a command: its script, and in a run the others
 abbrev pub IsDueFor : Option Command → Files → List ℕ → Type 0
 IsDueFor (Some (run_words script topics workers schedule trace)) all name =
     (name ≡ script) ⊎ IsLaterDue (record { script = script; topics = topics; workers = workers; schedule = schedule; trace = trace }) all name
@@ -136,13 +137,13 @@ IsDueFor _ all name = ⊥
 abbrev pub IsDue : List (List ℕ) → Files → List ℕ → Type 0
 IsDue words all name = IsDueFor (command_of words) all name
 
--- the names that joined are all due
+-- all names that joined are due
 abbrev pub AreDue : List (List ℕ) → Files → List (List ℕ) → List (List ℕ) → Type 0
 AreDue words all old new = (names : List (List ℕ)) × (new ≡ old ++ names) × AllByRecursion (IsDue words all) names
 
 -- ---- what is run
 
--- the run that is asked for: of the script's program on its topic files, with so many workers and the steps of its schedule
+-- the requested run: of the script's program on its topic files, with this many workers and the steps of its schedule
 pub record Runs (a : Asked) (all : Files) (run : Run) : Type 0 where
   pub read : AreRead a all run.program run.files
   pub workers : run.workers ≡ a.workers
@@ -193,7 +194,7 @@ DemoCause records workers ended.WriteFault = (run : Run) × Runs (demo_asked wor
 DemoCause records workers ended.OutOfMemory = Unit {0}
 DemoCause records workers _ = ⊥
 
--- the cause of a status, by the command; words that are none have their status
+-- the cause of a status, by the command; words that are no command have their own status
 abbrev pub CauseFor : Option Command → Files → List (List ℕ) → List (List ℕ) → Status → Type 0
 CauseFor (Some (run_words script topics workers schedule trace)) all old new status =
     RunCause (record { script = script; topics = topics; workers = workers; schedule = schedule; trace = trace }) all old new status
@@ -204,7 +205,7 @@ CauseFor None all old new status = (status ≡ ended.Usage) ⊎ (status ≡ ende
 abbrev pub HasCause : List (List ℕ) → Files → List (List ℕ) → List (List ℕ) → Status → Type 0
 HasCause words all old new status = CauseFor (command_of words) all old new status
 
--- an answer that the words and the files decide, whatever is read and written
+-- a result that the words and the files decide, whatever is read and written
 abbrev pub IsDecided : Status → Type 0
 IsDecided ended.Done = Unit {0}
 IsDecided ended.Usage = Unit {0}
@@ -213,7 +214,7 @@ IsDecided (ended.TopicFile topic line why) = Unit {0}
 IsDecided (ended.Schedule line why) = Unit {0}
 IsDecided _ = ⊥
 
--- the files decide a status of a command, or a file that is due isn't there; a demo reads none
+-- the files decide a status of a command, or a file that is due isn't there; a demo reads no file
 abbrev pub HasAnswerFor : Option Command → Files → Type 0
 HasAnswerFor (Some (Demo records workers)) all = Unit {0}
 HasAnswerFor o all =
@@ -222,12 +223,12 @@ HasAnswerFor o all =
 abbrev pub HasAnswer : List (List ℕ) → Files → Type 0
 HasAnswer words all = HasAnswerFor (command_of words) all
 
--- a status under which the command's text isn't written
+-- a status for which the command's text isn't written
 abbrev pub IsRefusal : Status → Type 0
 IsRefusal ended.Done = ⊥
 IsRefusal ended.WriteFault = ⊥
 IsRefusal _ = Unit {0}
 
--- no name whose turn it was is the last that joined the failed names
+-- no name that was due is the last one that joined the failed names
 abbrev pub NoDueFails : List (List ℕ) → Files → List (List ℕ) → List (List ℕ) → Type 0
 NoDueFails words all old new = (name : List ℕ) → IsDue words all name → JoinedLast old new name → ⊥

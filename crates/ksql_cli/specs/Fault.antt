@@ -41,17 +41,17 @@ step_why_text step_why.UnknownTask = codes "UnknownTask"
 step_why_text step_why.NoWorker = codes "NoWorker"
 step_why_text step_why.TooLarge = codes "TooLarge"
 
--- the line of a script that is refused in this statement by this code
+-- the line of a script refused in this statement with this code
 unfoldable pub script_line : ℕ → Code → List ℕ
 script_line statement code =
     codes "ksql: script statement " ++ (decimal statement ++ (codes ": " ++ (code_text code ++ codes "\n")))
 
--- the line of a topic file that is refused at this line
+-- the line of a topic file refused at this line
 unfoldable pub topic_line : List ℕ → ℕ → LineWhy → List ℕ
 topic_line topic line why =
     codes "ksql: topic " ++ (topic ++ (codes " line " ++ (decimal line ++ (codes ": " ++ (why_text why ++ codes "\n")))))
 
--- the line of a schedule that is refused at this line
+-- the line of a schedule refused at this line
 unfoldable pub schedule_line : ℕ → StepWhy → List ℕ
 schedule_line line why = codes "ksql: schedule line " ++ (decimal line ++ (codes ": " ++ (step_why_text why ++ codes "\n")))
 
@@ -63,7 +63,7 @@ read_line name = codes "ksql: cannot read " ++ (name ++ codes "\n")
 unfoldable pub usage_line : List ℕ
 usage_line = codes "ksql: bad command line\n"
 
--- the line of out of memory
+-- the line for out of memory
 unfoldable pub memory_line : List ℕ
 memory_line = codes "ksql: out of memory\n"
 

@@ -11,12 +11,12 @@ use Rattle.ksql_cli.specs.declared.status.Status.TheVariants as ended
 use Rattle.ksql_cli.specs.Command.{Files, Runs, demo_asked, demo_files}
 use Rattle.ksql_cli.specs.Run.{Run, progress_of}
 
--- the cluster of the run's program has taken all its steps: it has the broker, the tasks and the journal of the whole run, and its state
--- is good
+-- the cluster of the run's program has taken all its steps: it has the broker, the tasks and the journal of the whole
+-- run, and its state is good
 abbrev pub HasRun : Run → Cluster → Type 0
 HasRun run cluster = HasCome run.program.items (progress_of run) cluster
 
--- what a command leaves where its own text was begun: of a run and of a demo the cluster that ran, and else none
+-- what a command leaves if its own text was begun: for a run and a demo the cluster that ran, else none
 abbrev pub LeavesCluster : Option Command → Files → Option Cluster → Type 0
 LeavesCluster (Some (run_words script topics workers schedule trace)) all ran =
     (run : Run) × Runs (record { script = script; topics = topics; workers = workers; schedule = schedule; trace = trace }) all run × IsSomeAnd ran (HasRun run)

@@ -1,4 +1,4 @@
--- What the stages of a command say: how they end without an answer, and which names join.
+-- The stages of a command: how they end without a result, and which names join.
 use Rattle.std.specs.Prelude.{◌≡◌, ◌⊎◌, ◌≤◌, ℕ, All, List, [], ◌∷◌, ◌++◌, length, Option, None, Some, IfSome}
 use Rattle.std.specs.List.{AllByRecursion}
 use Rattle.ksql_outside.specs.Outside.{MayJoin}
@@ -28,11 +28,11 @@ pub record HasShortNames (a : Asked) : Type 0 where
 abbrev pub IsRunDue : Asked → Files → List ℕ → Type 0
 IsRunDue a all name = (name ≡ a.script) ⊎ IsLaterDue a all name
 
--- the names that joined are all due in a run
+-- all names that joined are due in a run
 abbrev pub AreDueIn : Asked → Files → List (List ℕ) → List (List ℕ) → Type 0
 AreDueIn a all old new = (names : List (List ℕ)) × (new ≡ old ++ names) × AllByRecursion (IsRunDue a all) names
 
--- why the script of this name gave no program
+-- why the script with this name gave no program
 abbrev pub IsScriptFailure : List ℕ → Files → List (List ℕ) → List (List ℕ) → Status → Type 0
 IsScriptFailure script all old new (ended.Script statement code) = IsScriptRefused script all statement code
 IsScriptFailure script all old new (ended.ReadFault name) = (name ≡ script) × (new ≡ old ++ name ∷ [])
@@ -46,7 +46,7 @@ IsScheduleFailure a all program old new (ended.ReadFault name) = (a.schedule ≡
 IsScheduleFailure a all program old new ended.OutOfMemory = Unit {0}
 IsScheduleFailure a all program old new _ = ⊥
 
--- at most the name that is asked for joined
+-- at most the requested name joined
 abbrev pub IsExpected : Option (List ℕ) → List (List ℕ) → List (List ℕ) → Type 0
 IsExpected None old new = new ≡ old
 IsExpected (Some name) old new = MayJoin old new name
@@ -58,21 +58,22 @@ IsRunRefusal ended.Usage = ⊥
 IsRunRefusal ended.WriteFault = ⊥
 IsRunRefusal _ = Unit {0}
 
--- Usage says that the words are no command
+-- Usage means that the words are no command
 abbrev pub IsUsage : List (List ℕ) → Status → Type 0
 IsUsage words status = status ≡ ended.Usage → command_of words ≡ None
 
--- what a run reads fits together: a sound program, records of its declared relations, and steps that are built
+-- the inputs of a run fit together: a sound program, records of its declared relations, and steps that a cluster can
+-- take
 pub record AreInputs (i : Inputs) : Type 0 where
   pub sound : IsSound i.program.items
   pub files : AreFilesOf i.program.items i.files.items
   pub built : All (λ l. IsBuilt l.step) i.schedule.steps
 
--- a run that is asked for reads this
+-- a requested run reads this
 pub record ReadsInputs (a : Asked) (all : Files) (i : Inputs) : Type 0 where
   pub read : AreRead a all i.program i.files.items
   pub steps : IsScheduled a.schedule a.workers all i.program i.schedule.steps
 
--- the run of a program on some files that is asked for
+-- the requested run of a program on some files
 abbrev pub run_of : Asked → Ran → List TopicLines → Run
 run_of a ran files = record { program = ran.program; files = files; workers = a.workers; steps = ran.schedule.steps; trace = a.trace }

@@ -1,4 +1,4 @@
--- The ways in which a command ends.
+-- The statuses of a command.
 use Rattle.std.specs.Prelude.{ℕ}
 use Rattle.ksql_script.specs.declared.fault.ScriptFault.{ScriptFault}
 use Rattle.ksql_script.specs.declared.fault.ScriptFault.TheVariants as script
@@ -9,7 +9,7 @@ use Rattle.command_line.specs.declared.fault.WordsFault.TheVariants as words
 use Rattle.ksql_cli.specs.declared.status.Status.{Status}
 use Rattle.ksql_cli.specs.declared.status.Status.TheVariants.{Done, Usage, Script, TopicFile, Schedule, ReadFault, WriteFault, OutOfMemory}
 
--- the exit status of each
+-- the exit status of each status
 abbrev pub exit_code : Status → ℕ
 exit_code Done = 0
 exit_code Usage = 2

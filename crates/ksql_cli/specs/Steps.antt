@@ -1,4 +1,4 @@
--- What the steps of a command say of the files that they read.
+-- The steps of a command and the files that they read.
 use Rattle.std.specs.Prelude.{◌≡◌, ◌⊎◌, ◌≤◌, ℕ, List, [], ◌∷◌, ◌++◌, length, Some}
 use Rattle.std.specs.List.{AllByRecursion}
 use Rattle.ksql_types.specs.declared.relation.Relation.{Relation}

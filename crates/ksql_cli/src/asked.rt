@@ -1,7 +1,7 @@
 use ksql_types::Word;
 
-/// What the words of a run ask for: a script, the folder of its topic files, how many workers are live at first, perhaps a
-/// schedule, and whether the trace is printed.
+/// What a run asks for: a script, the folder of its topic files, the number of workers that are live at first, an
+/// optional schedule, and whether to print the trace.
 #[derive(Debug, Drop)]
 pub(crate) struct Asked {
     pub script: Word,

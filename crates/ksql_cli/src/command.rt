@@ -9,8 +9,8 @@ use std::process::ExitCode;
 use std::rt::Files;
 use std::{env, mem};
 
-/// Runs the command that the process was started with, in the working folder and to standard output, and gives the exit
-/// code of its status.
+/// Runs the command line of the process, in the working folder and to standard output, and returns the exit code of its
+/// status.
 pub fn run_command<R: AllocGlobal + Env + Files + Print>(rt: &R) -> ExitCode {
     let alloc = rt.alloc();
     let mut folder = DirFolder::new(rt, alloc);
@@ -23,12 +23,12 @@ pub fn run_command<R: AllocGlobal + Env + Files + Print>(rt: &R) -> ExitCode {
             status
         }
     };
-    // The process ends: to give its memory back record by record would only take time.
+    // The process ends, so freeing its memory record by record would only take time.
     mem::forget(ran);
     ExitCode::from(status.code())
 }
 
-/// The words of the command line, the program's name first.
+/// The words of the command line, with the program's name first.
 fn words<R: AllocGlobal + Env>(rt: &R) -> Result<Words, Status> {
     let mut words = Vec::new(rt.alloc());
     let args = match env::args(rt) {

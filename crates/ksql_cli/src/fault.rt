@@ -12,7 +12,7 @@ use ksql_types::{Chars, Code};
 use schedule_text::StepWhy;
 use topic_files::LineWhy;
 
-/// Tries to write the fault line of a status: all of it, or a front of it where a write failed. Takes no memory.
+/// Tries to write the fault line of a status: all of it, or a prefix if a write fails. Takes no memory.
 pub(crate) fn write_fault<K: Sink>(out: &mut K, status: &Status) -> Result<(), Failed>
     ensures whole { OnOk result (K.written out.new ≡ followed_by (K.written out.old) (spec.fault_line status.now)) }
     ensures prefix { OnErr result (WrotePrefix (K.written out.old) (K.written out.new) (spec.fault_line status.now)) }
@@ -33,7 +33,7 @@ pub(crate) fn write_fault<K: Sink>(out: &mut K, status: &Status) -> Result<(), F
     }
 }
 
-/// Tries to write the fault line of a script that was refused in this statement by this code.
+/// Tries to write the fault line of a script refused at this statement with this code.
 fn write_script_line<K: Sink>(out: &mut K, statement: u32, code: Code) -> Result<(), Failed>
     ensures whole { OnOk result (K.written out.new ≡ followed_by (K.written out.old) (spec.script_line statement code)) }
     ensures prefix { OnErr result (WrotePrefix (K.written out.old) (K.written out.new) (spec.script_line statement code)) }
@@ -49,7 +49,7 @@ fn write_script_line<K: Sink>(out: &mut K, statement: u32, code: Code) -> Result
     )
 }
 
-/// Tries to write the fault line of a topic file that was refused at this line.
+/// Tries to write the fault line of a topic file refused at this line.
 fn write_topic_line<K: Sink>(
     out: &mut K,
     topic: &Chars,
@@ -69,7 +69,7 @@ fn write_topic_line<K: Sink>(
     write_pieces(out, &[line, b": ", why, b"\n"])
 }
 
-/// Tries to write the fault line of a schedule that was refused at this line.
+/// Tries to write the fault line of a schedule refused at this line.
 fn write_schedule_line<K: Sink>(out: &mut K, line: u32, why: StepWhy) -> Result<(), Failed>
     ensures whole { OnOk result (K.written out.new ≡ followed_by (K.written out.old) (spec.schedule_line line why)) }
     ensures prefix { OnErr result (WrotePrefix (K.written out.old) (K.written out.new) (spec.schedule_line line why)) }
@@ -82,7 +82,7 @@ fn write_schedule_line<K: Sink>(out: &mut K, line: u32, why: StepWhy) -> Result<
     write_pieces(out, &[b"ksql: schedule line ", line, b": ", why, b"\n"])
 }
 
-/// Writes all of some pieces, one after the other, until a write fails.
+/// Writes some pieces in order, until a write fails.
 fn write_pieces<K: Sink>(out: &mut K, pieces: &[&[u8]]) -> Result<(), Failed>
     ensures whole { OnOk result (K.written out.new ≡ followed_by (K.written out.old) (flat_map (λ p. p.now) pieces.now)) }
     ensures prefix { OnErr result (WrotePrefix (K.written out.old) (K.written out.new) (flat_map (λ p. p.now) pieces.now)) }
@@ -132,7 +132,7 @@ fn why_text(why: LineWhy) -> &'static str
     }
 }
 
-/// Why a line of a schedule was refused, as it is written.
+/// Why a line of a schedule is refused, as it is printed.
 fn step_why_text(why: StepWhy) -> &'static str
     ensures { result.now ≡ spec.step_why_text why }
 {

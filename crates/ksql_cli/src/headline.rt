@@ -13,14 +13,15 @@ use crate::fault::write_fault;
 use crate::status::Status;
 use crate::texts::{Finished, demonstrated, explained, reported};
 use cluster_core::Cluster;
+use command_line::{Command, read_words};
 use ksql_outside::{Failed, Folder, Gate, Sink, write_whole};
 use ksql_types::Words;
-use command_line::{Command, read_words};
 use std::alloc::Global;
 
-/// Does what the words say: runs a script, that is, reads the script, its topic files and its schedule from the folder, runs a
-/// cluster of the script's program with so many workers through the steps of the schedule, and writes the report of what its
-/// broker shows; or explains a script, that is, writes its topology; or runs the demo; or else writes the line that says why not.
+/// Does what the words say. `run` reads the script, its topic files and its schedule from the folder, runs a cluster of
+/// the script's program with the given number of workers through the steps of the schedule, and writes the report of
+/// what its broker shows; `explain` writes the topology of a script; `demo` runs the demo. Otherwise it writes the line
+/// that says why not.
 pub fn ksql<R, F: Folder, K: Sink, G: Gate + Sync>(
     _rt: &R,
     alloc: Global,
@@ -30,8 +31,8 @@ pub fn ksql<R, F: Folder, K: Sink, G: Gate + Sync>(
     _gate: &G,
     ran: &mut Option<Cluster>,
 ) -> Status
-    // The command's text is written, and nothing else: the report of the script's program on its topic files after the steps of its
-    // schedule, the script's topology, or the summary of the demo.
+    // The command's text is written, and nothing else: the report of the script's program on its topic files after the
+    // steps of its schedule, the script's topology, or the summary of the demo.
     ensures done { result ≡ Status.Done → IfSome (F.files folder.old) (λ all. (text : List ℕ) × HasText words.now all text
         × (K.written out.new ≡ followed_by (K.written out.old) text)) }
     // Each status has its cause in the words, the files and the names that failed.
@@ -42,13 +43,14 @@ pub fn ksql<R, F: Folder, K: Sink, G: Gate + Sync>(
     ensures write_fault { result ≡ Status.WriteFault → Rose (K.faults out.old) (K.faults out.new) }
     ensures prefix { result ≡ Status.WriteFault → IfSome (F.files folder.old) (λ all. (text : List ℕ) × HasText words.now all text
         × WrotePrefix (K.written out.old) (K.written out.new) text) }
-    // Under any other status nothing but its fault line is written: a front of it, and all of it unless a write failed.
+    // Under any other status only its fault line is written: all of it, or a prefix if a write failed.
     ensures fault { IsRefusal result → WrotePrefix (K.written out.old) (K.written out.new) (fault_line result) }
     ensures whole_fault { IsRefusal result → ¬ Rose (K.faults out.old) (K.faults out.new)
         → K.written out.new ≡ followed_by (K.written out.old) (fault_line result) }
     // The words and the files decide a status, unless a file that is due isn't there.
     ensures decided { IfSome (F.files folder.old) (λ all. HasAnswer words.now all) }
-    // A decided status that has its cause comes, unless memory is short, a due name failed or, where a text is due, a write failed.
+    // A decided status that has its cause is returned, unless memory is short, a due name failed or, if a text is due,
+    // a write failed.
     ensures exact { IfSome (F.files folder.old) (λ all. NoDueFails words.now all (F.failed folder.old) (F.failed folder.new)
         → (status : OneStatus) → IsDecided status → HasCause words.now all (F.failed folder.old) (F.failed folder.new) status
         → (status ≡ Status.Done → ¬ Rose (K.faults out.old) (K.faults out.new)) → (result ≡ status) ⊎ (result ≡ Status.OutOfMemory)) }
@@ -57,7 +59,7 @@ pub fn ksql<R, F: Folder, K: Sink, G: Gate + Sync>(
         → NoDueFails words.now all (F.failed folder.old) (F.failed folder.new) → ¬ Rose (K.faults out.old) (K.faults out.new)
         → (result ≡ Status.Done) ⊎ (result ≡ Status.OutOfMemory)) }
     ensures same_files { F.files folder.new ≡ F.files folder.old }
-    // The cluster that ran is handed back where the text of a run was begun, and else none.
+    // The cluster that ran is handed back if the text of a run was begun, and none otherwise.
     ensures ran { IfSome (F.files folder.old) (λ all. Leaves words.now all result ran.new) }
 {
     match whole_text(alloc, words, folder) {

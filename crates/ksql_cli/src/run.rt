@@ -21,7 +21,7 @@ use std::alloc::{AllocError, Global};
 use topic_files::TopicLines;
 use topology_build::build;
 
-/// A cluster that ran, with its program and its schedule.
+/// A cluster after its run, with its program and its schedule.
 #[derive(Drop)]
 pub(crate) struct Ran {
     pub program: Program,
@@ -29,7 +29,7 @@ pub(crate) struct Ran {
     pub cluster: Cluster,
 }
 
-/// What a run reads: its program, the records of its topic files, and its schedule.
+/// The inputs of a run: its program, the records of its topic files, and its schedule.
 #[derive(Drop)]
 pub(crate) struct Inputs {
     pub program: Program,
@@ -37,7 +37,7 @@ pub(crate) struct Inputs {
     pub schedule: Schedule,
 }
 
-/// What the run that is asked for reads.
+/// Reads the inputs of the requested run.
 pub(crate) fn inputs_of<F: Folder>(
     alloc: Global,
     asked: &Asked,
@@ -68,7 +68,7 @@ pub(crate) fn inputs_of<F: Folder>(
     })
 }
 
-/// The run of what was read, with so many workers.
+/// Runs a cluster on these inputs, with `workers` workers.
 pub(crate) fn run(alloc: Global, inputs: Inputs, workers: u32) -> Result<Ran, AllocError>
     requires { AreInputs inputs }
     ensures program { IfOk result (λ ran. ran.program ≡ inputs.program) }
@@ -91,7 +91,7 @@ pub(crate) fn run(alloc: Global, inputs: Inputs, workers: u32) -> Result<Ran, Al
     })
 }
 
-/// The program of the script of this name.
+/// The program of the script with this name.
 #[tactic(auto, unfolding(ksql_types::specs::Text::longest_text))]
 pub(crate) fn accepted_program<F: Folder>(
     alloc: Global,
@@ -112,7 +112,7 @@ pub(crate) fn accepted_program<F: Folder>(
     Ok(program_of_script(alloc, script.as_slice())?)
 }
 
-/// The steps of a run: those that its schedule says, or without one a feed of all records and a drain.
+/// The steps of a run: those of its schedule, or without one a feed of all records and a drain.
 #[tactic(auto, unfolding(ksql_types::specs::Text::longest_text))]
 fn schedule_of<F: Folder>(
     alloc: Global,

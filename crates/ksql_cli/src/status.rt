@@ -1,9 +1,9 @@
 ghost use Rattle.std.specs.Prelude.{◌≡◌};
 ghost use Rattle.ksql_cli.specs.Status.{exit_code};
 
+use command_line::WordsFault;
 use ksql_script::ScriptFault;
 use ksql_types::{Chars, Code};
-use command_line::WordsFault;
 use schedule_text::{ScheduleFault, StepWhy};
 use std::alloc::{AllocError, AllocFailed};
 use topic_files::LineWhy;
@@ -15,7 +15,7 @@ pub enum Status {
     Done,
     /// The words aren't a command.
     Usage,
-    /// The script was refused: at this statement, counted from 1 (0 is the script as a whole), for this reason.
+    /// The script was refused: at this statement, counted from 1 (0 is the script as a whole), with this code.
     Script {
         statement: u32,
         code: Code,
@@ -31,7 +31,7 @@ pub enum Status {
         line: u32,
         why: StepWhy,
     },
-    /// The file of this name couldn't be read.
+    /// The file with this name couldn't be read.
     ReadFault {
         name: Chars,
     },

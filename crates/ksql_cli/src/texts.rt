@@ -1,4 +1,4 @@
-//! The texts of commands.
+//! The texts that commands print.
 ghost use Rattle.std.specs.Prelude.{◌≡◌, ◌≤◌, IfErr, IfOk, IfSome, None, length};
 ghost use Rattle.ksql_types.specs.Text.{longest_text};
 ghost use Rattle.std.specs.Option.{IsSomeAnd};
@@ -27,14 +27,14 @@ use std::alloc::{AllocError, Global};
 use topology_build::{build, describe};
 use trace_text::push_trace;
 
-/// The text of a command, and the cluster that ran for it.
+/// The text that a command prints, and the cluster that ran for it.
 #[derive(Drop)]
 pub(crate) struct Finished {
     pub text: Vec<u8>,
     pub cluster: Option<Cluster>,
 }
 
-/// The report of the run that is asked for.
+/// The report of the requested run.
 pub(crate) fn reported<F: Folder>(
     alloc: Global,
     asked: &Asked,
@@ -61,7 +61,7 @@ pub(crate) fn reported<F: Folder>(
     })
 }
 
-/// The report of a run, with its trace or without.
+/// The report of a run, with its trace if `trace` is true.
 fn report(alloc: Global, trace: bool, ran: &Ran) -> Result<Vec<u8>, AllocError>
     requires sound { IsSound ran.now.program.items }
     requires came { (run : Run) × (run.program ≡ ran.now.program) × HasRun run ran.now.cluster }
@@ -80,7 +80,7 @@ fn report(alloc: Global, trace: bool, ran: &Ran) -> Result<Vec<u8>, AllocError>
     Ok(text.into_bytes())
 }
 
-/// The topology of the script of this name, as text.
+/// The topology of the script with this name, as text.
 pub(crate) fn explained<F: Folder>(
     alloc: Global,
     name: &str,
@@ -114,7 +114,7 @@ fn described(alloc: Global, program: &Program) -> Result<Vec<u8>, AllocError>
     Ok(describe(alloc, program, &topology)?.into_items())
 }
 
-/// The summary of a demo of so many records, with so many workers.
+/// The summary of a demo of `records` records with `workers` workers.
 pub(crate) fn demonstrated(
     alloc: Global,
     records: u32,
@@ -135,7 +135,7 @@ pub(crate) fn demonstrated(
     })
 }
 
-/// What a demo that asks this reads, of so many records. Its texts are gone before it runs.
+/// The inputs of a demo of `records` records. Its texts are freed before it runs.
 fn demo_inputs(alloc: Global, asked: &Asked, records: u32) -> Result<Inputs, AllocError>
     requires short { HasShortNames asked.now }
     ensures inputs { IfOk result AreInputs }
@@ -148,7 +148,7 @@ fn demo_inputs(alloc: Global, asked: &Asked, records: u32) -> Result<Inputs, All
     }
 }
 
-/// What a demo asks for.
+/// What a demo asks for: its files and `workers` workers.
 fn demo_asked(alloc: Global, workers: u32) -> Result<Asked, AllocError>
     ensures { IfOk result (λ asked. asked ≡ demo_asked workers) }
 {
@@ -161,7 +161,7 @@ fn demo_asked(alloc: Global, workers: u32) -> Result<Asked, AllocError>
     })
 }
 
-/// The files of a demo, in memory.
+/// A folder in memory with the files of a demo.
 #[tactic(auto, unfolding(ksql_types::specs::Text::longest_text))]
 fn demo_folder(alloc: Global, records: u32) -> Result<MemFolder, AllocError>
     ensures { IfOk result (λ folder. folder.files ≡ demo_files records) }
@@ -176,7 +176,7 @@ fn demo_folder(alloc: Global, records: u32) -> Result<MemFolder, AllocError>
     Ok(MemFolder::new(alloc, files, Vec::new(alloc)))
 }
 
-/// A name, copied.
+/// A copy of a name.
 pub(crate) fn copied_name(alloc: Global, name: &str) -> Result<Chars, AllocError>
     requires { length name.now ≤ longest_text }
     ensures { IfOk result (λ copied. copied ≡ name.now) }

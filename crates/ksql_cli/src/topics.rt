@@ -1,4 +1,4 @@
-//! Reading the files whose turn it is.
+//! Reading the topic files one by one.
 
 ghost use Rattle.std.specs.Prelude.{◌≡◌, ◌⊎◌, ◌≤◌, ◌-◌, ◌++◌, ◌∷◌, [], All, List, ℕ, Some, length, IfOk, IfErr, IfSome};
 ghost use Rattle.ksql_types.specs.Text.{longest_text};
@@ -20,7 +20,7 @@ use ksql_types::{Chars, CopyOf, Relation};
 use std::alloc::Global;
 use topic_files::{FileFault, LineWhy, Room, TopicLines, read_topic};
 
-/// How many records and bytes the topic files can have, all together.
+/// The most records and bytes that all topic files can have together.
 #[tactic(auto, unfolding(crate::specs::Command::whole_room))]
 pub(crate) fn whole_room() -> Room
     ensures { result ≡ spec.whole_room }
@@ -31,8 +31,8 @@ pub(crate) fn whole_room() -> Room
     }
 }
 
-/// The records of the topic files of the declared relations among these items, one list for each, from a folder, after the
-/// files that were read before. All files share a room.
+/// Reads the topic file of each declared relation among the items from a folder, after the files already read. All
+/// files share one room.
 pub(crate) fn read_topics<F: Folder>(
     alloc: Global,
     folder: &mut F,
@@ -66,14 +66,14 @@ pub(crate) fn read_topics<F: Folder>(
     read_topics(alloc, folder, dir, rest, reading)
 }
 
-/// The files that were read so far, and the room that is left.
+/// The files read so far, and the room left.
 #[derive(Drop)]
 pub(crate) struct Reading {
     pub files: Vec<TopicLines>,
     pub room: Room,
 }
 
-/// A relation's topic file after others, and what room it leaves.
+/// Reads a relation's topic file, and takes its records and bytes from the room.
 #[tactic(auto, unfolding(ksql_types::specs::Text::longest_text))]
 fn with_topic<F: Folder>(
     alloc: Global,
@@ -109,7 +109,7 @@ fn with_topic<F: Folder>(
     }
 }
 
-/// A file of so many bytes after others, and what room it leaves.
+/// Appends a file of `bytes` bytes, and takes its records and bytes from the room.
 fn with_lines(reading: Reading, lines: TopicLines, bytes: usize) -> Result<Reading, Status>
     ensures files { IfOk result (λ read. read.files.items ≡ reading.files.items ++ lines ∷ []) }
     ensures record_room { IfOk result (λ read. read.room.records ≡ reading.room.records - length lines.feds) }
@@ -126,7 +126,7 @@ fn with_lines(reading: Reading, lines: TopicLines, bytes: usize) -> Result<Readi
     Ok(Reading { files, room })
 }
 
-/// That the topic file of this topic is refused at this line.
+/// The status for a topic file that is refused at `line`.
 fn bad_file(alloc: Global, topic: &Chars, line: u32, why: LineWhy) -> Status
     ensures { (result ≡ Status.TopicFile topic.now line why) ⊎ (result ≡ Status.OutOfMemory) }
 {
@@ -136,7 +136,7 @@ fn bad_file(alloc: Global, topic: &Chars, line: u32, why: LineWhy) -> Status
     }
 }
 
-/// The bytes of a file whose turn it is.
+/// The bytes of a file.
 pub(crate) fn due_file<F: Folder>(
     alloc: Global,
     folder: &mut F,

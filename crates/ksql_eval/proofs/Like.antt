@@ -1,9 +1,9 @@
--- The search of LIKE: where it stands, and where it begins again.
+-- The search of LIKE: its position, and where it starts again.
 use Rattle.std.proofs.Common.{◌≡◌, ◌∙◌, ap, sym, refl, ℕ, ◌==◌, Bool, true, false, ◌&&◌, ◌||◌, List, [], ◌∷◌, inl, inr, rules}
 use Rattle.std.proofs.lemmas.Bool.{or_cases, or_left, or_right, and_parts, cond-false, false≢true}
 use Rattle.ksql_expr.specs.Value.{is_like, some_tail}
 
--- whether a test holds of what is left of the characters after one or more
+-- whether a test holds of the characters after the first one or more
 abbrev pub later : (List ℕ → Bool) → List ℕ → Bool
 later test [] = false
 later test (c ∷ cs) = some_tail test cs

@@ -1,4 +1,4 @@
--- The value that an operand is, lent or made; and the values of the WHENs of a CASE.
+-- The value of an operand, borrowed or computed; and the values of the WHENs of a CASE.
 use Rattle.std.specs.Prelude.{◌≡◌, ℕ, List, map, Result, IfOk}
 use Rattle.std.specs.declared.alloc.AllocError.{AllocError}
 use Rattle.ksql_types.specs.declared.value.Value.{Value}
@@ -11,7 +11,7 @@ abbrev pub worth : Operand → Value
 worth (Lent value) = value.now
 worth (Made value) = value
 
--- what was evaluated is worth a value, unless memory ran out
+-- a result of evaluation has this value, unless memory ran out
 abbrev pub IsWorth : Result Operand AllocError → Value → Type 0
 IsWorth made value = IfOk made (λ operand. worth operand ≡ value)
 

@@ -1,11 +1,11 @@
--- A row where it lies.
+-- A row as it is stored.
 use Rattle.std.specs.Prelude.{List, ◌++◌}
 use Rattle.ksql_types.specs.declared.value.Value.{Value}
 use Rattle.ksql_expr.specs.declared.typed.Typed.{Typed}
 use Rattle.ksql_expr.specs.Value.{value_of}
 use Rattle.ksql_eval.specs.declared.view.RowView.{RowView}
 
--- the cells of a row: those of its key, and then its own
+-- the cells of a row: those of its key, then its own
 abbrev pub cells : RowView → List Value
 cells v = v.key.now ++ v.row.now
 

@@ -5,8 +5,8 @@ ghost use Rattle.ksql_expr.specs.Value.{value_order, compare_so};
 use ksql_types::Value;
 use std::cmp::Ordering;
 
-/// How two values compare: numbers by value, texts by bytes, false before true. None where one is NULL, or where their
-/// types can't be compared.
+/// Compares two values: numbers by value, texts by bytes, false before true. None if one is NULL, or if their types
+/// can't be compared.
 pub fn value_order(left: &Value, right: &Value) -> Option<Ordering>
     ensures { result ≡ value_order left.now right.now }
 {
@@ -21,7 +21,7 @@ pub fn value_order(left: &Value, right: &Value) -> Option<Ordering>
     }
 }
 
-/// `=`; false where one is NULL.
+/// `=`; false if one is NULL.
 pub fn is_equal(left: &Value, right: &Value) -> bool
     ensures { result ≡ compare_so is_eq left.now right.now }
 {
@@ -31,7 +31,7 @@ pub fn is_equal(left: &Value, right: &Value) -> bool
     }
 }
 
-/// `<>`; false where one is NULL.
+/// `<>`; false if one is NULL.
 pub fn is_other(left: &Value, right: &Value) -> bool
     ensures { result ≡ compare_so is_ne left.now right.now }
 {
@@ -41,7 +41,7 @@ pub fn is_other(left: &Value, right: &Value) -> bool
     }
 }
 
-/// `<`; false where one is NULL.
+/// `<`; false if one is NULL.
 pub fn is_less(left: &Value, right: &Value) -> bool
     ensures { result ≡ compare_so is_lt left.now right.now }
 {
@@ -51,7 +51,7 @@ pub fn is_less(left: &Value, right: &Value) -> bool
     }
 }
 
-/// `<=`; false where one is NULL.
+/// `<=`; false if one is NULL.
 pub fn is_at_most(left: &Value, right: &Value) -> bool
     ensures { result ≡ compare_so is_le left.now right.now }
 {
@@ -61,7 +61,7 @@ pub fn is_at_most(left: &Value, right: &Value) -> bool
     }
 }
 
-/// `>`; false where one is NULL.
+/// `>`; false if one is NULL.
 pub fn is_greater(left: &Value, right: &Value) -> bool
     ensures { result ≡ compare_so is_gt left.now right.now }
 {
@@ -71,7 +71,7 @@ pub fn is_greater(left: &Value, right: &Value) -> bool
     }
 }
 
-/// `>=`; false where one is NULL.
+/// `>=`; false if one is NULL.
 pub fn is_at_least(left: &Value, right: &Value) -> bool
     ensures { result ≡ compare_so is_ge left.now right.now }
 {

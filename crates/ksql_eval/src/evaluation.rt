@@ -1,5 +1,5 @@
-//! The value of an expression on a row. A function whose frame stands on the stack once for each level of an expression
-//! isn't inlined, and leaves what is made of the values of the parts to `forms`, so that its frame is small.
+//! The value of an expression on a row. Functions whose frames stand on the stack once per level of an expression
+//! aren't inlined, and leave the work on the values of the parts to `forms`, so that their frames stay small.
 
 ghost use Rattle.std.specs.Prelude.{◌≡◌, ◌&&◌, not, IfOk, map, option_map};
 ghost use Rattle.std.specs.List.{list_any, flat_map};
@@ -18,14 +18,14 @@ use ksql_types::{BinaryOp, Boxed as Box, Chars, SqlType, Value};
 use std::alloc::{AllocError, Global};
 
 /// The value of an expression on a row at a time. A column that the row lacks is NULL, and so is an aggregate, which
-/// has no value on one row.
+/// has no value on a single row.
 pub fn eval(alloc: Global, typed: &Typed, view: &RowView) -> Result<Value, AllocError>
     ensures { IfOk result (λ value. value ≡ value_of (cells view.now) view.now.time typed.now) }
 {
     operand_of(alloc, typed, view)?.into_value(alloc)
 }
 
-/// Whether a condition holds on a row: whether its value is TRUE.
+/// Whether a condition holds on a row: its value is TRUE.
 pub fn holds(alloc: Global, on: &Typed, view: &RowView) -> Result<bool, AllocError>
     ensures { IfOk result (λ passed. passed ≡ is_true_value (value_of (cells view.now) view.now.time on.now)) }
 {
@@ -33,7 +33,7 @@ pub fn holds(alloc: Global, on: &Typed, view: &RowView) -> Result<bool, AllocErr
     Ok(is_true(truth.get()))
 }
 
-/// The value of an expression, lent where it is a literal or a column.
+/// The value of an expression, borrowed if it is a literal or a column.
 #[cycle(eval)]
 #[inline(never)]
 fn operand_of<'a>(alloc: Global, typed: &'a Typed, view: &RowView<'a>) -> Evaluated<Operand<'a>>
@@ -76,7 +76,7 @@ fn operand_of<'a>(alloc: Global, typed: &'a Typed, view: &RowView<'a>) -> Evalua
     }
 }
 
-/// A sign before a number.
+/// A sign and its number.
 #[cycle(eval)]
 #[inline(never)]
 fn sign_of<'a>(
@@ -91,7 +91,7 @@ fn sign_of<'a>(
     forms::sign(ty, minus, operand_of(alloc, arg, view))
 }
 
-/// An operator between two expressions, in the type of the whole.
+/// An operator and its two expressions, in the result type.
 #[cycle(eval)]
 #[inline(never)]
 fn binary_of<'a>(
@@ -208,7 +208,7 @@ fn cast_of<'a>(
     forms::cast(alloc, to, operand_of(alloc, arg, view))
 }
 
-/// CASE, in the type of the whole: the result of the first WHEN that is taken, else that of ELSE.
+/// CASE, in the result type: the result of the first WHEN that is taken, else that of ELSE.
 #[cycle(eval)]
 #[inline(never)]
 fn case_of<'a>(
@@ -231,7 +231,7 @@ fn case_of<'a>(
     forms::or_null(ty, perhaps(alloc, otherwise, view))
 }
 
-/// The value of an expression that may be left out.
+/// The value of an optional expression.
 #[cycle(eval)]
 #[inline(never)]
 fn perhaps<'a>(
@@ -247,7 +247,7 @@ fn perhaps<'a>(
     }
 }
 
-/// A function of some expressions, in the type of the whole.
+/// A function and its arguments, in the result type.
 #[cycle(eval)]
 #[inline(never)]
 fn call_of<'a>(
@@ -267,7 +267,7 @@ fn call_of<'a>(
     }
 }
 
-/// The texts of some expressions joined, NULL counting as the empty text; NULL where the whole is too long.
+/// The concatenation of texts, where NULL counts as the empty text; NULL if the result is too long.
 #[cycle(eval)]
 #[inline(never)]
 fn concatenated<'a>(alloc: Global, args: &'a [Typed], view: &RowView<'a>) -> Evaluated<Operand<'a>>
@@ -283,7 +283,7 @@ fn concatenated<'a>(alloc: Global, args: &'a [Typed], view: &RowView<'a>) -> Eva
     Ok(Operand::Made(Value::Txt(Chars::of(whole)?)))
 }
 
-/// The first value that isn't NULL, in the type of the whole; else NULL.
+/// The first value that isn't NULL, in the result type; else NULL.
 #[cycle(eval)]
 #[inline(never)]
 fn coalesced<'a>(
@@ -303,7 +303,7 @@ fn coalesced<'a>(
     Ok(Operand::Made(Value::Null))
 }
 
-/// A function of one, two or three expressions.
+/// A function of one, two or three arguments.
 #[cycle(eval)]
 #[inline(never)]
 fn of_few<'a>(
@@ -323,7 +323,7 @@ fn of_few<'a>(
     }
 }
 
-/// A function of one expression, in the type of the whole.
+/// A function of one argument, in the result type.
 #[cycle(eval)]
 #[inline(never)]
 fn of_one<'a>(
@@ -338,7 +338,7 @@ fn of_one<'a>(
     forms::of_one(alloc, ty, fun, operand_of(alloc, arg, view))
 }
 
-/// A function of two expressions.
+/// A function of two arguments.
 #[cycle(eval)]
 #[inline(never)]
 fn of_two<'a>(
@@ -358,7 +358,7 @@ fn of_two<'a>(
     )
 }
 
-/// A function of three expressions.
+/// A function of three arguments.
 #[cycle(eval)]
 #[inline(never)]
 fn of_three<'a>(
@@ -380,7 +380,7 @@ fn of_three<'a>(
     )
 }
 
-/// The cell of a column, the key's columns being the first; NULL where the row has no such column.
+/// The cell of a column, where the key's columns come first; NULL if the row has no such column.
 fn cell<'a>(view: &RowView<'a>, column: u32) -> Operand<'a>
     ensures { worth result ≡ cell (cells view.now) column }
 {
@@ -391,7 +391,7 @@ fn cell<'a>(view: &RowView<'a>, column: u32) -> Operand<'a>
     }
 }
 
-/// The cell at an index; NULL where there is none.
+/// The cell at an index; NULL if there is none.
 fn cell_at(row: &[Value], index: usize) -> Operand<'_>
     ensures { worth result ≡ cell row.now index }
 {

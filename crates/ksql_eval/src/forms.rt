@@ -1,4 +1,5 @@
-//! What a form makes of the values of its parts: outside the functions that evaluate them, whose frames stay small so.
+//! The value of a form, given the values of its parts. It is kept apart from the functions that evaluate the parts, so
+//! that their stack frames stay small.
 
 ghost use Rattle.std.specs.Prelude.{◌≡◌, ◌&&◌, not, Option, Some, IfOk, option_map, unwrap_or};
 ghost use Rattle.std.specs.Ordering.{is_ge, is_le, is_eq};
@@ -26,14 +27,14 @@ pub fn is_true(value: &Value) -> bool
     matches!(value, Value::Bool(true))
 }
 
-/// A truth value, negated where NOT is written.
+/// A truth value, negated if NOT is written.
 pub fn with_not<'a>(negated: bool, truth: bool) -> Operand<'a>
     ensures { worth result ≡ with_not negated truth }
 {
     Operand::Made(Value::Bool(negated != truth))
 }
 
-/// A sign before a number.
+/// A number with a sign.
 #[inline(never)]
 pub fn sign<'a>(
     ty: Option<SqlType>,
@@ -50,7 +51,7 @@ pub fn sign<'a>(
     }
 }
 
-/// An operator between two values, in the type of the whole.
+/// An operator on two values, in the result type.
 #[inline(never)]
 pub fn binary<'a>(
     alloc: Global,
@@ -67,7 +68,7 @@ pub fn binary<'a>(
     Ok(Operand::Made(made))
 }
 
-/// What an operator makes of two values, in the type of the whole.
+/// The result of an operator on two values, in the result type.
 fn apply(
     alloc: Global,
     ty: Option<SqlType>,
@@ -159,7 +160,7 @@ pub fn cast<'a>(alloc: Global, to: SqlType, arg: Evaluated<Operand<'a>>) -> Eval
     Ok(Operand::Made(made))
 }
 
-/// A function of one value, in the type of the whole.
+/// A function of one value, in the result type.
 #[inline(never)]
 pub fn of_one<'a>(
     alloc: Global,
@@ -233,7 +234,7 @@ pub fn there<'a>(value: Evaluated<Operand<'a>>) -> Evaluated<Option<Operand<'a>>
     Ok(Some(value))
 }
 
-/// A value in the type of the whole.
+/// A value in the result type.
 #[inline(never)]
 pub fn widened<'a>(ty: Option<SqlType>, value: Evaluated<Operand<'a>>) -> Evaluated<Operand<'a>>
     ensures { (x : Worth) → IsWorth value.entry x → IsWorth result (widened ty x) }
@@ -242,7 +243,7 @@ pub fn widened<'a>(ty: Option<SqlType>, value: Evaluated<Operand<'a>>) -> Evalua
     Ok(value.widened(ty))
 }
 
-/// A value in the type of the whole; NULL where there is none.
+/// A value in the result type; NULL if there is none.
 #[inline(never)]
 pub fn or_null<'a>(
     ty: Option<SqlType>,

@@ -4,7 +4,7 @@ ghost use Rattle.ksql_expr.specs.Value.{whole, number, from_one, from_two, sum, 
 
 use ksql_types::{SqlType, Value};
 
-/// The whole number that a value is: an INTEGER or a BIGINT.
+/// The whole number of an INTEGER or BIGINT value.
 pub fn whole(value: &Value) -> Option<i64>
     ensures { result ≡ whole value.now }
 {
@@ -15,21 +15,21 @@ pub fn whole(value: &Value) -> Option<i64>
     }
 }
 
-/// What is left of a number in 32 bits, in two's complement.
+/// The low 32 bits of a number, in two's complement.
 fn low_half(exact: i128) -> i32
     ensures { result ≡ int_wrap w32 exact }
 {
     (exact.rem_euclid(1 << 32) as u32).cast_signed()
 }
 
-/// What is left of a number in 64 bits, in two's complement.
+/// The low 64 bits of a number, in two's complement.
 fn low_word(exact: i128) -> i64
     ensures { result ≡ int_wrap w64 exact }
 {
     (exact.rem_euclid(1 << 64) as u64).cast_signed()
 }
 
-/// A number in a type, brought into its range in two's complement; NULL in another type.
+/// A number wrapped into the range of a type, in two's complement; NULL for any other type.
 pub fn number_in(ty: Option<SqlType>, exact: i128) -> Value
     ensures { result ≡ number ty exact }
 {
@@ -40,7 +40,7 @@ pub fn number_in(ty: Option<SqlType>, exact: i128) -> Value
     }
 }
 
-/// The sum in a type; NULL of NULL.
+/// The sum in a type; NULL if an operand is NULL.
 pub fn sum(ty: Option<SqlType>, left: &Value, right: &Value) -> Value
     ensures { result ≡ from_two ty sum left.now right.now }
 {
@@ -50,7 +50,7 @@ pub fn sum(ty: Option<SqlType>, left: &Value, right: &Value) -> Value
     }
 }
 
-/// The difference in a type; NULL of NULL.
+/// The difference in a type; NULL if an operand is NULL.
 pub fn difference(ty: Option<SqlType>, left: &Value, right: &Value) -> Value
     ensures { result ≡ from_two ty difference left.now right.now }
 {
@@ -60,7 +60,7 @@ pub fn difference(ty: Option<SqlType>, left: &Value, right: &Value) -> Value
     }
 }
 
-/// The product in a type; NULL of NULL.
+/// The product in a type; NULL if an operand is NULL.
 pub fn product(ty: Option<SqlType>, left: &Value, right: &Value) -> Value
     ensures { result ≡ from_two ty product left.now right.now }
 {
@@ -70,7 +70,7 @@ pub fn product(ty: Option<SqlType>, left: &Value, right: &Value) -> Value
     }
 }
 
-/// The quotient in a type, toward zero; NULL by zero and of NULL.
+/// The quotient in a type, rounded toward zero; NULL if the divisor is 0 or an operand is NULL.
 pub fn quotient(ty: Option<SqlType>, left: &Value, right: &Value) -> Value
     ensures { result ≡ from_two ty quotient left.now right.now }
 {
@@ -81,7 +81,7 @@ pub fn quotient(ty: Option<SqlType>, left: &Value, right: &Value) -> Value
     }
 }
 
-/// The remainder in a type, with the sign of the left operand; NULL by zero and of NULL.
+/// The remainder in a type, with the sign of the left operand; NULL if the divisor is 0 or an operand is NULL.
 pub fn remainder(ty: Option<SqlType>, left: &Value, right: &Value) -> Value
     ensures { result ≡ from_two ty remainder left.now right.now }
 {
@@ -92,7 +92,7 @@ pub fn remainder(ty: Option<SqlType>, left: &Value, right: &Value) -> Value
     }
 }
 
-/// The number with the other sign, in a type; NULL of NULL.
+/// The negated number, in a type; NULL for NULL.
 pub fn negated(ty: Option<SqlType>, value: &Value) -> Value
     ensures { result ≡ from_one ty neg_ℤ value.now }
 {
@@ -102,7 +102,7 @@ pub fn negated(ty: Option<SqlType>, value: &Value) -> Value
     }
 }
 
-/// The number without its sign, in a type; NULL of NULL.
+/// The absolute value, in a type; NULL for NULL.
 pub fn magnitude(ty: Option<SqlType>, value: &Value) -> Value
     ensures { result ≡ from_one ty magnitude value.now }
 {
@@ -112,7 +112,7 @@ pub fn magnitude(ty: Option<SqlType>, value: &Value) -> Value
     }
 }
 
-/// The number in a type, or NULL where it is out of the type's range.
+/// The number in a type, or NULL if it is out of range.
 pub fn fitting(to: SqlType, number: i64) -> Value
     ensures { result ≡ fitting to number }
 {
@@ -126,7 +126,7 @@ pub fn fitting(to: SqlType, number: i64) -> Value
     }
 }
 
-/// An INTEGER as a BIGINT, where that is the type; any other value as it is.
+/// An INTEGER as a BIGINT if that is the type; any other value unchanged.
 pub fn widened(ty: Option<SqlType>, value: Value) -> Value
     ensures { result ≡ widened ty value }
 {

@@ -6,10 +6,10 @@ use crate::number::widened;
 use ksql_types::{CopyOf, SqlType, Value};
 use std::alloc::{AllocError, Global};
 
-/// What was evaluated, unless memory ran out.
+/// A result of evaluation, unless memory ran out.
 pub type Evaluated<T> = Result<T, AllocError>;
 
-/// The value of an expression: lent by the row or by the expression, or made for it.
+/// The value of an expression: borrowed from the row or the expression, or computed.
 #[derive(Drop)]
 pub enum Operand<'a> {
     Lent(&'a Value),
@@ -17,7 +17,7 @@ pub enum Operand<'a> {
 }
 
 impl<'a> Operand<'a> {
-    /// The value, lent.
+    /// The value, borrowed.
     pub fn get(&self) -> &Value
         ensures { result.now ≡ worth self.now }
     {
@@ -27,7 +27,7 @@ impl<'a> Operand<'a> {
         }
     }
 
-    /// The value, copied where it was lent.
+    /// The value, copied if it was borrowed.
     pub fn into_value(self, alloc: Global) -> Evaluated<Value>
         ensures { IfOk result (λ value. value ≡ worth self.entry) }
     {
@@ -37,7 +37,7 @@ impl<'a> Operand<'a> {
         }
     }
 
-    /// An INTEGER as a BIGINT, where that is the type; any other value as it is.
+    /// An INTEGER as a BIGINT if that is the type; any other value unchanged.
     pub fn widened(self, ty: Option<SqlType>) -> Operand<'a>
         ensures { worth result ≡ widened ty (worth self.entry) }
     {

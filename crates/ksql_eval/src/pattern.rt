@@ -4,7 +4,7 @@ ghost use Rattle.ksql_expr.specs.Value.{is_like, some_tail, is_value_like};
 
 use ksql_types::{Chars, Value};
 
-/// The first character of a text, and the text after it.
+/// The first character of a text, and the rest.
 fn first_char(text: &str) -> Option<(char, &str)>
     ensures first { MatchOption result (chars text.now ≡ []) (λ first. chars text.now ≡ first.0 ∷ chars first.1.now) }
     ensures utf8 { IfSome result (λ first. IsUtf8 first.1.now) }
@@ -14,15 +14,15 @@ fn first_char(text: &str) -> Option<(char, &str)>
     Some((first, rest.as_str()))
 }
 
-/// Whether a character of a pattern, other than `%`, stands for a character: `_` for each, another for itself.
+/// Whether a pattern's character, other than `%`, matches a character: `_` matches any, another only itself.
 fn stands_for(wanted: char, found: char) -> bool
     ensures { result ≡ ((wanted == 95) || (found == wanted)) }
 {
     wanted == '_' || found == wanted
 }
 
-/// Whether a text is like a pattern, in which `%` stands for any characters and `_` for one. In time at most the product
-/// of their lengths.
+/// Whether a text matches a pattern, in which `%` matches any characters and `_` exactly one. Takes time at most the
+/// product of their lengths.
 fn is_like(pattern: &str, text: &str) -> bool
     ensures { result ≡ is_like (chars pattern.now) (chars text.now) }
 {
@@ -42,8 +42,8 @@ fn is_like(pattern: &str, text: &str) -> bool
     first_char(left).is_none()
 }
 
-/// Whether a text, or what is left of it after some characters, is like a pattern. Where the pattern fails, it is tried
-/// again one character further on: from its last `%`, since what stands before that was found as early as it can be.
+/// Whether a text, or what follows some of its first characters, matches a pattern. If the pattern fails, it is tried
+/// again one character further on, from its last `%`: what precedes that was matched as early as possible.
 fn ends_like(pattern: &str, text: &str) -> bool
     ensures { result ≡ some_tail (is_like (chars pattern.now)) (chars text.now) }
 {
@@ -68,7 +68,7 @@ fn ends_like(pattern: &str, text: &str) -> bool
     }
 }
 
-/// LIKE: whether a value is like a pattern; not where it is NULL.
+/// LIKE: whether a value matches a pattern; false for NULL.
 pub fn is_value_like(pattern: &Chars, value: &Value) -> bool
     ensures { result ≡ is_value_like pattern.now value.now }
 {

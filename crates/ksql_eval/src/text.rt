@@ -9,7 +9,7 @@ use crate::number::{fitting, whole};
 use ksql_types::{Chars, CopyOf, LONGEST_VALUE, SqlType, Value};
 use std::alloc::{AllocError, Global};
 
-/// Two texts joined; NULL where one of them is NULL, or where they are too long.
+/// Two texts joined; NULL if one of them is NULL or the result is too long.
 #[tactic(auto, unfolding(ksql_types::specs::Text::longest_text))]
 pub fn joined(alloc: Global, left: &Value, right: &Value) -> Result<Value, AllocError>
     ensures { IfOk result (λ value. value ≡ joined left.now right.now) }
@@ -30,7 +30,7 @@ pub fn joined(alloc: Global, left: &Value, right: &Value) -> Result<Value, Alloc
     }
 }
 
-/// Puts a value's bytes after a text, where the whole is not too long: answers whether. NULL has none.
+/// Appends the bytes of a value, of which NULL has none, unless the result is too long; returns whether it did.
 pub fn push_bytes(whole: &mut String, value: &Value) -> Result<bool, AllocError>
     requires { string_len whole.old ≤ longest_value }
     ensures test { IfOk result (λ fits. fits ≡ nat_le (length (string_bytes whole.old ++ bytes_of value.now)) longest_value) }
@@ -54,7 +54,7 @@ fn count_of(text: &str) -> usize
     text.chars().count()
 }
 
-/// The number of characters of a text; NULL of NULL.
+/// The number of characters of a text; NULL for NULL.
 #[tactic(auto, unfolding(ksql_types::specs::Text::longest_text))]
 pub fn length_of(value: &Value) -> Value
     ensures { result ≡ length_of value.now }
@@ -65,7 +65,7 @@ pub fn length_of(value: &Value) -> Value
     }
 }
 
-/// The text after so many characters.
+/// The text without its first `count` characters.
 fn after(text: &str, count: usize) -> &str
     ensures value { result.now ≡ encode_utf8_all (drop count (chars text.now)) }
     ensures bound { length result.now ≤ length text.now }
@@ -79,7 +79,7 @@ fn after(text: &str, count: usize) -> &str
     rest.as_str()
 }
 
-/// So many characters of a text, from its front.
+/// The first `count` characters of a text.
 fn front(text: &str, count: usize) -> &str
     ensures value { result.now ≡ encode_utf8_all (take count (chars text.now)) }
     ensures bound { length result.now ≤ length text.now }
@@ -88,8 +88,8 @@ fn front(text: &str, count: usize) -> &str
     &text[..text.len() - rest.len()]
 }
 
-/// The index of the character at a position of a text of so many characters: from 1 on from the front, negative ones
-/// from the end.
+/// The index of the character at a position of a text of `count` characters: 1 is the first, and negative positions
+/// count from the end.
 fn index_of(count: usize, at: i64) -> usize
     ensures { result ≡ index_of count at }
 {
@@ -102,7 +102,7 @@ fn index_of(count: usize, at: i64) -> usize
     }
 }
 
-/// At most so many characters of a text, from its front; all of them where no length is said.
+/// At most the first `len` characters of a text; all of them if `len` is None.
 fn at_most(text: &str, len: Option<i64>) -> &str
     ensures value { result.now ≡ encode_utf8_all (at_most len (chars text.now)) }
     ensures bound { length result.now ≤ length text.now }
@@ -114,7 +114,7 @@ fn at_most(text: &str, len: Option<i64>) -> &str
     }
 }
 
-/// At most so many characters of a text from a position on, lent.
+/// At most `len` characters of a text from a position on, borrowed; all of them if `len` is None.
 fn part_of(text: &str, at: i64, len: Option<i64>) -> &str
     ensures value { result.now ≡ part_of text.now at len }
     ensures bound { length result.now ≤ length text.now }
@@ -136,7 +136,7 @@ pub fn tail_of(alloc: Global, text: &Value, at: &Value) -> Result<Value, AllocEr
     }
 }
 
-/// SUBSTRING with a length: at most so many characters from a position on.
+/// SUBSTRING with a length: at most `len` characters from a position on.
 #[tactic(auto, unfolding(ksql_types::specs::Text::longest_text))]
 pub fn middle_of(alloc: Global, text: &Value, at: &Value, len: &Value) -> Result<Value, AllocError>
     ensures { IfOk result (λ value. value ≡ middle_of text.now at.now len.now) }
@@ -150,7 +150,7 @@ pub fn middle_of(alloc: Global, text: &Value, at: &Value, len: &Value) -> Result
     }
 }
 
-/// A text without the spaces in front, lent.
+/// A text without leading spaces, borrowed.
 fn after_spaces(text: &str) -> &str
     ensures value { result.now ≡ after_spaces text.now }
     ensures bound { length result.now ≤ length text.now }
@@ -162,7 +162,7 @@ fn after_spaces(text: &str) -> &str
     rest
 }
 
-/// A text without the spaces at its end, lent.
+/// A text without trailing spaces, borrowed.
 fn before_spaces(text: &str) -> &str
     ensures value { result.now ≡ reverse (after_spaces (reverse text.now)) }
     ensures bound { length result.now ≤ length text.now }
@@ -174,7 +174,7 @@ fn before_spaces(text: &str) -> &str
     rest
 }
 
-/// TRIM: a text without the spaces at both ends; NULL of NULL.
+/// TRIM: a text without leading and trailing spaces; NULL for NULL.
 #[tactic(auto, unfolding(ksql_types::specs::Text::longest_text))]
 pub fn without_spaces(alloc: Global, value: &Value) -> Result<Value, AllocError>
     ensures { IfOk result (λ text. text ≡ without_spaces value.now) }
@@ -188,7 +188,7 @@ pub fn without_spaces(alloc: Global, value: &Value) -> Result<Value, AllocError>
     }
 }
 
-/// UCASE: a text with its ASCII letters in capitals; NULL of NULL.
+/// UCASE: a text with its ASCII letters in upper case; NULL for NULL.
 pub fn in_capitals(alloc: Global, value: &Value) -> Result<Value, AllocError>
     ensures { IfOk result (λ text. text ≡ in_capitals value.now) }
 {
@@ -201,7 +201,7 @@ pub fn in_capitals(alloc: Global, value: &Value) -> Result<Value, AllocError>
     }
 }
 
-/// LCASE: a text with its ASCII letters small; NULL of NULL.
+/// LCASE: a text with its ASCII letters in lower case; NULL for NULL.
 pub fn in_small_letters(alloc: Global, value: &Value) -> Result<Value, AllocError>
     ensures { IfOk result (λ text. text ≡ in_small_letters value.now) }
 {
@@ -214,7 +214,7 @@ pub fn in_small_letters(alloc: Global, value: &Value) -> Result<Value, AllocErro
     }
 }
 
-/// The number that an optional sign and digits write, in a type; NULL of another text and out of range.
+/// The number that an optional sign and digits spell, in a type; NULL for any other text and out of range.
 fn read_number(to: SqlType, text: &str) -> Value
     ensures { result ≡ (if are_digits (without_leading_sign text.now) then fitting to (signed_digits_value 10 text.now) else Value.Null) }
 {

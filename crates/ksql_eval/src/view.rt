@@ -1,6 +1,6 @@
 use ksql_types::Value;
 
-/// A row where it lies, as an expression sees it: the cells of its key, then its own; and its time in milliseconds.
+/// A row as an expression sees it, borrowed: the cells of its key, then its own; and its time in milliseconds.
 #[derive(Clone, Copy)]
 pub struct RowView<'a> {
     pub key: &'a [Value],

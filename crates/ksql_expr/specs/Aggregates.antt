@@ -1,16 +1,16 @@
--- What stands in an expression: aggregates, columns and the row's time.
+-- Aggregates, columns and ROWTIME in an expression.
 use Rattle.std.specs.Prelude.{◌≡◌, Bool, true, false, ◌||◌, nat_lt, length, Option, Some, None}
 use Rattle.std.specs.List.{list_any}
 use Rattle.ksql_types.specs.declared.value.Value.TheVariants.{Txt}
 use Rattle.ksql_expr.specs.declared.typed.Typed.{Typed, fold-Typed}
 use Rattle.ksql_expr.specs.declared.typed.TypedNode.TheOpen.{TypedNode-F}
 
--- of a part that may be left out
+-- the same for an optional part
 abbrev pub perhaps : Option Bool → Bool
 perhaps None = false
 perhaps (Some b) = b
 
--- whether a test holds of a form in an expression, where it is asked of LIKE, aggregates and the forms without parts
+-- whether a test holds of some form in an expression, asked of LIKE, aggregates and the forms without parts
 abbrev pub node_holds : (TypedNode-F Bool Bool Bool → Bool) → TypedNode-F Bool Bool Bool → Bool
 node_holds leaf (TypedNode-F.Sign minus x) = x
 node_holds leaf (TypedNode-F.Binary o a b) = a || b
@@ -43,27 +43,27 @@ is_column (TypedNode-F.Column i) = true
 is_column TypedNode-F.RowTime = true
 is_column form = false
 
--- whether an expression holds an aggregate
+-- whether an expression contains an aggregate
 unfoldable pub holds_aggregate : Typed → Bool
 holds_aggregate = holds is_aggregate
 
--- an expression holds no aggregate
+-- an expression contains no aggregate
 abbrev pub HoldsNoAggregate : Typed → Type 0
 HoldsNoAggregate e = holds_aggregate e ≡ false
 
--- whether a text literal or a pattern in an expression passes its limit
+-- whether a text literal or a pattern in an expression exceeds its limit
 unfoldable pub holds_long_text : Typed → Bool
 holds_long_text = holds is_long_text
 
--- no text literal and no pattern in an expression passes its limit
+-- no text literal and no pattern in an expression exceeds its limit
 abbrev pub HoldsShortTexts : Typed → Type 0
 HoldsShortTexts e = holds_long_text e ≡ false
 
--- whether an expression holds a column, where the row's time counts as one
+-- whether an expression contains a column or ROWTIME
 unfoldable pub holds_column : Typed → Bool
 holds_column = holds is_column
 
--- an expression holds a column
+-- an expression contains a column or ROWTIME
 abbrev pub HoldsColumn : Typed → Type 0
 HoldsColumn e = holds_column e ≡ true
 
@@ -71,10 +71,10 @@ abbrev pub is_row_time : TypedNode-F Bool Bool Bool → Bool
 is_row_time TypedNode-F.RowTime = true
 is_row_time form = false
 
--- whether an expression holds the row's time
+-- whether an expression contains ROWTIME
 unfoldable pub holds_row_time : Typed → Bool
 holds_row_time = holds is_row_time
 
--- an expression holds no row's time
+-- an expression doesn't contain ROWTIME
 abbrev pub IsTimeless : Typed → Type 0
 IsTimeless e = holds_row_time e ≡ false

@@ -1,5 +1,5 @@
 -- The types of operators and functions (ksqlDB reference manual, "Operators" and "Scalar functions"). The type of an
--- operand is None where it has only the type of NULL, which fits every type. A rule answers None where there is no type.
+-- operand is None if it has only the type of NULL, which fits every type. A rule returns None if there is no type.
 use Rattle.std.specs.Prelude.{Bool, true, false, ◌&&◌, ◌||◌, if◌then◌else◌, nat_le, length, List, [], ◌∷◌, Option, Some, None, option_and_then}
 use Rattle.std.specs.List.{list_all}
 use Rattle.ksql_types.specs.declared.operator.BinaryOp.{BinaryOp}
@@ -22,7 +22,7 @@ type_of (value.Big n) = Some Big
 type_of (value.Txt t) = Some Text
 type_of (value.Bool b) = Some sql.Bool
 
--- whether two types are one
+-- whether two types are the same
 abbrev pub same_type : SqlType → SqlType → Bool
 same_type Int Int = true
 same_type Big Big = true
@@ -30,7 +30,7 @@ same_type Text Text = true
 same_type sql.Bool sql.Bool = true
 same_type _ _ = false
 
--- whether an operand of this type can stand where a type is wanted
+-- whether an operand of this type fits where a type is expected
 abbrev pub fits : SqlType → Option SqlType → Bool
 fits wanted None = true
 fits wanted (Some t) = same_type wanted t
@@ -38,11 +38,11 @@ fits wanted (Some t) = same_type wanted t
 abbrev pub is_number : Option SqlType → Bool
 is_number t = fits Int t || fits Big t
 
--- this type, where a condition holds
+-- this type, if a condition holds
 abbrev pub given : Bool → SqlType → Option SqlType
 given holds t = if holds then Some t else None
 
--- the type of a number that is made of two: BIGINT where one of them is, else INTEGER
+-- the type of an operation on two numbers: BIGINT if one of them is, else INTEGER
 abbrev pub wider : Option SqlType → Option SqlType → SqlType
 wider (Some Big) b = Big
 wider a (Some Big) = Big
@@ -77,14 +77,14 @@ binary_type op.Rem a b = given (is_number a && is_number b) (wider a b)
 abbrev pub sign_type : Option SqlType → Option SqlType
 sign_type a = given (is_number a) (wider a None)
 
--- from which types CAST goes to a type
+-- whether CAST converts a type to another
 abbrev pub can_cast : Option SqlType → SqlType → Bool
 can_cast from Int = is_number from || fits Text from
 can_cast from Big = is_number from || fits Text from
 can_cast from Text = true
 can_cast from sql.Bool = fits sql.Bool from || fits Text from
 
--- the one type of two results; INTEGER is widened to BIGINT
+-- the common type of two results; INTEGER widens to BIGINT
 abbrev pub joint_of : SqlType → SqlType → Option SqlType
 joint_of Int Int = Some Int
 joint_of Int Big = Some Big
@@ -94,22 +94,22 @@ joint_of Text Text = Some Text
 joint_of sql.Bool sql.Bool = Some sql.Bool
 joint_of _ _ = None
 
--- the same where a result may have only the type of NULL
+-- the same, where each result may have only the type of NULL
 abbrev pub joint : Option SqlType → Option SqlType → Option (Option SqlType)
 joint None b = Some b
 joint a None = Some a
 joint (Some a) (Some b) = option_and_then (λ t. Some (Some t)) (joint_of a b)
 
--- the one type of some results
+-- the common type of some results
 abbrev pub joint_type : List (Option SqlType) → Option (Option SqlType)
 joint_type [] = Some None
 joint_type (t ∷ ts) = option_and_then (joint t) (joint_type ts)
 
--- a type, as that of an expression
+-- a type as the type of an expression
 abbrev pub typed : Option SqlType → Option (Option SqlType)
 typed t = option_and_then (λ found. Some (Some found)) t
 
--- a function of values
+-- a scalar function
 abbrev pub fun_type : Fun → List (Option SqlType) → Option (Option SqlType)
 fun_type Abs (x ∷ []) = typed (sign_type x)
 fun_type Len (s ∷ []) = typed (given (fits Text s) Int)
@@ -124,7 +124,7 @@ fun_type IfNull (x ∷ y ∷ []) = joint_type (x ∷ y ∷ [])
 fun_type NullIf (x ∷ y ∷ []) = if are_comparable x y then Some x else None
 fun_type _ _ = None
 
--- an aggregate function of an argument
+-- an aggregate function with its argument
 abbrev pub agg_type : AggFun → Option (Option SqlType) → Option (Option SqlType)
 agg_type CountAll None = Some (Some Big)
 agg_type Count (Some x) = Some (Some Big)
@@ -135,7 +135,7 @@ agg_type Latest (Some x) = Some x
 agg_type Earliest (Some x) = Some x
 agg_type _ _ = None
 
--- the condition of a WHEN: a truth value, or what can be compared with the operand
+-- the condition of a WHEN: a truth value, or a value comparable to the operand
 abbrev pub can_be_when : Option (Option SqlType) → Option SqlType → Bool
 can_be_when None cond = fits sql.Bool cond
 can_be_when (Some operand) cond = are_comparable operand cond

@@ -1,5 +1,5 @@
--- The type of an expression: one rule for each form. The columns of the row have the types cs; None is the type of NULL
--- alone, which an aggregate can have.
+-- The type of an expression: one rule for each form. The columns of the row have the types cs; None is the type of
+-- plain NULL, which an aggregate can have.
 use Rattle.std.specs.Prelude.{◌≡◌, ℕ, Bool, IsTrue, List, [], ◌∷◌, ◌++◌, map, Option, Some, None, option_map, slice_get}
 use Rattle.ksql_types.specs.declared.operator.BinaryOp.{BinaryOp}
 use Rattle.ksql_types.specs.declared.value.SqlType.{SqlType}
@@ -29,7 +29,7 @@ abbrev pub results : List TypedWhen → Option Typed → List Typed
 results ws None = map (λ w. w.result) ws
 results ws (Some otherwise) = map (λ w. w.result) ws ++ otherwise ∷ []
 
--- what has its types: an expression, one that may be left out, each of some, and each WHEN of a CASE
+-- what is typed: an expression, an optional one, a list of them, and each WHEN of a CASE
 pub data Part : Type 0 where
   one : Typed → Part
   perhaps : Option Typed → Part

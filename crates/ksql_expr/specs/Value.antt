@@ -1,5 +1,5 @@
--- What an expression is worth on a row (ksqlDB reference manual, "Operators" and "Scalar functions"): one equation for
--- each form. Whole numbers are computed exactly and then brought into their type's range in two's complement.
+-- The value of an expression on a row (ksqlDB reference manual, "Operators" and "Scalar functions"): one equation for
+-- each form. Whole numbers are computed exactly and then wrapped into their type's range in two's complement.
 use Rattle.std.specs.Prelude.{ℕ, ◌-◌, ◌^◌, zero, suc, Bool, true, false, not, ◌&&◌, ◌||◌, ◌==◌, nat_le, nat_lt, if◌then◌else◌, List, [], ◌∷◌, ◌++◌, length, take, drop, reverse, codes, bytes_eq, Option, Some, None, unwrap_or, option_map, option_and_then, slice_get, ℤ, pos, negsuc, neg_ℤ, ◌+ℤ◌, ◌-ℤ◌, ◌*ℤ◌, int_div, int_rem}
 use Rattle.std.specs.List.{list_any, list_all, flat_map}
 use Rattle.std.specs.Int.{w32, w64, int_wrap}
@@ -26,23 +26,23 @@ use Rattle.ksql_expr.specs.declared.typed.TypedNode.TheOpen.{TypedNode-F}
 
 -- ---- numbers
 
--- the whole number that a value is
+-- the whole number of a value
 abbrev pub whole : Value → Option ℤ
 whole (Int n) = Some n
 whole (Big n) = Some n
 whole _ = None
 
--- a whole number in a type, brought into its range in two's complement
+-- a whole number in a type, wrapped into its range in two's complement
 abbrev pub number : Option SqlType → ℤ → Value
 number (Some sql.Int) z = Int (int_wrap w32 z)
 number (Some sql.Big) z = Big (int_wrap w64 z)
 number _ z = Null
 
--- a number made of one other; NULL of NULL
+-- a number computed from one other; NULL for NULL
 abbrev pub from_one : Option SqlType → (ℤ → ℤ) → Value → Value
 from_one t f a = unwrap_or (option_map (λ x. number t (f x)) (whole a)) Null
 
--- a number made of two others; NULL where one of them is NULL, or where they give none
+-- a number computed from two others; NULL if one of them is NULL, or if they give none
 abbrev pub from_two : Option SqlType → (ℤ → ℤ → Option ℤ) → Value → Value → Value
 from_two t f a b = unwrap_or (option_map (number t) (option_and_then (λ x. option_and_then (f x) (whole b)) (whole a))) Null
 
@@ -55,45 +55,45 @@ difference x y = Some (x -ℤ y)
 abbrev pub product : ℤ → ℤ → Option ℤ
 product x y = Some (x *ℤ y)
 
--- toward zero; none by zero
+-- toward zero; none if the divisor is 0
 abbrev pub quotient : ℤ → ℤ → Option ℤ
 quotient x (pos zero) = None
 quotient x y = Some (int_div x y)
 
--- with the sign of the left; none by zero
+-- with the sign of the left operand; none if the divisor is 0
 abbrev pub remainder : ℤ → ℤ → Option ℤ
 remainder x (pos zero) = None
 remainder x y = Some (int_rem x y)
 
--- without its sign
+-- the absolute value
 abbrev pub magnitude : ℤ → ℤ
 magnitude (pos n) = pos n
 magnitude (negsuc n) = pos (suc n)
 
 -- ---- texts
 
--- a text, or NULL where it is too long
+-- a text, or NULL if it is too long
 abbrev pub text : List ℕ → Value
 text t = if nat_le (length t) longest_value then Txt t else Null
 
--- two texts joined; NULL where one of them is NULL, and where the whole is too long
+-- two texts joined; NULL if one of them is NULL, or if the result is too long
 abbrev pub joined : Value → Value → Value
 joined (Txt a) (Txt b) = text (a ++ b)
 joined _ _ = Null
 
--- the bytes of a text; none of NULL
+-- the bytes of a text; none for NULL
 abbrev pub bytes_of : Value → List ℕ
 bytes_of (Txt t) = t
 bytes_of _ = []
 
--- the index of the character at a position: from 1 on from the front, negative ones from the end; 0, and a position
+-- the index of the character at a position: 1 is the first, negative positions count from the end; 0, and a position
 -- before the first character, mean the first
 abbrev pub index_of : ℕ → ℤ → ℕ
 index_of count (pos zero) = 0
 index_of count (pos (suc before)) = before
 index_of count (negsuc behind) = count - suc behind
 
--- at most so many characters; all of them where no length is said
+-- at most the first n characters; all of them without a length
 abbrev pub at_most : Option ℤ → List ℕ → List ℕ
 at_most None cs = cs
 at_most (Some (pos n)) cs = take n cs
@@ -103,7 +103,7 @@ at_most (Some (negsuc n)) cs = []
 abbrev pub part_of : List ℕ → ℤ → Option ℤ → List ℕ
 part_of t at len = encode_utf8_all (at_most len (drop (index_of (length (chars t)) at) (chars t)))
 
--- SUBSTRING without a length, and with one; NULL where an operand is NULL
+-- SUBSTRING without a length, and with one; NULL if an operand is NULL
 abbrev pub tail_of : Value → Value → Value
 tail_of (Txt t) at = unwrap_or (option_map (λ p. Txt (part_of t p None)) (whole at)) Null
 tail_of _ at = Null
@@ -112,12 +112,12 @@ abbrev pub middle_of : Value → Value → Value → Value
 middle_of (Txt t) at len = unwrap_or (option_and_then (λ p. option_map (λ n. Txt (part_of t p (Some n))) (whole len)) (whole at)) Null
 middle_of _ at len = Null
 
--- without the spaces in front
+-- without leading spaces
 abbrev pub after_spaces : List ℕ → List ℕ
 after_spaces [] = []
 after_spaces (c ∷ cs) = if c == 32 then after_spaces cs else c ∷ cs
 
--- without the spaces at both ends
+-- without leading and trailing spaces
 abbrev pub trimmed : List ℕ → List ℕ
 trimmed t = reverse (after_spaces (reverse (after_spaces t)))
 
@@ -131,7 +131,7 @@ abbrev pub without_spaces : Value → Value
 without_spaces (Txt t) = Txt (trimmed t)
 without_spaces _ = Null
 
--- UCASE and LCASE: ASCII letters alone change
+-- UCASE and LCASE: only ASCII letters change
 abbrev pub in_capitals : Value → Value
 in_capitals (Txt t) = Txt (str_to_ascii_uppercase t)
 in_capitals _ = Null
@@ -140,7 +140,7 @@ abbrev pub in_small_letters : Value → Value
 in_small_letters (Txt t) = Txt (str_to_ascii_lowercase t)
 in_small_letters _ = Null
 
--- whether a test holds of the characters, or of what is left of them after some
+-- whether a test holds of the characters, or of some tail of them
 abbrev pub some_tail : (List ℕ → Bool) → List ℕ → Bool
 some_tail test [] = test []
 some_tail test (c ∷ cs) = test (c ∷ cs) || some_tail test cs
@@ -150,12 +150,12 @@ abbrev pub first_and_rest : (ℕ → Bool) → (List ℕ → Bool) → List ℕ 
 first_and_rest first rest [] = false
 first_and_rest first rest (c ∷ cs) = first c && rest cs
 
--- whether characters are like a pattern, in which `%` stands for any characters and `_` for one
+-- whether characters match a pattern, in which `%` matches any characters and `_` exactly one
 abbrev pub is_like : List ℕ → List ℕ → Bool
 is_like [] cs = length cs == 0
 is_like (p ∷ ps) cs = if p == 37 then some_tail (is_like ps) cs else first_and_rest (λ c. (p == 95) || (c == p)) (is_like ps) cs
 
--- whether a value is like a pattern; not where it is NULL
+-- whether a value matches a pattern; false for NULL
 abbrev pub is_value_like : List ℕ → Value → Bool
 is_value_like pattern (Txt t) = is_like (chars pattern) (chars t)
 is_value_like pattern _ = false
@@ -167,7 +167,7 @@ abbrev pub is_true_value : Value → Bool
 is_true_value (value.Bool truth) = truth
 is_true_value _ = false
 
--- how two values compare: numbers by value and texts by bytes; not at all where one of them is NULL
+-- how two values compare: numbers by value and texts by bytes; not at all if one of them is NULL
 abbrev pub value_order : Value → Value → Option Ordering
 value_order (Int x) (Int y) = Some (int_cmp x y)
 value_order (Int x) (Big y) = Some (int_cmp x y)
@@ -177,21 +177,21 @@ value_order (Txt x) (Txt y) = Some (slice_cmp nat_cmp x y)
 value_order (value.Bool x) (value.Bool y) = Some (bool_cmp x y)
 value_order _ _ = None
 
--- whether two values compare so; never where one of them is NULL
+-- whether two values compare in this way; never if one of them is NULL
 abbrev pub compare_so : (Ordering → Bool) → Value → Value → Bool
 compare_so test a b = unwrap_or (option_map test (value_order a b)) false
 
--- with NOT, where it is written
+-- negated, if NOT is written
 abbrev pub with_not : Bool → Bool → Value
 with_not negated truth = value.Bool (if negated then not truth else truth)
 
 -- ---- forms
 
--- the cell of a column; NULL where the row has no such column
+-- the cell of a column; NULL if the row has no such column
 abbrev pub cell : List Value → ℕ → Value
 cell row column = unwrap_or (slice_get row column) Null
 
--- an operator between two values, in the type of the whole; `+` joins texts
+-- an operator on two values, in the result type; `+` joins texts
 abbrev pub applied : Option SqlType → BinaryOp → Value → Value → Value
 applied t op.Or a b = value.Bool (is_true_value a || is_true_value b)
 applied t op.And a b = value.Bool (is_true_value a && is_true_value b)
@@ -214,7 +214,7 @@ abbrev pub signed : Option SqlType → Bool → Value → Value
 signed t true x = from_one t neg_ℤ x
 signed t false x = x
 
--- a value in BIGINT, where the whole is
+-- a value as a BIGINT, if that is the result type
 abbrev pub widened : Option SqlType → Value → Value
 widened (Some sql.Big) (Int n) = Big n
 widened t x = x
@@ -224,7 +224,7 @@ abbrev pub is_below : ℕ → ℤ → Bool
 is_below limit (pos n) = nat_lt n limit
 is_below limit (negsuc n) = nat_lt n limit
 
--- a whole number in a type, or NULL where it is out of range
+-- a whole number in a type, or NULL if it is out of range
 abbrev pub fitting : SqlType → ℤ → Value
 fitting sql.Int z = if is_below (2 ^ 31) z then Int z else Null
 fitting sql.Big z = if is_below (2 ^ 63) z then Big z else Null
@@ -285,7 +285,7 @@ abbrev pub first_value : List Value → Value
 first_value [] = Null
 first_value (x ∷ xs) = if is_null x then first_value xs else x
 
--- a function of one value, in the type of the whole
+-- a function of one value, in the result type
 abbrev pub of_one : Option SqlType → Fun → Value → Value
 of_one t Abs x = from_one t magnitude x
 of_one t Len x = length_of x
@@ -294,7 +294,7 @@ of_one t Ucase x = in_capitals x
 of_one t Lcase x = in_small_letters x
 of_one t _ x = Null
 
--- a function of two values: NULLIF is NULL where they are equal
+-- a function of two values: NULLIF is NULL if they are equal
 abbrev pub of_two : Fun → Value → Value → Value
 of_two Substring x at = tail_of x at
 of_two NullIf x y = if compare_so is_eq x y then Null else x
@@ -312,14 +312,14 @@ of_few t f (x ∷ y ∷ []) = of_two f x y
 of_few t f (x ∷ y ∷ z ∷ []) = of_three f x y z
 of_few t f _ = Null
 
--- a function of values, in the type of the whole
+-- a scalar function, in the result type
 abbrev pub fun_value : Option SqlType → Fun → List Value → Value
 fun_value t Concat xs = text (flat_map bytes_of xs)
 fun_value t Coalesce xs = widened t (first_value xs)
 fun_value t IfNull xs = widened t (first_value xs)
 fun_value t f xs = of_few t f xs
 
--- a form, from what its parts are worth; an aggregate has no value on one row
+-- the value of a form, given the values of its parts; an aggregate has no value on one row
 abbrev pub node_value : List Value → ℕ → TypedNode-F (Option SqlType → Value) Value (Value × Value) → Option SqlType → Value
 node_value row time (TypedNode-F.Literal x) t = x
 node_value row time (TypedNode-F.Column column) t = cell row column

@@ -67,8 +67,8 @@ fn copy_node(alloc: Global, node: &TypedNode) -> Result<TypedNode, AllocError>
     }
 }
 
-// What was copied, unless memory ran out. A function for each form of such parts keeps the frame of `copy_node`, which
-// stands on the stack once for each level of a tree, small.
+// The copy, unless memory ran out. A function of its own for each form keeps the stack frame of `copy_node` small,
+// which stands on the stack once per level of a tree.
 type Copied<T> = Result<T, AllocError>;
 
 fn literal_of(value: Copied<Value>) -> Result<TypedNode, AllocError>

@@ -1,4 +1,4 @@
-//! A law of values. The function does nothing.
+//! A law of values. Its function does nothing.
 
 ghost use Rattle.std.specs.Prelude.{◌≡◌, ℕ, List};
 ghost use Rattle.ksql_types.specs.declared.value.Value.{Value as OneValue};
@@ -6,7 +6,7 @@ ghost use Rattle.ksql_expr.specs.declared.typed.Typed.{Typed as OneTyped};
 ghost use Rattle.ksql_expr.specs.Aggregates.{IsTimeless};
 ghost use Rattle.ksql_expr.specs.Value.{value_of};
 
-/// An expression without the row's time is worth the same at any two times.
+/// An expression without ROWTIME has the same value at any two times.
 #[tactic(auto, using(crate::proofs::Times::timeless_value))]
 pub fn timeless_values()
     ensures { (e : OneTyped) (row : List OneValue) (a b : ℕ) → IsTimeless e → value_of row a e ≡ value_of row b e }

@@ -1,4 +1,4 @@
-//! Expressions with their types, the rules of types, and what an expression is worth on a row.
+//! Typed expressions, the typing rules, and the value of an expression on a row.
 #![tactic(auto)]
 
 mod copies;

@@ -5,7 +5,7 @@ ghost use Rattle.ksql_expr.specs.Rules.{same_type, fits, is_number, given, wider
 use crate::typed::{AggFun, Fun};
 use ksql_types::{BinaryOp, SqlType};
 
-/// Whether two types are one.
+/// Whether two types are the same.
 pub fn same_type(left: SqlType, right: SqlType) -> bool
     ensures { result ≡ same_type left right }
 {
@@ -18,7 +18,7 @@ pub fn same_type(left: SqlType, right: SqlType) -> bool
     )
 }
 
-/// Whether an operand can stand where a type is wanted. None is the type of NULL, which fits every type.
+/// Whether an operand of type `ty` fits where `wanted` is expected. None is the type of NULL, which fits every type.
 pub fn fits(wanted: SqlType, ty: Option<SqlType>) -> bool
     ensures { result ≡ fits wanted ty }
 {
@@ -28,28 +28,28 @@ pub fn fits(wanted: SqlType, ty: Option<SqlType>) -> bool
     }
 }
 
-/// Whether each operand can stand where a type is wanted.
+/// Whether each operand fits where `wanted` is expected.
 fn all_fit(wanted: SqlType, types: &[Option<SqlType>]) -> bool
     ensures { result ≡ list_all (fits wanted) types.now }
 {
     types.iter().all(|ty| fits(wanted, *ty))
 }
 
-/// Whether an operand can stand where a number is wanted.
+/// Whether an operand fits where a number is expected.
 pub fn is_number(ty: Option<SqlType>) -> bool
     ensures { result ≡ is_number ty }
 {
     fits(SqlType::Int, ty) || fits(SqlType::Big, ty)
 }
 
-/// A type, where a condition holds.
+/// The type, if a condition holds.
 fn given(holds: bool, ty: SqlType) -> Option<SqlType>
     ensures { result ≡ given holds ty }
 {
     if holds { Some(ty) } else { None }
 }
 
-/// The type of a number that is made of two: BIGINT where one of them is, else INTEGER.
+/// The type of an operation on two numbers: BIGINT if one of them is, else INTEGER.
 fn wider(left: Option<SqlType>, right: Option<SqlType>) -> SqlType
     ensures { result ≡ wider left right }
 {
@@ -60,7 +60,7 @@ fn wider(left: Option<SqlType>, right: Option<SqlType>) -> SqlType
     }
 }
 
-/// Whether `<` goes between two operands: two numbers, or two texts.
+/// Whether `<` can compare two operands: two numbers, or two texts.
 pub fn are_ordered(left: Option<SqlType>, right: Option<SqlType>) -> bool
     ensures { result ≡ are_ordered left right }
 {
@@ -68,14 +68,14 @@ pub fn are_ordered(left: Option<SqlType>, right: Option<SqlType>) -> bool
         || (fits(SqlType::Text, left) && fits(SqlType::Text, right))
 }
 
-/// Whether `=` goes between two operands: two numbers, two texts or two truth values.
+/// Whether `=` can compare two operands: two numbers, two texts or two truth values.
 pub fn are_comparable(left: Option<SqlType>, right: Option<SqlType>) -> bool
     ensures { result ≡ are_comparable left right }
 {
     are_ordered(left, right) || (fits(SqlType::Bool, left) && fits(SqlType::Bool, right))
 }
 
-/// The type of an operator between two operands; None where they don't fit it.
+/// The type of a binary operator's result; None if the operands don't fit it.
 pub fn binary_type(op: BinaryOp, left: Option<SqlType>, right: Option<SqlType>) -> Option<SqlType>
     ensures { result ≡ binary_type op left right }
 {
@@ -96,14 +96,14 @@ pub fn binary_type(op: BinaryOp, left: Option<SqlType>, right: Option<SqlType>) 
     }
 }
 
-/// The type of a sign before a number; None where the operand is none.
+/// The type of a signed number; None if the operand isn't a number.
 pub fn sign_type(ty: Option<SqlType>) -> Option<SqlType>
     ensures { result ≡ sign_type ty }
 {
     given(is_number(ty), wider(ty, None))
 }
 
-/// Whether CAST goes from a type to another.
+/// Whether CAST converts from one type to the other.
 pub fn can_cast(from: Option<SqlType>, to: SqlType) -> bool
     ensures { result ≡ can_cast from to }
 {
@@ -114,7 +114,7 @@ pub fn can_cast(from: Option<SqlType>, to: SqlType) -> bool
     }
 }
 
-/// The one type of two results; INTEGER is widened to BIGINT.
+/// The common type of two results; INTEGER widens to BIGINT.
 fn joint_of(left: SqlType, right: SqlType) -> Option<SqlType>
     ensures { result ≡ joint_of left right }
 {
@@ -127,7 +127,7 @@ fn joint_of(left: SqlType, right: SqlType) -> Option<SqlType>
     }
 }
 
-/// The same where a result may have only the type of NULL.
+/// The common type of two results, where None is a result with only the type of NULL.
 pub fn joint(left: Option<SqlType>, right: Option<SqlType>) -> Option<Option<SqlType>>
     ensures { result ≡ joint left right }
 {
@@ -138,7 +138,7 @@ pub fn joint(left: Option<SqlType>, right: Option<SqlType>) -> Option<Option<Sql
     }
 }
 
-/// The one type of some results, which is None where each has only the type of NULL; None of all where they differ.
+/// The common type of some results: `Some(None)` if all have only the type of NULL, None if they differ.
 pub fn joint_type(types: &[Option<SqlType>]) -> Option<Option<SqlType>>
     ensures { result ≡ joint_type types.now }
 {
@@ -148,7 +148,7 @@ pub fn joint_type(types: &[Option<SqlType>]) -> Option<Option<SqlType>>
     }
 }
 
-/// A type, as that of an expression.
+/// A type as the type of an expression.
 fn typed(ty: Option<SqlType>) -> Option<Option<SqlType>>
     ensures { result ≡ typed ty }
 {
@@ -158,8 +158,7 @@ fn typed(ty: Option<SqlType>) -> Option<Option<SqlType>>
     }
 }
 
-/// The type of a function of arguments, which is None where it has only the type of NULL; None of all where they don't
-/// fit it.
+/// The type of a function's result: `Some(None)` if it has only the type of NULL, None if the arguments don't fit.
 pub fn fun_type(fun: Fun, args: &[Option<SqlType>]) -> Option<Option<SqlType>>
     ensures { result ≡ fun_type fun args.now }
 {
@@ -188,7 +187,7 @@ pub fn fun_type(fun: Fun, args: &[Option<SqlType>]) -> Option<Option<SqlType>>
     }
 }
 
-/// The type of an aggregate function of an argument, likewise. COUNT of `*` alone has none.
+/// The type of an aggregate function's result, in the same form. Only COUNT of `*` has no argument.
 pub fn agg_type(fun: AggFun, arg: Option<Option<SqlType>>) -> Option<Option<SqlType>>
     ensures { result ≡ agg_type fun arg }
 {
@@ -201,7 +200,7 @@ pub fn agg_type(fun: AggFun, arg: Option<Option<SqlType>>) -> Option<Option<SqlT
     }
 }
 
-/// Whether a condition can stand in a WHEN: a truth value, or what can be compared with the operand.
+/// Whether a condition can stand in a WHEN: a truth value, or a value comparable to the operand.
 pub fn can_be_when(operand: Option<Option<SqlType>>, cond: Option<SqlType>) -> bool
     ensures { result ≡ can_be_when operand cond }
 {
@@ -218,7 +217,7 @@ fn can_all_be_when(operand: Option<Option<SqlType>>, conds: &[Option<SqlType>]) 
     conds.iter().all(|cond| can_be_when(operand, *cond))
 }
 
-/// The type of a CASE, by its operand, its conditions and its results (that of ELSE among them).
+/// The type of a CASE, given the types of its operand, its conditions and its results, ELSE included.
 pub fn case_type(
     operand: Option<Option<SqlType>>,
     conds: &[Option<SqlType>],
@@ -233,14 +232,14 @@ pub fn case_type(
     }
 }
 
-/// Whether BETWEEN can stand between operands of these types.
+/// Whether BETWEEN accepts operands of these types.
 pub fn is_between_typed(ty: Option<SqlType>, low: Option<SqlType>, high: Option<SqlType>) -> bool
     ensures { result ≡ is_between_typed ty low high }
 {
     are_ordered(ty, low) && are_ordered(ty, high)
 }
 
-/// Whether an operand of a type can be looked for among choices of these types.
+/// Whether IN accepts an operand and choices of these types.
 pub fn is_in_typed(ty: Option<SqlType>, choices: &[Option<SqlType>]) -> bool
     ensures { result ≡ is_in_typed ty choices.now }
 {

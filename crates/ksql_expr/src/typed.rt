@@ -1,6 +1,6 @@
 use ksql_types::{BinaryOp, Boxed as Box, Chars, Items, SqlType, Value};
 
-/// An expression with its type. `ty` is None exactly where the expression has only the type of NULL.
+/// An expression with its type. `ty` is None exactly if the expression has only the type of NULL.
 #[cycle(typed)]
 #[derive(Debug, Drop)]
 pub struct Typed {
@@ -8,7 +8,7 @@ pub struct Typed {
     pub node: TypedNode,
 }
 
-/// The form of an expression. A column is named by its index in a row.
+/// The form of an expression. A column is an index into a row.
 #[cycle(typed)]
 #[derive(Debug, Drop)]
 pub enum TypedNode {
@@ -16,7 +16,7 @@ pub enum TypedNode {
     Column(u32),
     /// The row's time.
     RowTime,
-    /// `-` where `minus` is true, else `+`.
+    /// `-` if `minus` is true, else `+`.
     Sign {
         minus: bool,
         arg: Box<Typed>,
@@ -68,10 +68,10 @@ pub enum TypedNode {
     },
 }
 
-/// Expressions in their order.
+/// Expressions, in order.
 pub type Exprs = Items<Typed>;
 
-/// WHEN and THEN of a CASE.
+/// The WHEN and THEN of a CASE.
 #[cycle(typed)]
 #[derive(Debug, Drop)]
 pub struct TypedWhen {
@@ -79,10 +79,10 @@ pub struct TypedWhen {
     pub result: Typed,
 }
 
-/// The WHENs of a CASE, in their order.
+/// The WHENs of a CASE, in order.
 pub type TypedWhens = Items<TypedWhen>;
 
-/// A function of the values of one row.
+/// A scalar function.
 #[derive(Clone, Copy, Debug, PartialEq, Eq)]
 pub enum Fun {
     Abs,
@@ -97,8 +97,7 @@ pub enum Fun {
     NullIf,
 }
 
-/// An aggregate function. `CountAll` is COUNT of `*`; `Latest` and `Earliest` are LATEST_BY_OFFSET and
-/// EARLIEST_BY_OFFSET.
+/// An aggregate function. `CountAll` is COUNT(*); `Latest` and `Earliest` are LATEST_BY_OFFSET and EARLIEST_BY_OFFSET.
 #[derive(Clone, Copy, Debug, PartialEq, Eq)]
 pub enum AggFun {
     CountAll,

@@ -11,7 +11,7 @@ use Rattle.ksql_grammar.specs.Grammar as g
 use Rattle.ksql_grammar.specs.Expressions.{is_not, is_sign}
 use Rattle.ksql_grammar.proofs.Ends.{BeginsPrimary, BeginsUnary, BeginsExpr, primary_begins_unary, unary_begins_expr}
 
--- the first symbol is there and is so
+-- there is a first symbol with a property
 abbrev pub First : (Symbol → Type 0) → List Symbol → Type 0
 First P [] = ⊥
 First P (s ∷ ss) = P s

@@ -46,7 +46,7 @@ module _ (op : Symbol → Option BinaryOp) (operand : Reader Expr) where
       same_step a ts (first op ts) (chain_with op operand k) (chain_with op operand m)
       (λ x e b f c. let t = first_takes op ts x e in let u = takes x.1 b f in chain_fuel takes k m c b.1 (omega arith) (omega arith))
 
-  -- where no operator follows, nothing is added
+  -- if no operator follows, nothing is added
   pub chain_ends : (k : ℕ) (a : Expr) (ts : List Symbol) → Rest (λ s. op s ≡ None) ts → chain_with op operand (suc k) a ts ≡ Some (a, ts)
   unfolding chain_with first
   chain_ends k a [] r = refl

@@ -13,7 +13,7 @@ use Rattle.ksql_grammar.specs.Symbols.{or_of, and_of, comparison_of, sum_of, pro
 use Rattle.ksql_grammar.specs.Reading.{goes_on, EndsExpr as ExprEnds, EndsExprs as ExprsEnd, is_comma}
 use Rattle.ksql_grammar.specs.Expressions.{is_not, is_sign}
 
--- of the first symbol, where there is one
+-- of the first symbol, if any
 abbrev pub Rest : (Symbol → Type 0) → List Symbol → Type 0
 Rest P [] = Unit {0}
 Rest P (s ∷ ss) = P s
@@ -85,7 +85,7 @@ product_ends (Sign mark.Slash) o h = refl
 product_ends (Sign mark.Percent) o h = refl
 product_ends _ o h = absurd (none-some o h)
 
--- a symbol with which no expression goes on ends it
+-- a symbol that continues no expression ends it
 pub ends_expr : (s : Symbol) → goes_on s ≡ false → EndsExpr s
 ends_expr (Key key.Or) h = absurd (false≢true (sym h))
 ends_expr (Key key.And) h = absurd (false≢true (sym h))

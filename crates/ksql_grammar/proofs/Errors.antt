@@ -10,7 +10,7 @@ pub gives_err : {X Y Z W : Type 0} (seen : X → Y) (view : Z → W) (e : ReadEr
 gives_err seen view Unspelled read whole h k = k h
 gives_err seen view OutOfMemory read whole h k = tt
 
--- what holds of all that is read holds of what is given
+-- a property of everything that is read holds of the result
 pub if_gives : {X Y : Type 0} (result : Result X ReadError) (seen : X → Y) (read : Option Y) (P : Y → Type 0) → Gives seen result read → If read P → IfOk result (λ x. P (seen x))
 if_gives (Ok x) seen read P h k = if_some read P (seen x) k h
 if_gives (Err e) seen read P h k = tt

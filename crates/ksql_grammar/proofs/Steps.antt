@@ -1,4 +1,4 @@
--- Readers that find what is there: each step says what stands at the front.
+-- Readers that find what is there: each step says what comes first.
 use Rattle.std.proofs.Common.{◌≡◌, ℕ, Bool, true, false, cond, List, [], ◌∷◌, Option, Some, None, refl, sym, ap, ap₂, ◌∙◌, subst}
 use Rattle.std.proofs.lemmas.Option.{none-some, same_Some}
 use denote.Enum.Bare.{sameb, same_true, true_same}

@@ -33,7 +33,7 @@ key_fewer k ts us h = omega (arith, ap length (if_some (after_key k ts) (λ us. 
 pub sign_fewer : (m : Mark) (ts us : List Symbol) → after_sign m ts ≡ Some us → length us < length ts
 sign_fewer m ts us h = omega (arith, ap length (if_some (after_sign m ts) (λ us. ts ≡ Sign m ∷ us) us (sign_found m ts) h))
 
--- what is spelled is read with room for as many as there are symbols
+-- what is spelled is read if the allowed depth is the number of symbols
 pub expression_only : (a : Expr) (ts us : List Symbol) → Spells (at expr a) ts us → EndsExpr us → r.within (suc (length ts)) ts ≡ Some (a, us)
 expression_only a ts us d ends = expr_whole (length ts) a ts us (only d (length ts) (omega arith)) (rest_ends us ends)
 

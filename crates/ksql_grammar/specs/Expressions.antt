@@ -1,4 +1,4 @@
--- How an expression is read from the front of some symbols: what each of the private functions gives.
+-- How an expression is read from the start of some symbols: the results of the private functions.
 use Rattle.std.specs.Prelude.{◌≡◌, ℕ, zero, suc, Bool, true, false, if◌then◌else◌, List, [], ◌∷◌, length, take, drop, Option, Some, None, is_some, option_map}
 use Rattle.std.specs.List.{prefix_len}
 use Rattle.std.specs.Global.{Vec}
@@ -31,42 +31,42 @@ Reader A = List Symbol → Option (A × List Symbol)
 abbrev pub with_arguments : (Bool × Vec Expr) × Bor (List Symbol) → (Bool × List Expr) × List Symbol
 with_arguments x = ((x.0.0, x.0.1.items), x.1.now)
 
--- the symbols after this reserved word
+-- the symbols after this reserved word, if it comes first
 unfoldable pub after_key : Keyword → List Symbol → Option (List Symbol)
 after_key k (Key found ∷ ts) = if sameb the_keyword found k then Some ts else None
 after_key k _ = None
 
--- after this sign
+-- the symbols after this sign, if it comes first
 unfoldable pub after_sign : Mark → List Symbol → Option (List Symbol)
 after_sign m (Sign found ∷ ts) = if sameb the_mark found m then Some ts else None
 after_sign m _ = None
 
--- a value that the first symbol has
+-- the value of the first symbol, if it has one
 unfoldable pub first : {A : Type 0} → (Symbol → Option A) → Reader A
 first of [] = None
 first of (s ∷ ts) = of s >>= λ x. Some (x, ts)
 
--- an item, and the others where they follow it
+-- an item, and the further ones if they follow
 abbrev pub list_end : {A : Type 0} → A × List Symbol → Reader (List A) → Option (List Symbol) → Option (List A × List Symbol)
 list_end x others None = Some (x.0 ∷ [], x.1)
 list_end x others (Some ts) = others ts >>= λ xs. Some (x.0 ∷ xs.0, xs.1)
 
--- one or more items, each but the first where `more` finds it; the number bounds how many
+-- one or more items, each after the first announced by `more`; the number bounds how many
 unfoldable pub list_of : {A : Type 0} → Reader A → (List Symbol → Option (List Symbol)) → ℕ → Reader (List A)
 list_of item more zero ts = None
 list_of item more (suc n) ts = item ts >>= λ x. list_end x (list_of item more n) (more x.1)
 
--- an operand after an operator, where there is one, and what goes on from both
+-- an operand after an operator, if any, and what goes on from both
 abbrev pub chain_step : Reader Expr → (Expr → Reader Expr) → Expr → List Symbol → Option (BinaryOp × List Symbol) → Option (Expr × List Symbol)
 chain_step operand others a ts None = Some (a, ts)
 chain_step operand others a ts (Some o) = operand o.1 >>= λ b. others (e.Binary o.0 a b.0) b.1
 
--- going on from an expression with operators and operands, from the left; the number bounds how many
+-- the continuation of an expression with operators and operands, left-associative; the number bounds how many
 unfoldable pub chain_with : (Symbol → Option BinaryOp) → Reader Expr → ℕ → Expr → Reader Expr
 chain_with op operand zero a ts = Some (a, ts)
 chain_with op operand (suc n) a ts = chain_step operand (chain_with op operand n) a ts (first op ts)
 
--- operands with operators between them, from the left
+-- operands with operators between them, left-associative
 unfoldable pub chain : (Symbol → Option BinaryOp) → Reader Expr → Reader Expr
 chain op operand ts = operand ts >>= λ a. chain_with op operand (suc (length a.1)) a.0 a.1
 
@@ -76,12 +76,12 @@ after_prefix (Key k) a = e.Not a
 after_prefix (Sign mark.Minus) a = e.Sign true a
 after_prefix s a = e.Sign false a
 
--- an expression after several of them, the nearest first
+-- an expression after several of them, nearest first
 unfoldable pub after_prefixes : List Symbol → Expr → Expr
 after_prefixes [] a = a
 after_prefixes (s ∷ ss) a = after_prefix s (after_prefixes ss a)
 
--- all symbols at the front that pass, and what stands after them
+-- all leading symbols that pass, and what follows them
 unfoldable pub prefixed : (Symbol → Bool) → Reader Expr → Reader Expr
 prefixed test operand ts =
     let n = prefix_len test ts in operand (drop n ts) >>= λ a. Some (after_prefixes (take n ts) a.0, a.1)
@@ -93,7 +93,7 @@ is_not _ = false
 abbrev pub is_sign : Symbol → Bool
 is_sign s = is_some (minus_of s)
 
--- whether NOT stands first, and what stands after it
+-- whether NOT comes first, and what follows it
 abbrev pub negation_of : List Symbol → Option (List Symbol) → Bool × List Symbol
 negation_of ts None = (false, ts)
 negation_of ts (Some us) = (true, us)
@@ -120,7 +120,7 @@ is_null a ts = do
   us ← after_key key.Null n.1
   Some (e.IsNull n.0 a, us)
 
--- `inner` reads the expressions that stand in parentheses, in a list or in CASE
+-- `inner` reads expressions in parentheses, in lists and in CASE
 module _ (inner : Reader Expr) where
   unfoldable pub exprs : Reader (List Expr)
   exprs ts = list_of inner (after_sign mark.Comma) (suc (length ts)) ts
@@ -254,7 +254,7 @@ module _ (inner : Reader Expr) where
   unfoldable pub compared : Expr → BinaryOp → Reader Expr
   compared a o ts = sum ts >>= λ b. Some (e.Binary o a b.0, b.1)
 
-  -- the test by which an expression goes on, after its NOT
+  -- the test that continues an expression, after its NOT
   abbrev pub ranged : Bool → Expr → Reader Expr
   ranged negated a (Key key.Between ∷ ts) = between negated a ts
   ranged negated a (Key key.In ∷ ts) = one_of negated a ts
@@ -296,7 +296,7 @@ operator_at level.Conj s = and_of s
 operator_at level.Sum s = sum_of s
 operator_at level.Prod s = product_of s
 
--- with expressions that are nested no deeper than the number
+-- expressions nested no deeper than the number
 unfoldable pub within : ℕ → Reader Expr
 within zero ts = None
 within (suc n) ts = disjunction (within n) ts

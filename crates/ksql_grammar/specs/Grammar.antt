@@ -1,5 +1,5 @@
--- The grammar of expressions. `Spells p ts rest` says that the symbols ts are a spelling of p and then the rest.
--- There is one rule for each alternative; above a group of rules stands the line of the grammar that it is.
+-- The grammar of expressions. `Spells p ts rest` says that the symbols ts spell p and then the rest. There is one rule
+-- for each alternative, and above each group of rules stands its line of the grammar.
 use Rattle.std.specs.Prelude.{◌≡◌, ℕ, Bool, true, false, List, [], ◌∷◌, Option, Some, None}
 use Rattle.ksql_lexer.specs.declared.token.Mark.TheVariants as mark
 use Rattle.ksql_types.specs.declared.operator.BinaryOp.{BinaryOp}
@@ -12,7 +12,7 @@ use Rattle.ksql_grammar.specs.declared.symbol.Symbol.{Symbol}
 use Rattle.ksql_grammar.specs.declared.symbol.Symbol.TheVariants.{Key, Text, Number, Sign}
 use Rattle.ksql_grammar.specs.Symbols.{name_of, type_of, or_of, and_of, comparison_of, sum_of, product_of}
 
--- the levels of expressions, from the weakest
+-- the levels of expressions, weakest first
 pub data Level : Type 0 where
   expr conj neg pred sum prod unary primary : Level
 
@@ -26,7 +26,7 @@ pub data Phrase : Type 0 where
   otherwise : Option Expr → Phrase
   arguments : Bool → List Expr → Phrase
 
--- what a sign before an expression says: whether it is a minus
+-- whether a sign before an expression is a minus
 abbrev pub minus_of : Symbol → Option Bool
 minus_of (Sign mark.Minus) = Some true
 minus_of (Sign mark.Plus) = Some false

@@ -1,4 +1,4 @@
--- A function value that reads expressions with some room.
+-- A function value that reads expressions up to some depth.
 use Rattle.std.specs.Prelude.{ℕ, List, Result}
 use Rattle.std.specs.declared.alloc.Global.{Global}
 use Rattle.std.specs.Borrow.{Bor}

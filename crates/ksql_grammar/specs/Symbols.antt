@@ -1,4 +1,4 @@
--- How the grammar reads a token: which words are reserved, and what is a name or a type.
+-- How the grammar sees a token: which words are reserved, and what is a name or a type.
 use Rattle.std.specs.Prelude.{◌≡◌, ℕ, List, [], ◌∷◌, Option, Some, None, option_map, if◌then◌else◌, bytes_eq, codes, map}
 use Rattle.std.specs.Str.Parse.{digits_value}
 use Rattle.expression_trees.specs.Words.{beside}
@@ -28,16 +28,16 @@ reserved_words =
     ∷ (codes "END", key.End) ∷ (codes "CAST", key.Cast) ∷ (codes "TRUE", key.True) ∷ (codes "FALSE", key.False)
     ∷ (codes "EMIT", key.Emit) ∷ (codes "LIMIT", key.Limit) ∷ (codes "WITHIN", key.Within) ∷ []
 
--- the reserved word that a word is
+-- the reserved word that a word spells, if any
 unfoldable pub keyword_of : List ℕ → Option Keyword
 keyword_of word = beside reserved_words word
 
--- a word as the grammar reads it: reserved, or not
+-- a word as the grammar sees it: reserved, or not
 abbrev pub word_symbol : Option Keyword → List ℕ → Symbol
 word_symbol (Some k) word = sym.Key k
 word_symbol None word = sym.Word word
 
--- a token as the grammar reads it
+-- a token as the grammar sees it
 abbrev pub symbol_of : TokenKind → Symbol
 symbol_of (kind.Word word) = word_symbol (keyword_of word) word
 symbol_of (kind.Quoted name) = sym.Quoted name
@@ -45,7 +45,7 @@ symbol_of (kind.Text content) = sym.Text content
 symbol_of (kind.Digits digits) = sym.Number (digits_value 10 digits)
 symbol_of (kind.Mark m) = sym.Sign m
 
--- the name that a symbol is: a word that isn't reserved, or a backquoted name
+-- the name that a symbol spells: a word that isn't reserved, or a backquoted name
 abbrev pub name_of : Symbol → Option (List ℕ)
 name_of (sym.Word word) = Some word
 name_of (sym.Quoted name) = Some name
@@ -57,7 +57,7 @@ type_words =
     (codes "INT", sql.Int) ∷ (codes "INTEGER", sql.Int) ∷ (codes "BIGINT", sql.Big) ∷ (codes "VARCHAR", sql.Text)
     ∷ (codes "STRING", sql.Text) ∷ (codes "BOOLEAN", sql.Bool) ∷ []
 
--- the type that a symbol is
+-- the type that a symbol names
 abbrev pub type_of : Symbol → Option SqlType
 type_of (sym.Word word) = beside type_words word
 type_of _ = None

@@ -1,5 +1,5 @@
-//! Expressions. One that is let go is given to `drop`, or held as a `Boxed`: the check goes through such a call once, but
-//! through every form of a local `Expr` that ends with its block.
+//! Reading expressions. An expression that isn't needed is passed to `drop`, or held as a `Boxed`: the check goes
+//! through such a call once, but through every form of a local `Expr` that ends with its block.
 
 ghost use Rattle.std.specs.Prelude.{◌≡◌, ◌≤◌, List, length, Some, IfOk};
 ghost use Rattle.std.specs.List.{prefix_len};
@@ -14,15 +14,15 @@ ghost use Rattle.ksql_grammar.specs.Nests.{Nests, ReadsAs};
 use crate::fault::ReadError;
 use crate::node;
 use crate::symbol::{
-    Keyword, Symbol, and_of, after_key, after_sign, comparison_of, is_not, is_sign, name_of,
-    or_of, product_of, sum_of, type_of,
+    Keyword, Symbol, after_key, after_sign, and_of, comparison_of, is_not, is_sign, name_of, or_of,
+    product_of, sum_of, type_of,
 };
 use expression_trees::{Expr, ExprTexts, WhenText};
 use ksql_lexer::Mark;
 use ksql_types::{BinaryOp, Boxed, Chars, Items, SqlType};
 use std::alloc::{AllocError, Global};
 
-/// A level of operators between operands.
+/// A level of binary operators.
 #[derive(Clone, Copy, Debug, PartialEq, Eq)]
 enum Level {
     Expr,
@@ -69,7 +69,7 @@ fn after_type(symbols: &[Symbol]) -> Option<(SqlType, &[Symbol])>
     Some((type_of(symbol)?, rest))
 }
 
-/// Whether NOT stands first, and the symbols after it.
+/// Whether NOT comes first, and the symbols after it.
 #[tactic(auto, unfolding(crate::specs::Expressions::negation_at))]
 fn negation(symbols: &[Symbol]) -> (bool, &[Symbol])
     ensures { with_rest result ≡ read.negation_at symbols.now }
@@ -80,7 +80,7 @@ fn negation(symbols: &[Symbol]) -> (bool, &[Symbol])
     }
 }
 
-/// How many symbols at the front are NOT.
+/// The number of leading NOTs.
 fn not_count(symbols: &[Symbol]) -> usize
     ensures value { result ≡ prefix_len read.is_not symbols.now }
     ensures within { result ≤ length symbols.now }
@@ -88,7 +88,7 @@ fn not_count(symbols: &[Symbol]) -> usize
     symbols.iter().take_while(|s| is_not(s)).count()
 }
 
-/// How many symbols at the front are signs of a number.
+/// The number of leading signs of a number.
 fn sign_count(symbols: &[Symbol]) -> usize
     ensures value { result ≡ prefix_len read.is_sign symbols.now }
     ensures within { result ≤ length symbols.now }
@@ -96,7 +96,7 @@ fn sign_count(symbols: &[Symbol]) -> usize
     symbols.iter().take_while(|s| is_sign(s)).count()
 }
 
-/// The expression after all of these prefixes.
+/// The expression after all these prefixes.
 fn after_all(alloc: Global, prefixes: &[Symbol], arg: Expr) -> Result<Expr, AllocError>
     ensures { IfOk result (λ e. e ≡ read.after_prefixes prefixes.now arg) }
 {
@@ -135,7 +135,7 @@ fn like(
     }
 }
 
-/// What stands after a source and `.`.
+/// Reads what follows a source and `.`.
 #[tactic(auto, unfolding(crate::specs::Expressions::qualified, crate::specs::Expressions::first))]
 fn qualified<'a>(
     alloc: Global,
@@ -149,11 +149,11 @@ fn qualified<'a>(
     Ok((node::name_in(alloc, qualifier, name)?, rest))
 }
 
-/// The rules that hold expressions take the reader of those, so that each is proved by itself.
+/// The grammar's rules take the reader of nested expressions, so that each rule is proved on its own.
 #[derive(Clone, Copy)]
 struct Nested<F> {
     alloc: Global,
-    /// How deep expressions may still nest.
+    /// How many levels deeper expressions may nest.
     room: usize,
     reader: F,
 }
@@ -161,7 +161,7 @@ struct Nested<F> {
 impl<F: for<'a> Fn(Global, usize, &'a [Symbol]) -> Result<(Expr, &'a [Symbol]), ReadError>> Nested<
     F,
 > {
-    /// An expression one level further in.
+    /// Reads an expression one level deeper.
     fn inner<'a>(&self, symbols: &'a [Symbol]) -> Result<(Expr, &'a [Symbol]), ReadError>
         requires { Nests self.now.room (F.pre self.now.reader) (F.post self.now.reader) }
         ensures { Gives with_rest result (read.within self.now.room symbols.now) }
@@ -169,7 +169,7 @@ impl<F: for<'a> Fn(Global, usize, &'a [Symbol]) -> Result<(Expr, &'a [Symbol]), 
         (self.reader)(self.alloc, self.room, symbols)
     }
 
-    /// The same, put on the heap.
+    /// Reads an expression one level deeper, and puts it on the heap.
     fn boxed_inner<'a>(
         &self,
         symbols: &'a [Symbol],
@@ -207,7 +207,7 @@ impl<F: for<'a> Fn(Global, usize, &'a [Symbol]) -> Result<(Expr, &'a [Symbol]), 
         Ok((Expr::Cast { arg, to }, rest))
     }
 
-    /// The operand of CASE, where there is one.
+    /// The operand of a CASE, if any.
     #[tactic(auto, unfolding(crate::specs::Expressions::operand))]
     fn case_operand<'a>(
         &self,
@@ -223,7 +223,7 @@ impl<F: for<'a> Fn(Global, usize, &'a [Symbol]) -> Result<(Expr, &'a [Symbol]), 
         Ok((Some(arg), rest))
     }
 
-    /// What stands after WHEN.
+    /// Reads what follows WHEN.
     #[tactic(auto, unfolding(crate::specs::Expressions::when))]
     fn when<'a>(&self, symbols: &'a [Symbol]) -> Result<(WhenText, &'a [Symbol]), ReadError>
         requires { Nests self.now.room (F.pre self.now.reader) (F.post self.now.reader) }
@@ -235,7 +235,7 @@ impl<F: for<'a> Fn(Global, usize, &'a [Symbol]) -> Result<(Expr, &'a [Symbol]), 
         Ok((node::when(cond, outcome), rest))
     }
 
-    /// One or more WHEN and THEN.
+    /// One or more pairs of WHEN and THEN.
     #[tactic(auto, unfolding(crate::specs::Expressions::whens))]
     fn whens<'a>(&self, symbols: &'a [Symbol]) -> Result<(Vec<WhenText>, &'a [Symbol]), ReadError>
         requires { Nests self.now.room (F.pre self.now.reader) (F.post self.now.reader) }
@@ -253,7 +253,7 @@ impl<F: for<'a> Fn(Global, usize, &'a [Symbol]) -> Result<(Expr, &'a [Symbol]), 
         }
     }
 
-    /// ELSE and its expression, where they are there.
+    /// ELSE and its expression, if present.
     #[tactic(auto, unfolding(crate::specs::Expressions::otherwise))]
     fn otherwise<'a>(
         &self,
@@ -281,7 +281,7 @@ impl<F: for<'a> Fn(Global, usize, &'a [Symbol]) -> Result<(Expr, &'a [Symbol]), 
         Ok((node::case(arg, whens, otherwise), rest))
     }
 
-    /// What begins by a reserved word.
+    /// Reads an expression that begins with a reserved word.
     fn keyed<'a>(
         &self,
         key: Keyword,
@@ -300,7 +300,7 @@ impl<F: for<'a> Fn(Global, usize, &'a [Symbol]) -> Result<(Expr, &'a [Symbol]), 
         }
     }
 
-    /// One or more expressions with commas between them.
+    /// One or more expressions, separated by commas.
     #[tactic(auto, unfolding(crate::specs::Expressions::exprs))]
     fn expressions<'a>(&self, symbols: &'a [Symbol]) -> Result<(Vec<Expr>, &'a [Symbol]), ReadError>
         requires { Nests self.now.room (F.pre self.now.reader) (F.post self.now.reader) }
@@ -318,7 +318,7 @@ impl<F: for<'a> Fn(Global, usize, &'a [Symbol]) -> Result<(Expr, &'a [Symbol]), 
         }
     }
 
-    /// What stands between the parentheses of a call: whether it is `*`, and the expressions.
+    /// Reads what stands between the parentheses of a call: whether it is `*`, and the expressions.
     #[tactic(auto, unfolding(crate::specs::Expressions::arguments))]
     fn arguments<'a>(
         &self,
@@ -351,7 +351,7 @@ impl<F: for<'a> Fn(Global, usize, &'a [Symbol]) -> Result<(Expr, &'a [Symbol]), 
         Ok((node::call(self.alloc, name, star, args)?, rest))
     }
 
-    /// A call, a column of a source, or a name alone.
+    /// A call, a column with its source, or a plain name.
     #[tactic(auto, unfolding(crate::specs::Expressions::named))]
     fn named<'a>(
         &self,
@@ -397,7 +397,7 @@ impl<F: for<'a> Fn(Global, usize, &'a [Symbol]) -> Result<(Expr, &'a [Symbol]), 
         Ok((after_all(self.alloc, &symbols[..count], arg)?, rest))
     }
 
-    /// Operands of a level with its operators between them, from the left.
+    /// Operands of a level with operators between them, left-associative.
     fn chain<
         'a,
         O: for<'n, 'b> Fn(&'n Self, &'b [Symbol]) -> Result<(Expr, &'b [Symbol]), ReadError>,
@@ -436,7 +436,7 @@ impl<F: for<'a> Fn(Global, usize, &'a [Symbol]) -> Result<(Expr, &'a [Symbol]), 
         self.chain(Level::Sum, Self::product, symbols)
     }
 
-    /// A sum that is put on the heap.
+    /// A sum, put on the heap.
     fn boxed_sum<'a>(&self, symbols: &'a [Symbol]) -> Result<(Boxed<Expr>, &'a [Symbol]), ReadError>
         requires { Nests self.now.room (F.pre self.now.reader) (F.post self.now.reader) }
         ensures { Gives with_rest result (read.sum (read.within self.now.room) symbols.now) }
@@ -479,7 +479,7 @@ impl<F: for<'a> Fn(Global, usize, &'a [Symbol]) -> Result<(Expr, &'a [Symbol]), 
         Ok((node::one_of(negated, arg, choices), rest))
     }
 
-    /// BETWEEN, IN or LIKE, or nothing where NOT wasn't read.
+    /// BETWEEN, IN or LIKE, or nothing unless NOT was read before.
     fn ranged<'a>(
         &self,
         negated: bool,
@@ -516,7 +516,7 @@ impl<F: for<'a> Fn(Global, usize, &'a [Symbol]) -> Result<(Expr, &'a [Symbol]), 
         Ok((node::binary(self.alloc, op, left, right)?, rest))
     }
 
-    /// What is read after a sum: a comparison, IS, BETWEEN, IN or LIKE, or nothing.
+    /// Reads what follows a sum: a comparison, IS, BETWEEN, IN or LIKE, or nothing.
     #[tactic(auto, unfolding(crate::specs::Expressions::tested))]
     fn tested<'a>(
         &self,
@@ -574,7 +574,7 @@ impl<F: for<'a> Fn(Global, usize, &'a [Symbol]) -> Result<(Expr, &'a [Symbol]), 
     }
 }
 
-/// An expression in which others nest at most this deep.
+/// An expression in which others nest at most `room` levels deep.
 #[tactic(auto, unfolding(crate::specs::Expressions::within))]
 fn expression(
     alloc: Global,
@@ -594,7 +594,7 @@ fn expression(
     nested.disjunction(symbols)
 }
 
-/// The expression at the front of some symbols, as long as it goes on, and the symbols after it.
+/// The longest expression at the start of the symbols, and the symbols after it.
 pub fn read_expression(alloc: Global, symbols: &[Symbol]) -> Result<(Expr, &[Symbol]), ReadError>
     ensures found { IfOk result (λ x. Spells (at expr x.0) symbols.now x.1.now) }
     ensures only { (e : Tree) (rest : List OneSymbol) → Spells (at expr e) symbols.now rest → EndsExpr rest
@@ -603,7 +603,8 @@ pub fn read_expression(alloc: Global, symbols: &[Symbol]) -> Result<(Expr, &[Sym
     expression(alloc, symbols.len() + 1, symbols)
 }
 
-/// One or more expressions with commas between them, as long as there are, and the symbols after them.
+/// The longest list of one or more expressions, separated by commas, at the start of the symbols, and the symbols after
+/// it.
 pub fn read_expressions(
     alloc: Global,
     symbols: &[Symbol],
@@ -621,7 +622,7 @@ pub fn read_expressions(
     Ok((Items::of(exprs), rest))
 }
 
-/// Symbols begin with at most one expression that goes as far as it can, and at most one such list of expressions.
+/// Symbols begin with at most one longest expression, and at most one longest list of expressions.
 pub fn one_expression()
     ensures one { (ts us vs : List OneSymbol) (a b : Tree) → Spells (at expr a) ts us → Spells (at expr b) ts vs
         → EndsExpr us → EndsExpr vs → (a ≡ b) × (us ≡ vs) }

@@ -1,9 +1,9 @@
 use std::alloc::{AllocError, AllocFailed};
 
-/// Why nothing was read from the front of some symbols.
+/// Why nothing was read at the start of some symbols.
 #[derive(Clone, Copy, Debug, PartialEq, Eq)]
 pub enum ReadError {
-    /// They don't spell what was to be read.
+    /// The symbols don't spell what was to be read.
     Unspelled,
     /// Out of memory.
     OutOfMemory,

@@ -1,4 +1,4 @@
-//! The symbols of a script, and the reading of expressions.
+//! The symbols of a script, and the reader of expressions.
 #![tactic(auto)]
 
 mod expression;

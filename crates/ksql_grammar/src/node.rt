@@ -1,4 +1,4 @@
-//! Expressions made of their parts.
+//! Expressions built from their parts.
 
 ghost use Rattle.std.specs.Prelude.{◌≡◌, IfOk, List, Option};
 ghost use Rattle.ksql_grammar.specs.Grammar.{when_then};
@@ -22,7 +22,7 @@ pub fn binary(
     Ok(Expr::Binary { op, left, right })
 }
 
-/// The expression after NOT or a sign.
+/// The expression that a NOT or a sign makes of `arg`.
 pub fn after(alloc: Global, prefix: &Symbol, arg: Expr) -> Result<Expr, AllocError>
     ensures { IfOk result (λ e. e ≡ after_prefix prefix.now arg) }
 {
@@ -83,7 +83,7 @@ pub fn case(arg: Option<Boxed<Expr>>, whens: Vec<WhenText>, otherwise: Option<Bo
     }
 }
 
-/// WHEN and THEN.
+/// A WHEN and its THEN.
 pub fn when(cond: Expr, result_of: Expr) -> WhenText
     ensures { result ≡ when_then cond result_of }
 {
@@ -101,7 +101,7 @@ pub fn call(alloc: Global, name: &Chars, star: bool, args: Vec<Expr>) -> Result<
     Ok(Expr::Call { name, star, args })
 }
 
-/// A name alone.
+/// A plain name.
 pub fn name(alloc: Global, name: &Chars) -> Result<Expr, AllocError>
     ensures { IfOk result (λ e. e ≡ Expr.Name Option.None name.now) }
 {
@@ -112,7 +112,7 @@ pub fn name(alloc: Global, name: &Chars) -> Result<Expr, AllocError>
     })
 }
 
-/// A name after a source and `.`.
+/// A name after its source and `.`.
 pub fn name_in(alloc: Global, qualifier: &Chars, name: &Chars) -> Result<Expr, AllocError>
     ensures { IfOk result (λ e. e ≡ Expr.Name (Option.Some qualifier.now) name.now) }
 {

@@ -7,7 +7,7 @@ use crate::word;
 use ksql_lexer::Mark;
 use ksql_types::{BinaryOp, Chars, SqlType};
 
-/// A reserved word. It is no name.
+/// A reserved word, which can't be a name.
 #[derive(Clone, Copy, Debug, PartialEq, Eq)]
 pub enum Keyword {
     Create,
@@ -51,25 +51,25 @@ pub enum Keyword {
     Within,
 }
 
-/// A token as the grammar reads it.
+/// A token as the grammar sees it.
 #[derive(Debug, Drop)]
 pub enum Symbol {
     /// A reserved word.
     Key(Keyword),
-    /// Any other word, upper-cased. It is a name, and the grammar reads some of these words, as `KEY` or `SIZE`, in
-    /// their places.
+    /// Any other word, in upper case. It can be a name; the grammar also reads some of these words, as `KEY` or `SIZE`,
+    /// in particular places.
     Word(Chars),
     /// The name between two backquotes.
     Quoted(Chars),
     /// The content of a text.
     Text(Chars),
-    /// The number that digits write.
+    /// The number that the digits spell.
     Number(u64),
     /// A sign.
     Sign(Mark),
 }
 
-/// The symbols after this reserved word.
+/// The symbols after this reserved word, if it comes first.
 #[tactic(auto, unfolding(crate::specs::Expressions::after_key))]
 pub fn after_key(key: Keyword, symbols: &[Symbol]) -> Option<&[Symbol]>
     ensures { option_copied result ≡ read.after_key key symbols.now }
@@ -80,7 +80,7 @@ pub fn after_key(key: Keyword, symbols: &[Symbol]) -> Option<&[Symbol]>
     }
 }
 
-/// The symbols after this sign.
+/// The symbols after this sign, if it comes first.
 #[tactic(auto, unfolding(crate::specs::Expressions::after_sign))]
 pub fn after_sign(sign: Mark, symbols: &[Symbol]) -> Option<&[Symbol]>
     ensures { option_copied result ≡ read.after_sign sign symbols.now }
@@ -91,7 +91,7 @@ pub fn after_sign(sign: Mark, symbols: &[Symbol]) -> Option<&[Symbol]>
     }
 }
 
-/// The name that a symbol is.
+/// The name that a symbol spells, if any.
 pub fn name_of(symbol: &Symbol) -> Option<&Chars>
     ensures { option_copied result ≡ spec.name_of symbol.now }
 {
@@ -101,7 +101,7 @@ pub fn name_of(symbol: &Symbol) -> Option<&Chars>
     }
 }
 
-/// The type that a symbol is.
+/// The type that a symbol names, if any.
 pub fn type_of(symbol: &Symbol) -> Option<SqlType>
     ensures { result ≡ spec.type_of symbol.now }
 {
@@ -111,7 +111,7 @@ pub fn type_of(symbol: &Symbol) -> Option<SqlType>
     }
 }
 
-/// The operator of a comparison that a symbol is.
+/// The comparison operator of a symbol, if any.
 pub fn comparison_of(symbol: &Symbol) -> Option<BinaryOp>
     ensures { result ≡ spec.comparison_of symbol.now }
 {
@@ -126,7 +126,7 @@ pub fn comparison_of(symbol: &Symbol) -> Option<BinaryOp>
     }
 }
 
-/// The operator of a sum that a symbol is.
+/// The operator of a sum that a symbol stands for, if any.
 pub fn sum_of(symbol: &Symbol) -> Option<BinaryOp>
     ensures { result ≡ spec.sum_of symbol.now }
 {
@@ -138,7 +138,7 @@ pub fn sum_of(symbol: &Symbol) -> Option<BinaryOp>
     }
 }
 
-/// The operator of a product that a symbol is.
+/// The operator of a product that a symbol stands for, if any.
 pub fn product_of(symbol: &Symbol) -> Option<BinaryOp>
     ensures { result ≡ spec.product_of symbol.now }
 {
@@ -150,7 +150,7 @@ pub fn product_of(symbol: &Symbol) -> Option<BinaryOp>
     }
 }
 
-/// OR.
+/// `Or` for the symbol OR.
 pub fn or_of(symbol: &Symbol) -> Option<BinaryOp>
     ensures { result ≡ spec.or_of symbol.now }
 {
@@ -160,7 +160,7 @@ pub fn or_of(symbol: &Symbol) -> Option<BinaryOp>
     }
 }
 
-/// AND.
+/// `And` for the symbol AND.
 pub fn and_of(symbol: &Symbol) -> Option<BinaryOp>
     ensures { result ≡ spec.and_of symbol.now }
 {
@@ -177,7 +177,7 @@ pub fn is_not(symbol: &Symbol) -> bool
     matches!(symbol, Symbol::Key(Keyword::Not))
 }
 
-/// Whether a symbol is a sign of a number.
+/// Whether a symbol can be the sign of a number.
 pub fn is_sign(symbol: &Symbol) -> bool
     ensures { result ≡ read.is_sign symbol.now }
 {

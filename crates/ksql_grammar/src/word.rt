@@ -6,7 +6,7 @@ ghost use Rattle.ksql_grammar.specs.Symbols as spec;
 
 use ksql_types::SqlType;
 
-/// The type that a word is.
+/// The type that a word names, if any.
 pub fn type_of(word: &str) -> Option<SqlType>
     ensures { result ≡ beside spec.type_words word.now }
 {

@@ -20,7 +20,7 @@ pub doubled-append : (xs ys : List ℕ) → doubled (xs ++ ys) ≡ doubled xs ++
 doubled-append [] ys = refl
 doubled-append (x ∷ xs) ys = append_step (x == 39) x (doubled xs) (doubled ys) (doubled (xs ++ ys)) (doubled-append xs ys)
 
--- where no quote is, nothing is doubled
+-- without a quote nothing is doubled
 pub doubled-Lacks : (xs : List ℕ) → Lacks 39 xs → doubled xs ≡ xs
 doubled-Lacks [] h = refl
 doubled-Lacks (x ∷ xs) h =
@@ -40,7 +40,7 @@ module _ (us vs : List ℕ) where
   quote_clash : (y : ℕ) → 39 ∷ us ≡ y ∷ vs → y ≢ 39 → ⊥
   quote_clash y e ne = ne (sym (head_same 39 y us vs e))
 
--- what is left after a text that isn't closed again is the least that any text leaves
+-- the rest after a text that isn't closed again is the shortest that any text leaves
 pub doubled_le : (c us d vs : List ℕ) → doubled c ++ 39 ∷ us ≡ doubled d ++ 39 ∷ vs → NoneBetween 39 us → length us ≤ length vs
 doubled_le c us [] vs e none = omega (arith, ap length e, length-append (doubled c) (39 ∷ us))
 doubled_le [] us (y ∷ ys) vs e none =

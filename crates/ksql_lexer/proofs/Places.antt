@@ -90,7 +90,7 @@ digits_nothing text run rest c r all (Some (kind.Digits d)) after g =
     both_ways (list_all is_ascii_digit run) all (ap (list_all is_ascii_digit) ((digits_run text run rest d after r g).0 ∙ g.spelled.1) ∙ g.spelled.0.1)
 digits_nothing text run rest c r all other after g = false≢true (first_fits text other after Digit c g)
 
--- what stands between quotes
+-- the text between quotes
 
 between_whole : (q : ℕ) (text front inside rest : List ℕ) → text ≡ front ++ rest → front ≡ q ∷ (inside ++ q ∷ []) → text ≡ q ∷ (inside ++ q ∷ rest)
 between_whole q text front inside rest e f = e ∙ ap (λ l. l ++ rest) f ∙ ap (λ l. q ∷ l) (append_assoc inside (q ∷ []) rest)
@@ -98,7 +98,7 @@ between_whole q text front inside rest e f = e ∙ ap (λ l. l ++ rest) f ∙ ap
 begins_between : (q : ℕ) (text inside rest : List ℕ) → text ≡ q ∷ (inside ++ q ∷ rest) → text ≡ (q ∷ (inside ++ q ∷ [])) ++ rest
 begins_between q text inside rest e = e ∙ ap (λ l. q ∷ l) (sym (append_assoc inside (q ∷ []) rest))
 
--- the name that begins a text is what stands between its backquotes
+-- the name that begins a text is the text between its backquotes
 quoted_between : (text inside rest name after : List ℕ) → IsBetween 96 text inside rest → Begins text (Some (kind.Quoted name)) after → (inside ≡ name) × (rest ≡ after)
 quoted_between text inside rest name after b g =
     let whole = between_whole 96 text g.front name after g.whole g.spelled.0 in
@@ -251,7 +251,7 @@ no_comment text no_line no_block front rest e comment =
 pub stripped : (p text rest : List ℕ) → StripsPrefix (FindsTextPrefix p) text rest → text ≡ p ++ rest
 stripped p text rest h = h.1.1 ∙ ap (λ l. p ++ l) (sym h.2)
 
--- no `*/` stands after the `/*` in front
+-- no `*/` follows the leading `/*`
 pub front_open : (text inner : List ℕ) → text ≡ 47 ∷ 42 ∷ inner → ¬ (HasSubslice inner (codes "*/")) → NoneCloses text
 front_open text inner e none front inside rest f = at front (sym e ∙ f)
   where
@@ -262,12 +262,12 @@ front_open text inner e none front inside rest f = at front (sym e ∙ f)
         let later = tail_same 42 y inner (a ++ (47 ∷ 42 ∷ (inside ++ 42 ∷ 47 ∷ rest))) (tail_same 47 x (42 ∷ inner) (y ∷ (a ++ (47 ∷ 42 ∷ (inside ++ 42 ∷ 47 ∷ rest)))) g) in
         none (a ++ (47 ∷ 42 ∷ inside), rest, later ∙ sym (append_assoc a (47 ∷ 42 ∷ inside) (42 ∷ 47 ∷ rest)))
 
--- what holds of a text holds of what is left of it
+-- a property of a text that holds of its rests
 pub none_closes_rest : (text front rest : List ℕ) → text ≡ front ++ rest → NoneCloses text → NoneCloses rest
 none_closes_rest text front rest e none before inside after f =
     none (front ++ before) inside after (e ∙ ap (λ l. front ++ l) f ∙ sym (append_assoc front before (47 ∷ 42 ∷ (inside ++ 42 ∷ 47 ∷ after))))
 
--- no comment begins: by what was looked for
+-- no comment begins, given what was looked for
 pub no_comment_open : (text : List ℕ) → ((rest : List ℕ) → text ≢ 45 ∷ 45 ∷ rest) → NoneCloses text → NoComment text
 no_comment_open text no_line none = no_comment text no_line (λ inside rest. none [] inside rest)
 

@@ -129,7 +129,7 @@ one_piece None (Some (kind.Text n)) f h k = sym (text_same f n None k h)
 one_piece None (Some (kind.Digits n)) f h k = sym (digits_same f n None k h)
 one_piece None (Some (kind.Mark m)) f h k = sym (mark_same f m None k h)
 
--- the longest is one
+-- there is only one longest
 pub one_longest : (text : List ℕ) (p q : Option TokenKind) (us vs : List ℕ) → Longest text p us → Longest text q vs → (p ≡ q) × (us ≡ vs)
 one_longest text p q us vs a b =
     let up = a.longest q vs b.begins in

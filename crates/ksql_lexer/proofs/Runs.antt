@@ -11,7 +11,7 @@ head_same x y xs ys e = cc
 pub tail_same : (x y : ℕ) (xs ys : List ℕ) → x ∷ xs ≡ y ∷ ys → xs ≡ ys
 tail_same x y xs ys e = cc
 
--- two splits with equally long ends are one
+-- two splits whose rests have the same length are the same
 pub same_split : (f us g vs : List ℕ) → f ++ us ≡ g ++ vs → length us ≡ length vs → (f ≡ g) × (us ≡ vs)
 same_split [] us [] vs e l = (refl, e)
 same_split [] us (y ∷ g) vs e l = absurd (omega (arith, ap length e, length-append g vs))
@@ -37,7 +37,7 @@ one_run p f us g vs e a b s t =
 stops_at : (c : ℕ) → not (c == c) ≡ false
 stops_at c = ap not (eq-eqb c c refl)
 
--- what stands before the first byte c, and what follows it, are fixed by the text
+-- what precedes the first byte c, and what follows it, are fixed by the text
 pub one_cut : (c : ℕ) (xs us ys vs : List ℕ) → xs ++ c ∷ us ≡ ys ++ c ∷ vs → Lacks c xs → Lacks c ys → (xs ≡ ys) × (us ≡ vs)
 one_cut c xs us ys vs e a b =
     let r = one_run (λ x. not (x == c)) xs (c ∷ us) ys (c ∷ vs) e a b (stops_at c) (stops_at c) in

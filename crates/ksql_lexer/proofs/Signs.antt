@@ -8,7 +8,7 @@ use Rattle.ksql_lexer.specs.declared.token.TokenKind.TheVariants as kind
 use Rattle.ksql_lexer.specs.Piece.{sign, Spelled}
 use Rattle.ksql_lexer.specs.Place.{pair_mark, single_mark, pair_at, single_at, NoMark, IsLongestMark}
 
--- the bytes of a sign are one that is it, or two that are it
+-- the bytes of a sign are one byte or two bytes
 abbrev pub IsMarkFront : Mark → List ℕ → Type 0
 IsMarkFront m front = ((b : ℕ) × (front ≡ b ∷ []) × (single_mark b ≡ Some m)) ⊎ ((b : ℕ) × (c : ℕ) × (front ≡ b ∷ c ∷ []) × (pair_mark b c ≡ Some m))
 

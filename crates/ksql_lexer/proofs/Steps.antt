@@ -51,7 +51,7 @@ numbered_push : (before : List TokenKind) (ts : List Token) (t : Token) → AreN
 numbered_push before [] t a e = (e ∙ ap statement_after (append-nil before), tt)
 numbered_push before (x ∷ ts) t a e = (a.0, numbered_push (before ++ x.kind ∷ []) ts t a.1 (e ∙ ap statement_after (sym (append_assoc before (x.kind ∷ []) (kinds ts)))))
 
--- the script is these tokens up to the rest, of which the next has this number
+-- the script is these tokens up to the rest, whose first token has this number
 pub record Reached (text rest : List ℕ) (ts : List Token) (at : Numbering) (closes : Bool) : Type 0 where
   pub lexes : Lexes text (kinds ts) rest
   pub numbered : AreNumbered [] ts
@@ -70,7 +70,7 @@ reached_start text at closes s b c = record {
   open_ends = λ f. let clash : true ≡ false = sym c ∙ f in absurd cc;
 }
 
--- what stands at a place takes at least a byte
+-- what begins at a place takes at least a byte
 pub longest_less : (text rest : List ℕ) (p : Option TokenKind) → Longest text p rest → length rest < length text
 longest_less text rest p l = at l.begins.front l.begins.whole (spelled_first p l.begins.front l.begins.spelled)
   where

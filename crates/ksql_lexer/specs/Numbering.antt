@@ -1,4 +1,4 @@
--- The number of the statement, from one token to the next.
+-- The number of the statement, from token to token.
 use Rattle.std.specs.Prelude.{◌+◌, ◌&&◌, not, if◌then◌else◌}
 use Rattle.ksql_lexer.specs.declared.script.Numbering.{Numbering}
 use Rattle.ksql_lexer.specs.declared.token.TokenKind.{TokenKind}

@@ -1,4 +1,4 @@
--- What stands at a place of a script: a token, a blank or a comment.
+-- What can stand at a place of a script: a token, a blank or a comment.
 use Rattle.std.specs.Prelude.{◌≡◌, ℕ, ◌<◌, ◌≤◌, Bool, false, ◌==◌, ◌||◌, not, if◌then◌else◌, IsTrue, ◌⊎◌, List, [], ◌∷◌, ◌++◌, length, map, Option, Some, None, codes}
 use Rattle.std.specs.List.{list_all}
 use Rattle.std.specs.Char.{is_ascii_alphabetic, is_ascii_digit, to_ascii_uppercase}
@@ -37,7 +37,7 @@ AreDigits bs = (0 < length bs) × IsTrue (list_all is_ascii_digit bs)
 abbrev pub IsQuotable : List ℕ → Type 0
 IsQuotable name = (0 < length name) × Lacks 96 name × Lacks 10 name
 
--- a text with each quote in it written twice
+-- a text with each quote in it doubled
 abbrev pub doubled : List ℕ → List ℕ
 doubled [] = []
 doubled (b ∷ bs) = if b == 39 then 39 ∷ 39 ∷ doubled bs else b ∷ doubled bs
@@ -62,11 +62,11 @@ sign mark.Slash = codes "/"
 sign mark.Percent = codes "%"
 sign mark.Concat = codes "||"
 
--- `--` and what follows in the line
+-- `--` and the rest of the line
 abbrev pub IsLineComment : List ℕ → Type 0
 IsLineComment front = (line : List ℕ) × (front ≡ codes "--" ++ line) × Lacks 10 line
 
--- `/*` and what follows up to the next `*/`
+-- `/*` and everything up to the next `*/`
 abbrev pub IsBlockComment : List ℕ → Type 0
 IsBlockComment front = (inside : List ℕ) × (front ≡ codes "/*" ++ (inside ++ codes "*/")) × ¬ (HasSubslice inside (codes "*/"))
 
@@ -74,7 +74,7 @@ IsBlockComment front = (inside : List ℕ) × (front ≡ codes "/*" ++ (inside +
 abbrev pub IsPassedOver : List ℕ → Type 0
 IsPassedOver front = ((b : ℕ) × (front ≡ b ∷ []) × IsTrue (is_blank b)) ⊎ (IsLineComment front ⊎ IsBlockComment front)
 
--- the bytes are the token; as None, they are a blank or a comment
+-- the bytes spell the token, or for None a blank or a comment
 abbrev pub Spelled : Option TokenKind → List ℕ → Type 0
 Spelled None front = IsPassedOver front
 Spelled (Some (kind.Word name)) front = IsWord front × (name ≡ map to_ascii_uppercase front)
@@ -88,23 +88,23 @@ abbrev pub first_passes : (ℕ → Bool) → List ℕ → Bool
 first_passes test [] = false
 first_passes test (b ∷ bs) = test b
 
--- what may follow: after digits neither a letter, a digit nor `_`
+-- what may follow a token: after digits neither a letter, a digit nor `_`
 abbrev pub MayFollow : Option TokenKind → List ℕ → Type 0
 MayFollow (Some (kind.Digits digits)) rest = first_passes is_word_byte rest ≡ false
 MayFollow _ rest = Unit {0}
 
--- the text begins with this token, or as None with a blank or a comment, and then comes the rest
+-- the text begins with this token, or for None with a blank or a comment, and then comes the rest
 pub record Begins (text : List ℕ) (piece : Option TokenKind) (rest : List ℕ) : Type 0 where
   pub front : List ℕ
   pub whole : text ≡ front ++ rest
   pub spelled : Spelled piece front
   pub follows : MayFollow piece rest
 
--- it does, and with nothing that is longer
+-- it does, and with nothing longer
 pub record Longest (text : List ℕ) (piece : Option TokenKind) (rest : List ℕ) : Type 0 where
   pub begins : Begins text piece rest
   pub longest : (other : Option TokenKind) (after : List ℕ) → Begins text other after → length rest ≤ length after
 
--- neither a token, a blank nor a comment begins the text
+-- no token, blank or comment begins the text
 abbrev pub BeginsNothing : List ℕ → Type 0
 BeginsNothing text = (piece : Option TokenKind) (rest : List ℕ) → Begins text piece rest → ⊥

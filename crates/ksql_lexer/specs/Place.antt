@@ -1,4 +1,4 @@
--- The parts in which a place of a script is read.
+-- The parts that a place of a script is read in.
 use Rattle.std.specs.Prelude.{◌≡◌, ◌≢◌, ℕ, ◌≤◌, Bool, false, ◌==◌, ◌&&◌, ◌||◌, if◌then◌else◌, IsTrue, ◌⊎◌, List, [], ◌∷◌, ◌++◌, length, Option, Some, None, codes}
 use Rattle.std.specs.List.{list_all}
 use Rattle.std.specs.Char.{is_ascii_digit}
@@ -11,7 +11,7 @@ use Rattle.ksql_lexer.specs.declared.token.Mark.TheVariants as mark
 use Rattle.ksql_lexer.specs.declared.token.TokenKind.TheVariants as kind
 use Rattle.ksql_lexer.specs.Piece.{is_blank, is_letter, first_passes, Lacks, Begins, Longest, BeginsNothing, IsLineComment, IsBlockComment}
 
--- what can begin by a byte
+-- what a byte can begin
 abbrev pub class_of : ℕ → Class
 class_of b =
     if is_blank b then Blank
@@ -21,12 +21,12 @@ class_of b =
     else (if b == 96 then Backquote
     else Other))))
 
--- what can begin by the first byte of a text
+-- what the first byte of a text can begin
 abbrev pub first_class : List ℕ → Option Class
 first_class [] = None
 first_class (b ∷ bs) = Some (class_of b)
 
--- the run is all of the text that passes the test, up to the first byte that doesn't
+-- the run is the longest prefix of the text whose bytes all pass the test
 pub record IsRun (test : ℕ → Bool) (text run rest : List ℕ) : Type 0 where
   pub whole : text ≡ run ++ rest
   pub passes : IsTrue (list_all test run)
@@ -37,7 +37,7 @@ pub record IsBetween (quote : ℕ) (text inside rest : List ℕ) : Type 0 where
   pub whole : text ≡ quote ∷ (inside ++ quote ∷ rest)
   pub lacks : Lacks quote inside
 
--- the text doesn't begin with a quote after which there is another
+-- the text doesn't begin with a quote that another one follows
 abbrev pub NoneBetween : ℕ → List ℕ → Type 0
 NoneBetween quote text = (inside rest : List ℕ) → text ≢ quote ∷ (inside ++ quote ∷ rest)
 
@@ -54,7 +54,7 @@ NoneCloses text = (front inside rest : List ℕ) → text ≢ front ++ (codes "/
 abbrev pub NoComment : List ℕ → Type 0
 NoComment text = (front rest : List ℕ) → text ≡ front ++ rest → IsLineComment front ⊎ IsBlockComment front → ⊥
 
--- the sign that two bytes are
+-- the sign that two bytes spell
 abbrev pub pair_mark : ℕ → ℕ → Option Mark
 pair_mark first second =
     if ((first == 60) && (second == 62)) || ((first == 33) && (second == 61)) then Some mark.NotEqual
@@ -63,7 +63,7 @@ pair_mark first second =
     else (if (first == 124) && (second == 124) then Some mark.Concat
     else None)))
 
--- the sign that a byte is
+-- the sign that a byte spells
 abbrev pub single_mark : ℕ → Option Mark
 single_mark b =
     if b == 40 then Some mark.Open
@@ -81,13 +81,13 @@ single_mark b =
     else (if b == 37 then Some mark.Percent
     else None))))))))))))
 
--- the sign that the first two bytes of a text are
+-- the sign that the first two bytes of a text spell
 abbrev pub pair_at : List ℕ → Option Mark
 pair_at [] = None
 pair_at (b ∷ []) = None
 pair_at (b ∷ c ∷ bs) = pair_mark b c
 
--- the sign that the first byte of a text is
+-- the sign that the first byte of a text spells
 abbrev pub single_at : List ℕ → Option Mark
 single_at [] = None
 single_at (b ∷ bs) = single_mark b
@@ -96,12 +96,12 @@ single_at (b ∷ bs) = single_mark b
 abbrev pub NoMark : List ℕ → Type 0
 NoMark text = (m : Mark) (rest : List ℕ) → Begins text (Some (kind.Mark m)) rest → ⊥
 
--- the text begins with this sign, and with none that leaves less
+-- the text begins with this sign, and with no longer one
 pub record IsLongestMark (text : List ℕ) (m : Mark) (rest : List ℕ) : Type 0 where
   pub begins : Begins text (Some (kind.Mark m)) rest
   pub longest : (other : Mark) (after : List ℕ) → Begins text (Some (kind.Mark other)) after → length rest ≤ length after
 
--- what was found at the front of a text is the longest that begins there
+-- what was found at the start of a text is the longest that begins there
 abbrev pub Stands : List ℕ → Option Found → Type 0
 Stands text None = BeginsNothing text
 Stands text (Some found) = Longest text found.kind found.rest.now

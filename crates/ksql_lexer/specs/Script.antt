@@ -9,7 +9,7 @@ use Rattle.ksql_lexer.specs.declared.token.TokenKind.{TokenKind}
 use Rattle.ksql_lexer.specs.declared.token.TokenKind.TheVariants as kind
 use Rattle.ksql_lexer.specs.Piece.{Longest, BeginsNothing}
 
--- the text is these tokens up to the rest: at each place the longest is taken, and blanks and comments are passed over
+-- the text is these tokens up to the rest: the longest at each place, skipping blanks and comments
 pub data Lexes : List ℕ → List TokenKind → List ℕ → Type 0 where
   done : {text : List ℕ} → Lexes text [] text
   skip : {text after rest : List ℕ} {ks : List TokenKind} → Longest text None after → Lexes after ks rest → Lexes text ks rest
@@ -20,21 +20,21 @@ abbrev pub is_semicolon : TokenKind → Bool
 is_semicolon (kind.Mark mark.Semicolon) = true
 is_semicolon _ = false
 
--- how many non-empty lists of tokens end by `;`, where begun says that the first list has tokens before these
+-- how many non-empty statements end with `;`, where `begun` says whether the first one has earlier tokens
 abbrev pub ended_from : Bool → List TokenKind → ℕ
 ended_from begun [] = 0
 ended_from begun (k ∷ ks) = if is_semicolon k then (if begun then 1 else 0) + ended_from false ks else ended_from true ks
 
--- the number of the statement that comes after these tokens: one more than that of the non-empty lists that ended by `;`
+-- the number of the statement after these tokens: one more than the number of non-empty statements that ended with `;`
 abbrev pub statement_after : List TokenKind → ℕ
 statement_after ks = 1 + ended_from false ks
 
--- each token has the number of its statement, where the tokens before came first
+-- each token has the number of its statement, given the tokens before
 abbrev pub AreNumbered : List TokenKind → List Token → Type 0
 AreNumbered before [] = Unit {0}
 AreNumbered before (t ∷ ts) = (t.statement ≡ statement_after before) × AreNumbered (before ++ t.kind ∷ []) ts
 
--- what the tokens are, without their numbers
+-- the kinds of the tokens, without their numbers
 abbrev pub kinds : List Token → List TokenKind
 kinds ts = map (λ t. t.kind) ts
 
@@ -43,7 +43,7 @@ pub record AreTokens (text : List ℕ) (ts : List Token) : Type 0 where
   pub lexes : Lexes text (kinds ts) []
   pub numbered : AreNumbered [] ts
 
--- the text is these tokens up to a place where neither a token, a blank nor a comment begins
+-- the text is these tokens up to a place where no token, blank or comment begins
 pub record Breaks (text : List ℕ) (ks : List TokenKind) (place : List ℕ) : Type 0 where
   pub lexes : Lexes text ks place
   pub more : place ≢ []
@@ -53,13 +53,13 @@ pub record Breaks (text : List ℕ) (ks : List TokenKind) (place : List ℕ) : T
 abbrev pub BreaksIn : List ℕ → ℕ → Type 0
 BreaksIn text s = (ks : List TokenKind) × (place : List ℕ) × Breaks text ks place × (s ≡ statement_after ks)
 
--- an answer is so: the text's tokens, or the statement of its first bad place
+-- a result is right: the text's tokens, or the statement of its first bad place
 abbrev pub IsReading : List ℕ → Result (Vec Token) LexFault → Type 0
 IsReading text (Ok tokens) = AreTokens text tokens.items
 IsReading text (Err (Bad s)) = BreaksIn text s
 IsReading text (Err OutOfMemory) = Unit {0}
 
--- what is answered is this, unless memory ran out
+-- the result is this, unless memory ran out
 abbrev pub Answers : Result (Vec Token) LexFault → Result (List Token) LexFault → Type 0
 Answers (Ok tokens) wanted = wanted ≡ Ok tokens.items
 Answers (Err (Bad s)) wanted = wanted ≡ Err (Bad s)

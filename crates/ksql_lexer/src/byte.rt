@@ -4,7 +4,7 @@ ghost use Rattle.std.specs.List.{list_all};
 ghost use Rattle.ksql_lexer.specs.Piece.{is_word_byte, Lacks};
 ghost use Rattle.ksql_lexer.specs.Place.{class_of, first_class};
 
-/// What can begin by a byte. `Other` is a sign, a comment, or nothing.
+/// What a byte can begin. `Other` is a sign, a comment, or nothing.
 #[derive(Clone, Copy, Debug, PartialEq, Eq)]
 pub enum Class {
     Blank,
@@ -58,7 +58,7 @@ fn is_one_line(text: &str) -> bool
     text.bytes().all(|byte| byte != b'\n')
 }
 
-/// Whether a text isn't empty and holds no line end.
+/// Whether a text is not empty and has no line end.
 pub fn is_quotable(text: &str) -> bool
     ensures { IsTrue result ↔ ((0 < length text.now) × Lacks 10 text.now) }
 {

@@ -18,22 +18,21 @@ fn line_len(text: &str) -> usize
     text.bytes().take_while(|byte| *byte != b'\n').count()
 }
 
-/// The letters, digits and `_` at the front of a text, and what follows them.
+/// The leading letters, digits and `_` of a text, and the rest.
 pub fn word_at(text: &str) -> (&str, &str)
     ensures { IsRun is_word_byte text.now result.0.now result.1.now }
 {
     text.split_at(word_len(text))
 }
 
-/// The first line of a text, and what follows: the empty text, or one that begins by the line's end.
+/// The first line of a text, and the rest, which is empty or begins with the line end.
 pub fn line_at(text: &str) -> (&str, &str)
     ensures { IsRun (λ b. not (b == 10)) text.now result.0.now result.1.now }
 {
     text.split_at(line_len(text))
 }
 
-/// What stands between a quote at the front of a text and the next such quote, and what follows that one.
-/// `quote` is ASCII.
+/// The text between the leading `quote` and the next one, and the rest after that. `quote` is ASCII.
 pub fn between(text: &str, quote: char) -> Option<(&str, &str)>
     requires { quote < 128 }
     ensures { MatchOption result (NoneBetween quote text.now) (λ found. IsBetween quote text.now found.0.now found.1.now) }
@@ -41,7 +40,7 @@ pub fn between(text: &str, quote: char) -> Option<(&str, &str)>
     text.strip_prefix(quote)?.split_once(quote)
 }
 
-/// What stands before the first `*/` of a text, and what follows that.
+/// The text before the first `*/`, and the rest after it.
 pub fn up_to_end(text: &str) -> Option<(&str, &str)>
     ensures { MatchOption result (¬ (HasSubslice text.now (codes "*/"))) (λ found. IsUpToEnd text.now found.0.now found.1.now) }
 {

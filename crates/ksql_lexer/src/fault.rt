@@ -1,11 +1,10 @@
 use std::alloc::{AllocError, AllocFailed};
 
-/// Why a text has no tokens.
+/// Why a text can't be split into tokens.
 #[derive(Clone, Copy, Debug, PartialEq, Eq)]
 pub enum LexFault {
-    /// At some place of the text neither a token, a blank nor a comment begins. `statement` is the number of the
-    /// statement of the first such place: one more than the number of the non-empty lists of tokens that ended by
-    /// `;` before it.
+    /// At some place no token, blank or comment begins. `statement` is the number of the statement with the first such
+    /// place: one more than the number of non-empty statements that ended with `;` before it.
     Bad { statement: u32 },
     /// Out of memory.
     OutOfMemory,

@@ -10,7 +10,7 @@ use crate::token::TokenKind;
 use ksql_types::Chars;
 use std::alloc::{AllocError, Global};
 
-/// What stands at a place: a token, or as `None` a blank or a comment; and the text after it.
+/// What begins at a place: a token, or `None` for a blank or a comment; and the rest of the text.
 #[derive(Drop)]
 pub struct Found<'a> {
     pub kind: Option<TokenKind>,
@@ -72,7 +72,7 @@ fn read_quoted(alloc: Global, text: &str) -> Result<Option<Found<'_>>, AllocErro
     }))
 }
 
-// A quote directly after the text's end stands for a quote inside, where a later one ends the text.
+// A quote directly after the closing quote stands for a quote in the text, if another quote follows to close it.
 fn read_text(alloc: Global, text: &str) -> Result<Option<Found<'_>>, AllocError>
     requires short { length text.now ≤ longest_text }
     requires class { first_class text.now ≡ Some Class.Quote }
@@ -93,7 +93,7 @@ fn read_text(alloc: Global, text: &str) -> Result<Option<Found<'_>>, AllocError>
     }))
 }
 
-// Where no `*/` follows a `/*`, `closes` becomes false, so that no later `/*` looks for one.
+// If no `*/` follows a `/*`, `closes` becomes false, so that no later `/*` searches for one.
 fn after_comment<'a>(text: &'a str, closes: &mut bool) -> Option<&'a str>
     requires { closes.old ≡ false → NoneCloses text.now }
     ensures closes { closes.new ≡ false → NoneCloses text.now }
@@ -132,8 +132,8 @@ fn read_other<'a>(text: &'a str, closes: &mut bool) -> Option<Found<'a>>
     })
 }
 
-/// What stands at the front of a text of at most 1,048,576 bytes: the longest that begins there, or `None` where
-/// nothing does. `closes` may be false only where no `/*` of the text has a `*/` after it, and so it is afterwards.
+/// The longest token, blank or comment at the start of a text of at most 1,048,576 bytes, or `None` if nothing begins
+/// there. `closes` may be false only if no `/*` of the text has a `*/` after it; the same holds on return.
 pub fn read_place<'a>(
     alloc: Global,
     text: &'a str,

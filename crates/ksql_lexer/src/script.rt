@@ -9,7 +9,7 @@ use crate::place::{Found, read_place};
 use crate::token::{Mark, Token, TokenKind};
 use std::alloc::Global;
 
-// Where a place is among the statements: the number of its statement, and whether that has tokens before it.
+// The statement at a place: its number, and whether it has tokens before the place.
 #[derive(Clone, Copy)]
 struct Numbering {
     statement: u32,
@@ -23,7 +23,7 @@ fn is_semicolon(kind: &TokenKind) -> bool
 }
 
 impl Numbering {
-    // After a token.
+    // The numbering after a token.
     fn after(self, kind: &TokenKind) -> Numbering
         requires { self.statement < 2 ^ 31 }
         ensures { result ≡ moved self kind.now }
@@ -73,21 +73,21 @@ fn read_script(alloc: Global, text: &str) -> Result<Vec<Token>, LexFault>
     Ok(tokens)
 }
 
-/// The tokens of a text of at most 1,048,576 bytes, in their order: the longest token at each place, where blanks and
-/// comments are passed over. A `/*` with no `*/` after it is the two signs `/` and `*`. A quote or backquote with no
-/// other after it begins no token, nor do digits directly followed by a letter or `_`. Takes a time linear in the text.
+/// The tokens of a text of at most 1,048,576 bytes, in order: the longest token at each place, skipping blanks and
+/// comments. A `/*` without a `*/` after it is the two signs `/` and `*`. A quote or backquote without a closing one
+/// begins no token, nor do digits directly followed by a letter or `_`. Takes time linear in the text.
 pub fn tokens(alloc: Global, text: &str) -> Result<Vec<Token>, LexFault>
     requires { length text.now ≤ longest_text }
-    // What is answered is so: these are its tokens, or this is the statement of its first bad place.
+    // Every result is right: these are the text's tokens, or this is the statement of its first bad place.
     ensures found { IsReading text.now result }
-    // What is so is answered, unless memory runs out.
+    // Every right result is returned, unless memory runs out.
     ensures only { (ts : List OneToken) → AreTokens text.now ts → Answers result (Ok ts) }
     ensures bad { (s : ℕ) → BreaksIn text.now s → Answers result (Err (LexFault.Bad s)) }
 {
     read_script(alloc, text)
 }
 
-/// A text has one list of tokens, or one statement in which its first bad place is, and not both.
+/// A text has either one list of tokens, or one statement with its first bad place, and not both.
 pub fn one_reading()
     ensures one_list { (text : List ℕ) (ts us : List OneToken) → AreTokens text ts → AreTokens text us → ts ≡ us }
     ensures one_fault { (text : List ℕ) (s n : ℕ) → BreaksIn text s → BreaksIn text n → s ≡ n }

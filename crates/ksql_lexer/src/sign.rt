@@ -54,7 +54,7 @@ fn single_at(text: &str) -> Option<Mark>
     }
 }
 
-/// The longest sign at the front of a text, and what follows it.
+/// The longest sign at the start of a text, and the rest.
 pub fn mark_at(text: &str) -> Option<(Mark, &str)>
     ensures { MatchOption result (NoMark text.now) (λ found. IsLongestMark text.now found.0 found.1.now) }
 {

@@ -1,7 +1,7 @@
 use ksql_types::{Chars, CopyOf};
 use std::alloc::{AllocError, Global};
 
-/// A sign. `!=` is `NotEqual`, as `<>` is, and `||` is `Concat`.
+/// A sign. Both `!=` and `<>` are `NotEqual`, and `||` is `Concat`.
 #[derive(Clone, Copy, Debug, PartialEq, Eq)]
 pub enum Mark {
     Open,
@@ -23,23 +23,23 @@ pub enum Mark {
     Concat,
 }
 
-/// What a token is.
+/// The kind of a token, and its text.
 #[derive(Debug, Drop)]
 pub enum TokenKind {
-    /// A word, with its letters upper-cased: words are matched, and names taken, in any case.
+    /// A word in upper case: keywords and names ignore case.
     Word(Chars),
-    /// The name between two backquotes, in the case in which it is written.
+    /// The name between two backquotes, as written.
     Quoted(Chars),
-    /// The text between two single quotes, where two quotes inside stand for one.
+    /// The text between two single quotes, where a doubled quote stands for one.
     Text(Chars),
-    /// Decimal digits, as they are written.
+    /// Decimal digits, as written.
     Digits(Chars),
     /// A sign.
     Mark(Mark),
 }
 
-/// A token, with the number of its statement: one more than the number of the non-empty lists of tokens that
-/// ended by `;` before it. So a `;` has the number of the statement that it ends.
+/// A token, with the number of its statement: one more than the number of non-empty statements that ended with `;`
+/// before it. So a `;` has the number of the statement that it ends.
 #[derive(Debug, Drop)]
 pub struct Token {
     pub kind: TokenKind,

@@ -81,7 +81,7 @@ as_one-keeps : (steps : List Step) → AllByRecursion KeepsStamp steps → Keeps
 as_one-keeps [] all before e = (refl, tt)
 as_one-keeps (step ∷ steps) all before e = followed_by-keeps step (as_one steps) all.0 (as_one-keeps steps all.1) before e
 
--- to cut what comes of entries is to cut the entries
+-- cutting what entries give is cutting the entries
 pub through-cut : (p : Stamp → Bool) (steps : List Step) → AllByRecursion KeepsStamp steps → (es : List Entry) → PassesFirst (enters p) es →
     filter (passes p) (through steps es) ≡ through steps (filter (enters p) es)
 through-cut p steps keeps es first =

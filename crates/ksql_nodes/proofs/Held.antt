@@ -67,7 +67,7 @@ standing-more (x ∷ xs) e =
         ends true = refl
         ends false = refl
 
--- the entry of a key that stands is the last of that key
+-- the current entry of a key is the last one of that key
 standing-key : (key : List Value) (es : List Entry) → filter (has_key key) (standing es) ≡ option_to_list (last_or None (filter (has_key key) es))
 standing-key key [] = refl
 standing-key key (x ∷ xs) = by (has_key key x) refl (standing-key key xs)

@@ -1,4 +1,4 @@
--- Keys are the same exactly where they are equal.
+-- Keys are the same exactly if they are equal.
 use Rattle.std.proofs.Common.{◌≡◌, ◌∙◌, ap, refl, sym, subst, List, Bool, true, false, true≢false}
 use Rattle.std.specs.Bool.{Decides}
 use Rattle.std.specs.Cmp.{signed_Decides}

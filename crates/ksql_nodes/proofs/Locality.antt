@@ -1,4 +1,5 @@
--- What a node gives is fixed by the entries of the key that it needs, and where it has a stream time by those of its lane.
+-- What a node gives is fixed by the entries of the key that it needs, and where it has a stream time by those of its
+-- lane.
 use Rattle.std.proofs.Common.{◌≡◌, ◌∙◌, ap, ap₂, refl, sym, subst, ℕ, List, [], ◌∷◌, ◌++◌, map, Bool, true, false, cond, true≢false}
 use Rattle.std.proofs.lemmas.List.{append-nil}
 use Rattle.std.proofs.lemmas.List.Elements.{filter-append}
@@ -132,11 +133,11 @@ gives-fixed n (Select keys vs) e p covers before = refl
 
 -- ---- the results on some entries
 
--- a step that is fixed, for entries that pass, by those that pass
+-- a step whose results for entries that pass depend only on those that pass
 abbrev pub FixedBy : (Entry → Bool) → Step → Type 0
 FixedBy p step = (e : Entry) → p e ≡ true → (before : List Entry) → step (filter p before) e ≡ step before e
 
--- the results on the entries that pass are those that these entries cause among all
+-- the results on the entries that pass are what these entries cause among all
 results-divided : (p : Entry → Bool) (step : Step) → FixedBy p step → (before es : List Entry) →
     results step (filter p before) (filter p es) ≡ results (only p step) before es
 results-divided p step fixed before [] = refl

@@ -103,7 +103,7 @@ amount-each keys tk g a ta side (e ∷ es) =
     (dated-amount a ta e.change.time (in_of keys g e.change.time (side e)) ∙ ap (shared a) (in-timeless keys tk g e.change.time (side e)))
     (amount-each keys tk g a ta side es)
 
--- the rows that stand in a group
+-- the rows in a group
 held-each : (keys : List Typed) (g : List Value) (es : List Entry) →
     entered (filter (λ e. is_in keys g e.change.time (row_in e.change.body)) es) ≡ flat_map (entered_in keys g) es
 held-each keys g [] = refl
@@ -269,7 +269,7 @@ held-results n keys tk aggs ok before (e ∷ es) t0 t =
     let t1 : IsTableFrom [] (before ++ e ∷ []) = table-append [] before (e ∷ []) t0 (t.0, tt) in
     ap₂ (λ x y. x ++ y) (aggregate_of_table-one n keys tk aggs ok before e t0 t1) (held-results n keys tk aggs ok (before ++ e ∷ []) es t1 t.1)
 
--- an aggregate of a table in one step is what comes of regrouping it and of entered less left
+-- an aggregate of a table in one step gives the same as regrouping, then entered less left
 pub aggregate_of_table-through : (n : ℕ) (keys : List Typed) → AllByRecursion Timeless keys → (aggs : List Agg) → AllByRecursion IsHeld aggs → (es : List Entry) → IsTableFrom [] es →
     through (gives n (Group keys) ∷ gives n (Aggregate Table aggs None) ∷ []) es ≡ through (aggregate_of_table keys aggs ∷ []) es
 aggregate_of_table-through n keys tk aggs ok es table =

@@ -23,7 +23,7 @@ results-more step before es e =
 abbrev pub entry : Change → Entry
 entry c = record { side = 0; change = c }
 
--- two steps in a row are one
+-- two steps in a row act as one
 pub results-followed_by : (first second : Step) (before es : List Entry) →
     results second (from_side 0 (results first [] before)) (from_side 0 (results first before es)) ≡ results (followed_by first second) before es
 results-followed_by first second before [] = refl
@@ -41,7 +41,7 @@ results-each : (before es : List Entry) → results (λ b e. e.change ∷ []) be
 results-each before [] = refl
 results-each before (e ∷ es) = ap (λ rest. e.change ∷ rest) (results-each (before ++ e ∷ []) es)
 
--- steps in a row are one
+-- steps in a row act as one
 pub through-as_one : (steps : List Step) (es : List Entry) → through steps es ≡ results (as_one steps) [] es
 through-as_one [] es = sym (results-each [] es)
 through-as_one (step ∷ steps) es =

@@ -95,15 +95,15 @@ counts = change 0 0 (0 ∷ []) 1 (text 120 ∷ []) (Turned None (Some (counted 1
     ∷ change 0 1 (1 ∷ []) 2 (text 121 ∷ []) (Turned None (Some (counted 121 1)))
     ∷ change 0 3 (0 ∷ []) 4 (text 121 ∷ []) (Turned (Some (counted 121 1)) (Some (counted 121 0))) ∷ []
 
--- A row that moves leaves its group and enters another. A group that has lost its rows counts 0, and a tombstone of a key that
--- isn't there changes nothing.
+-- A row that moves leaves its group and enters another. A group that has lost its rows counts 0, and a tombstone of a
+-- key that isn't there changes nothing.
 pub a_moved_row_leaves_its_group :
     through (gives 1 (Table 0) ∷ gives 1 (Group (column 1 ∷ [])) ∷ gives 1 (Aggregate kind.Table (count_all ∷ []) None) ∷ []) (from_side 0 declared)
     ≡ counts
 unfolding gives is_same_key int_wrap hash
 a_moved_row_leaves_its_group = simp column-value refl
 
--- the same changes come of the rows that the table holds in each group
+-- the rows that the table holds in each group give the same changes
 pub a_moved_row_is_held_by_its_group :
     through (gives 1 (Table 0) ∷ aggregate_of_table (column 1 ∷ []) (count_all ∷ []) ∷ []) (from_side 0 declared) ≡ counts
 unfolding gives is_same_key int_wrap hash
@@ -124,7 +124,8 @@ in_window offset time index start old new = record (change 0 offset (index ∷ [
   span = Some (record { start = start; end = start + 10 });
 }
 
--- tumbling windows of 10 with a grace of 5: at stream time 24 a record of 12 is still counted, and at 25 it comes too late
+-- tumbling windows of 10 with a grace of 5: at stream time 24 a record of 12 is still counted, and at 25 it comes too
+-- late
 pub a_late_record_stays_out :
     through (gives 1 (Group (column 0 ∷ [])) ∷ gives 1 (Aggregate kind.Stream (count_all ∷ []) (Some (record { size = 10; advance = 10; grace = 5 }))) ∷ [])
     (from_side 0 (said_at 0 24 ∷ said_at 1 12 ∷ said_at 2 25 ∷ said_at 3 12 ∷ []))
@@ -133,7 +134,7 @@ pub a_late_record_stays_out :
 unfolding gives is_same_key int_wrap hash
 a_late_record_stays_out = simp column-value refl
 
--- hopping windows of 10 that start each 5: a record of 12 is in two of them, and one of 3 in that from 0 alone
+-- hopping windows of 10 that start every 5: a record at 12 is in two of them, and one at 3 only in that from 0
 pub hopping_windows_overlap :
     through (gives 1 (Group (column 0 ∷ [])) ∷ gives 1 (Aggregate kind.Stream (count_all ∷ []) (Some (record { size = 10; advance = 5; grace = 86400000 }))) ∷ [])
     (from_side 0 (said_at 0 12 ∷ said_at 1 3 ∷ []))
@@ -164,8 +165,8 @@ pub a_full_join_has_nulls_for_a_side :
 unfolding gives is_same_key int_wrap hash
 a_full_join_has_nulls_for_a_side = refl
 
--- In a LEFT join a tombstone of a key that is absent on its own side triggers nothing. The time of a change is no earlier than
--- that of the other side's row.
+-- In a LEFT join a tombstone of a key that is absent on its own side triggers nothing. The time of a change is no
+-- earlier than that of the other side's row.
 pub a_tombstone_of_an_absent_key_triggers_nothing :
     results (gives 1 (JoinTables Left (side 1) (side 0))) []
     (on_right (change 0 0 [] 1 key_a (Turned None None)) ∷ on_left (change 1 0 [] 2 key_a (Turned None (Some l1)))
@@ -177,7 +178,7 @@ pub a_tombstone_of_an_absent_key_triggers_nothing :
 unfolding gives is_same_key
 a_tombstone_of_an_absent_key_triggers_nothing = refl
 
--- a stream's row is joined with the table's row that stands before it, and not with one that it causes itself
+-- a stream's row is joined with the table's row before it, and not with one that it causes itself
 pub a_row_is_joined_with_what_stands_before_it :
     results (gives 1 (JoinStreamTable Inner (column 0) (record { relation = 0; columns = 1 }) (side 1))) []
     (on_left (said_at 0 1) ∷ on_right (change 0 0 [] 1 key_a (Turned None (Some (counted 97 1))))

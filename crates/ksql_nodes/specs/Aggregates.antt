@@ -32,22 +32,22 @@ abbrev pub total : List Value → ℤ
 total [] = pos 0
 total (v ∷ vs) = unwrap_or (whole v) (pos 0) +ℤ total vs
 
--- the number that COUNT and SUM bring into the range of their type; no other function is asked for one
+-- the number that COUNT and SUM wrap into the range of their type; no other function has one
 abbrev pub amount : AggFun → List Value → ℤ
 amount CountAll vs = pos (length vs)
 amount Count vs = pos (length (present vs))
 amount Sum vs = total (present vs)
 amount _ vs = pos 0
 
--- the one of two values that passes a comparison with the other; NULL is passed over
+-- the value that passes a comparison with the other; NULL is skipped
 abbrev pub better : (Ordering → Bool) → Value → Value → Value
 better test best v = if is_null best || compare_so test v best then v else best
 
--- the best of some values; NULL where there is none
+-- the best of some values; NULL if there is none
 abbrev pub extreme : (Ordering → Bool) → List Value → Value
 extreme test vs = fold (better test) Null vs
 
--- an aggregate function of values in their order, in its type
+-- an aggregate function of values, in their order and in its type
 abbrev pub aggregate : AggFun → Option SqlType → List Value → Value
 aggregate Min ty vs = extreme is_lt (present vs)
 aggregate Max ty vs = extreme is_gt (present vs)
@@ -55,7 +55,7 @@ aggregate Latest ty vs = unwrap_or (last_or None (present vs)) Null
 aggregate Earliest ty vs = first_value vs
 aggregate f ty vs = number ty (amount f vs)
 
--- COUNT and SUM of the values that entered less those that left; a table has no other aggregates
+-- COUNT and SUM of the values that entered less those that left; tables have no other aggregates
 abbrev pub balance : AggFun → Option SqlType → List Value → List Value → Value
 balance f ty entered left = number ty (amount f entered -ℤ amount f left)
 
@@ -78,7 +78,7 @@ entered es = flat_map (λ e. dated e.change.time (row_in e.change.body)) es
 abbrev pub gone : List Entry → List Dated
 gone es = flat_map (λ e. dated e.change.time (row_out e.change.body)) es
 
--- the value of an aggregate's argument on a row; NULL where it has none
+-- the value of an aggregate's argument on a row; NULL if it has none
 abbrev pub argument : Option Typed → Dated → Value
 argument None r = Null
 argument (Some e) r = value_of r.row r.time e
@@ -90,8 +90,8 @@ arguments arg rows = map (argument arg) rows
 abbrev pub type_of_agg : Agg → Option SqlType
 type_of_agg a = unwrap_or (agg_type a.fun (option_map (λ e. e.ty) a.arg)) None
 
--- The value of an aggregate over the entries of a group: of a stream over all its rows; of a table, as tasks do it, over what
--- entered less what left. What a query over a table means is in TableAggregates.
+-- The value of an aggregate over the entries of a group: for a stream over all its rows; for a table, as tasks compute
+-- it, over what entered less what left. The meaning of a query over a table is in TableAggregates.
 abbrev pub worth : Kind → List Entry → Agg → Value
 worth Stream es a = aggregate a.fun (type_of_agg a) (arguments a.arg (entered es))
 worth _ es a = balance a.fun (type_of_agg a) (arguments a.arg (entered es)) (arguments a.arg (gone es))
@@ -103,17 +103,18 @@ abbrev pub window_cells : Option Span → List Value
 window_cells None = []
 window_cells (Some w) = Big (pos w.start) ∷ Big (pos w.end) ∷ []
 
--- a row, where there are entries at all
+-- a row, if there are entries at all
 abbrev pub unless_none : List Entry → Row → Option Row
 unless_none [] row = None
 unless_none (e ∷ es) row = Some row
 
--- the result of a group, from its entries: its key, a column for each aggregate and those of the window; absent without entries
+-- the result of a group over its entries: its key, a column for each aggregate and those of the window; absent without
+-- entries
 abbrev pub outcome : Kind → List Agg → List Value → Option Span → List Entry → Option Row
 outcome over aggs group span es = unless_none es (group ++ map (worth over es) aggs ++ window_cells span)
 
--- the change of a group to whose entries one more is added, which has the group's key: from the result before it to that after it,
--- at the greatest time so far
+-- the change of a group when one more entry with its key is added: from its result before to that after, at the
+-- greatest time so far
 abbrev pub group_change : Kind → List Agg → Option Span → List Entry → Entry → Change
 group_change over aggs span mine e =
     let all = mine ++ e ∷ [] in

@@ -1,4 +1,4 @@
--- What a step of a query gives for each entry, looking back over all the entries before it (Sax, Wang, Weidlich and Freytag,
+-- What a step of a query gives for each entry, looking back over all earlier entries (Sax, Wang, Weidlich and Freytag,
 -- BIRTE 2018: an operator turns a list of changes into a list of changes).
 use Rattle.std.specs.Prelude.{ℕ, ◌==◌, Bool, true, false, List, [], ◌∷◌, ◌++◌, map, filter, Option, None, unwrap_or, option_map, option_and_then, bytes_eq}
 use Rattle.std.specs.List.{last_or}
@@ -19,11 +19,11 @@ pub record Entry : Type 0 where
   pub side : ℕ
   pub change : Change
 
--- a step says what each entry gives, from all the entries before it
+-- a step says what each entry gives, given all earlier entries
 abbrev pub Step : Type 0
 Step = List Entry → Entry → List Change
 
--- what a step gives for entries, each with all those before it
+-- what a step gives for entries, each together with all earlier ones
 abbrev pub results : {A B : Type 0} → (List A → A → List B) → List A → List A → List B
 results gives before [] = []
 results gives before (e ∷ es) = gives before e ++ results gives (before ++ e ∷ []) es
@@ -32,7 +32,7 @@ results gives before (e ∷ es) = gives before e ++ results gives (before ++ e �
 abbrev pub from_side : ℕ → List Change → List Entry
 from_side side changes = map (λ c. record { side = side; change = c }) changes
 
--- what comes of entries after some steps
+-- what some steps give for entries
 abbrev pub through : List Step → List Entry → List Change
 through [] es = map (λ e. e.change) es
 through (step ∷ steps) es = through steps (from_side 0 (results step [] es))
@@ -63,10 +63,10 @@ of_side side es = filter (λ e. e.side == side) es
 abbrev pub row_after : List Entry → Option Row
 row_after es = option_and_then (λ e. row_in e.change.body) (last_or None es)
 
--- the time of that row; 0 where there is none
+-- the time of that row; 0 if there is none
 abbrev pub time_after : List Entry → ℕ
 time_after es = unwrap_or (option_and_then (λ e. option_map (λ row. e.change.time) (row_in e.change.body)) (last_or None es)) 0
 
--- the greatest time of some entries; 0 of none
+-- the greatest time of some entries; 0 without entries
 abbrev pub latest_time : List Entry → ℕ
 latest_time es = greatest (map (λ e. e.change.time) es)

@@ -10,20 +10,20 @@ use Rattle.ksql_nodes.specs.Entries.{Row, is_same_key}
 use Rattle.ksql_nodes.specs.Rows.{values, key_of, at_path}
 use Rattle.ksql_nodes.specs.Joins.{rekeyed}
 
--- a row beside the group that it is in
+-- a row and the group that it is in
 pub record Member : Type 0 where
   pub group : List Value
   pub row : Row
 
--- a row is in the group of its values; in none where one of them is NULL
+-- a row is in the group of its values; in none if one of them is NULL
 abbrev pub member : List Typed → ℕ → Row → Option Member
 member keys time row = if is_key (values keys time row) then Some (record { group = values keys time row; row = row }) else None
 
--- a change of a group, with one more number in its path
+-- a change of a group, with a number appended to its path
 abbrev pub in_group : List Value → ℕ → Change → Body → Change
 in_group group step c body = record (at_path (c.place.path ++ step ∷ []) c) { key = group; body = body }
 
--- a row of a table that moves leaves its group and then enters another; one that stays is turned in its group
+-- a row of a table that moves leaves its group and then enters another; a row that stays changes within its group
 abbrev pub moved : Change → Option Member → Option Member → List Change
 moved c None None = []
 moved c (Some l) None = in_group l.group 0 c (Turned (Some l.row) None) ∷ []
@@ -32,7 +32,7 @@ moved c (Some l) (Some r) =
     if is_same_key l.group r.group then in_group r.group 0 c (Turned (Some l.row) (Some r.row)) ∷ []
     else in_group l.group 0 c (Turned (Some l.row) None) ∷ in_group r.group 1 c (Turned None (Some r.row)) ∷ []
 
--- a change under the keys of the groups of its rows
+-- a change under the keys of its rows' groups
 abbrev pub grouped : List Typed → Change → List Change
 grouped keys c = by_body c.body
   where

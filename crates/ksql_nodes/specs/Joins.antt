@@ -14,12 +14,12 @@ use Rattle.ksql_nodes.specs.declared.node.Side.{Side}
 use Rattle.ksql_nodes.specs.Entries.{Row, Entry, of_key, of_side, row_after, time_after}
 use Rattle.ksql_nodes.specs.Rows.{turned, with_body, at_path, key_of}
 
--- the row of a side, or NULLs where there is none
+-- the row of a side, or NULLs if there is none
 abbrev pub or_nulls : Side → Option Row → Row
 or_nulls side None = replicate side.columns Null
 or_nulls side (Some row) = row
 
--- the joined row, where there is one: INNER wants both sides, LEFT the left one, FULL one of them, and a FULL row ends with ROWKEY
+-- the joined row, if any: INNER needs both sides, LEFT the left one, FULL at least one, and a FULL row ends with ROWKEY
 abbrev pub joined : JoinKind → Side → Side → List Value → Option Row → Option Row → Option Row
 joined Inner left right key (Some l) (Some r) = Some (l ++ r)
 joined Left left right key (Some l) r = Some (l ++ or_nulls right r)
@@ -29,7 +29,7 @@ joined _ left right key _ _ = None
 
 -- ---- a stream and a table
 
--- the key by which a stream's change is joined; a table's change has none
+-- the join key of a stream's change; a table's change has none
 abbrev pub join_key : Typed → Change → List Value
 join_key on c = by_body c.body
   where
@@ -42,7 +42,7 @@ abbrev pub rekeyed : List Value → Change → List Change
 rekeyed [] c = []
 rekeyed (k ∷ ks) c = record c { key = k ∷ ks } ∷ []
 
--- a stream's change beside the row that the table has for its key at that place
+-- a stream's change joined with the table's row for its key at that place
 abbrev pub join_row : JoinKind → Side → Side → List Entry → Change → List Change
 join_row kind left right before c =
     with_body c (option_map (λ row. Said row) (joined kind left right [] (row_in c.body) (row_after (of_side 1 (of_key c.key before)))))
@@ -57,16 +57,16 @@ join_stream kind on left right before e =
 abbrev pub other_side : ℕ → ℕ
 other_side side = if side == 0 then 1 else 0
 
--- the joined row, from the row of a side and that of the other one
+-- the joined row, given the row of a side and that of the other
 abbrev pub joined_from : ℕ → JoinKind → Side → Side → List Value → Option Row → Option Row → Option Row
 joined_from side kind left right key own other = if side == 0 then joined kind left right key own other else joined kind left right key other own
 
--- the number in a path that tells the sides of a join apart: 0 for the relation of the smaller number
+-- the number in a path that tells the sides of a join apart: 0 for the relation with the smaller number
 abbrev pub side_step : ℕ → Side → Side → ℕ
 side_step side left right = if nat_lt left.relation right.relation then side else other_side side
 
--- A change of one of two tables: the joined row before it and after it, beside the row that the other table has for its key. It
--- gives nothing where its own row stays absent. Its time is no earlier than that of the other row.
+-- A change of one of two tables: from the joined row before it to that after it, with the other table's row for its
+-- key. It gives nothing if its own row stays absent. Its time is no earlier than that of the other row.
 abbrev pub join_tables : JoinKind → Side → Side → List Entry → Entry → List Change
 join_tables kind left right before e =
     let c = e.change in

@@ -1,4 +1,4 @@
--- What each node gives for an entry, from all the entries before it.
+-- What each node gives for an entry, given all earlier entries.
 use Rattle.std.specs.Prelude.{ℕ, List, [], ◌∷◌, Some, None}
 use Rattle.ksql_place.specs.Said.{row_in}
 use Rattle.ksql_place.specs.declared.change.Change.{Change}
@@ -11,7 +11,7 @@ use Rattle.ksql_nodes.specs.Groups.{grouped}
 use Rattle.ksql_nodes.specs.Aggregates.{group_change}
 use Rattle.ksql_nodes.specs.Windows.{windowed, with_times, timed}
 
--- n is the number of lanes, each of which has its own stream time; it matters to windows alone
+-- n is the number of lanes, each with a stream time of its own; it matters only to windows
 unfoldable pub gives : ℕ → Node → List Entry → Entry → List Change
 gives n (Rekey key) before e = rekeyed (join_key key e.change) e.change
 gives n (Table relation) before e = with_body e.change (turned (row_after (of_key e.change.key before)) (row_in e.change.body))

@@ -1,4 +1,4 @@
--- Steps that look at each row by itself: WHERE, HAVING and the select list, on streams and on tables (ksqlDB reference manual,
+-- Steps on one row at a time: WHERE, HAVING and the select list, on streams and on tables (ksqlDB reference manual,
 -- "SELECT").
 use Rattle.std.specs.Prelude.{ℕ, List, [], ◌∷◌, map, if◌then◌else◌, Option, Some, None, option_map, option_and_then}
 use Rattle.ksql_types.specs.Key.{is_key}
@@ -10,17 +10,17 @@ use Rattle.ksql_expr.specs.declared.typed.Typed.{Typed}
 use Rattle.ksql_expr.specs.Value.{value_of, is_true_value}
 use Rattle.ksql_nodes.specs.Entries.{Row}
 
--- a change of a table from one row to another; from absent to absent there is none
+-- a change of a table from one row to another; none from absent to absent
 abbrev pub turned : Option Row → Option Row → Option Body
 turned None None = None
 turned old new = Some (Turned old new)
 
--- each row by itself: of a stream its row, of a table the old one and the new one
+-- a function on each row: for a stream its row, for a table the old one and the new one
 abbrev pub by_rows : (Row → Option Row) → Body → Option Body
 by_rows f (Said row) = option_map (λ r. Said r) (f row)
 by_rows f (Turned old new) = turned (option_and_then f old) (option_and_then f new)
 
--- a change with another body, where there is one
+-- a change with another body, if any
 abbrev pub with_body : Change → Option Body → List Change
 with_body c None = []
 with_body c (Some body) = record c { body = body } ∷ []
@@ -29,7 +29,7 @@ with_body c (Some body) = record c { body = body } ∷ []
 abbrev pub at_path : List ℕ → Change → Change
 at_path path c = record c { place = record c.place { path = path } }
 
--- a row, where it passes a condition at a time
+-- a row, if it passes a condition at a time
 abbrev pub passing : Typed → ℕ → Row → Option Row
 passing on time row = if is_true_value (value_of row time on) then Some row else None
 
@@ -37,11 +37,11 @@ passing on time row = if is_true_value (value_of row time on) then Some row else
 abbrev pub values : List Typed → ℕ → Row → List Value
 values expressions time row = map (value_of row time) expressions
 
--- the key of some values: none where one of them is NULL, or where they are more than a key can have, as in no sound program
+-- the key of some values: none if one of them is NULL, or if there are more than a key can have, as in no sound program
 abbrev pub key_of : List Value → List Value
 key_of cells = if is_key cells then cells else []
 
--- the key that a select list gives: that of a stream comes from its row, and a table keeps its own
+-- the key that a select list gives: for a stream computed from its row, while a table keeps its key
 abbrev pub selected_key : List Typed → Change → List Value
 selected_key keys c = by_body c.body
   where

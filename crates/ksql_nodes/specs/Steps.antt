@@ -1,4 +1,4 @@
--- Words of the laws on steps.
+-- Terms of the laws on steps.
 use Rattle.std.specs.Prelude.{◌≡◌, ℕ, Bool, true, false, if◌then◌else◌, Option, Some, None, List, [], ◌∷◌, ◌++◌}
 use Rattle.std.specs.List.{AllByRecursion}
 use Rattle.ksql_types.specs.declared.value.Value.{Value}
@@ -36,8 +36,8 @@ abbrev pub is_of_key : List Value → Entry → Bool
 is_of_key [] e = false
 is_of_key (k ∷ ks) e = is_same_key e.change.key (k ∷ ks)
 
--- whether a node looks at an earlier entry for this one: at those of the key that it needs, and where it has a stream time
--- at those of its lane
+-- whether a node looks at an earlier entry for this one: at those with the key that it needs, and if it has a stream
+-- time at those of its lane
 abbrev pub needs : ℕ → Node → Entry → Entry → Bool
 needs n (Table relation) e earlier = is_same_key earlier.change.key e.change.key
 needs n (JoinStreamTable kind on l r) e earlier = is_of_key (join_key on e.change) earlier
@@ -50,7 +50,7 @@ needs n node e earlier = false
 abbrev pub Covers : ℕ → Node → Entry → (Entry → Bool) → Type 0
 Covers n node e p = (earlier : Entry) → needs n node e earlier ≡ true → p earlier ≡ true
 
--- entries of a table without windows after others: each turns the row that the latest one of its key left
+-- entries of a table without windows, after others: each replaces the row that the latest one of its key left
 abbrev pub IsTableFrom : List Entry → List Entry → Type 0
 IsTableFrom before [] = Unit {0}
 IsTableFrom before (e ∷ es) = (e.change.body ≡ Turned (row_after (of_key e.change.key before)) (row_in e.change.body)) × IsTableFrom (before ++ e ∷ []) es
@@ -66,6 +66,6 @@ HasTimelessArgument a = by a.arg
     by None = Unit {0}
     by (Some e) = Timeless e
 
--- an aggregate that a table can have
+-- an aggregate that can be used on a table
 abbrev pub IsHeld : Agg → Type 0
 IsHeld a = HasTimelessArgument a × IsOverTable a.fun

@@ -1,5 +1,5 @@
--- What an aggregate of a table means: over the rows that the table holds in a group (ksqlDB reference manual, "Aggregate"). Tasks do
--- it in two steps, Group and Aggregate, which give the same.
+-- The meaning of an aggregate of a table: over the rows that the table holds in a group (ksqlDB reference manual,
+-- "Aggregate"). Tasks compute it in two steps, Group and Aggregate, with the same result.
 use Rattle.std.specs.Prelude.{ℕ, ◌||◌, Bool, false, if◌then◌else◌, List, [], ◌∷◌, ◌++◌, map, filter, Option, None, unwrap_or, option_map, option_and_then}
 use Rattle.std.specs.List.{list_any}
 use Rattle.ksql_types.specs.declared.value.Value.{Value}
@@ -34,16 +34,16 @@ touching keys group es =
 abbrev pub held_worth : List Typed → List Value → List Entry → Agg → Value
 held_worth keys group es a = aggregate a.fun (type_of_agg a) (arguments a.arg (held keys group es))
 
--- a group's result: absent where no change touched it
+-- a group's result: absent if no change touched it
 abbrev pub held_outcome : List Typed → List Agg → List Value → List Entry → Option Row
 held_outcome keys aggs group es = unless_none (touching keys group es) (group ++ map (held_worth keys group es) aggs)
 
--- the change of one group, where e is the entry of the table and c its change in the group
+-- the change of one group, where e is the table's entry and c its change in the group
 abbrev pub held_change : List Typed → List Agg → List Entry → Entry → Change → Change
 held_change keys aggs before e c =
     let all = before ++ e ∷ [] in
     record c { time = latest_time (touching keys c.key all); span = None; body = Turned (held_outcome keys aggs c.key before) (held_outcome keys aggs c.key all) }
 
--- an entry changes the groups that its old row and its new row are in
+-- an entry changes the groups of its old row and its new row
 abbrev pub aggregate_of_table : List Typed → List Agg → List Entry → Entry → List Change
 aggregate_of_table keys aggs before e = map (held_change keys aggs before e) (grouped keys e.change)

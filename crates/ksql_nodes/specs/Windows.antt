@@ -1,4 +1,5 @@
--- Tumbling and hopping windows with grace (ksqlDB reference manual, "Time and windows"; Kafka Streams developer guide, "Windowing").
+-- Tumbling and hopping windows with grace (ksqlDB reference manual, "Time and windows"; Kafka Streams developer guide,
+-- "Windowing").
 use Rattle.std.specs.Prelude.{ℕ, ◌+◌, ◌*◌, ◌/◌, ◌==◌, ◌&&◌, nat_lt, Bool, if◌then◌else◌, List, [], ◌∷◌, ◌++◌, map, filter, flat_map, Some}
 use Rattle.std.specs.List.{list_any, range_with_len, enumerate_from}
 use Rattle.ksql_types.specs.Lane.{lane}
@@ -12,12 +13,12 @@ use Rattle.ksql_nodes.specs.Entries.{Entry, is_same_key, latest_time, results}
 use Rattle.ksql_nodes.specs.Rows.{at_path}
 use Rattle.ksql_nodes.specs.Aggregates.{group_change}
 
--- an entry and the stream time there
+-- an entry and its stream time
 pub record Timed : Type 0 where
   pub entry : Entry
   pub stream_time : ℕ
 
--- whether the keys of two entries have one lane of n
+-- whether the keys of two entries are in the same lane of n
 abbrev pub is_same_lane : ℕ → Entry → Entry → Bool
 is_same_lane n a b = lane a.change.key n 0 == lane b.change.key n 0
 
@@ -25,11 +26,12 @@ is_same_lane n a b = lane a.change.key n 0 == lane b.change.key n 0
 abbrev pub timed : ℕ → List Entry → Entry → Timed
 timed n before e = record { entry = e; stream_time = latest_time (filter (is_same_lane n e) before ++ e ∷ []) }
 
--- entries, each with its own stream time
+-- entries, each with its stream time
 abbrev pub with_times : ℕ → List Entry → List Timed
 with_times n es = results (λ before e. timed n before e ∷ []) [] es
 
--- the windows of a time by rising start: they start at the multiples of the advance up to the time, and end after it
+-- the windows that contain a time, by ascending start: they start at multiples of the advance up to the time, and end
+-- after it
 abbrev pub windows_of : Window → ℕ → List Span
 windows_of w time =
     filter (λ s. nat_lt time s.end)
@@ -38,7 +40,7 @@ windows_of w time =
 abbrev pub is_same_span : Span → Span → Bool
 is_same_span a b = (a.start == b.start) && (a.end == b.end)
 
--- whether an entry is added to a window: it is one of its time's, and stream time is before its end plus the grace
+-- whether an entry is added to a window: it contains the entry's time, and stream time is before its end plus the grace
 abbrev pub is_added : Window → Span → Timed → Bool
 is_added w span t =
     list_any (is_same_span span) (windows_of w t.entry.change.time) && nat_lt t.stream_time (span.end + w.grace)
@@ -47,7 +49,7 @@ is_added w span t =
 abbrev pub added : Window → Span → List Value → List Timed → List Entry
 added w span key ts = map (λ t. t.entry) (filter (λ t. is_same_key t.entry.change.key key && is_added w span t) ts)
 
--- an entry's change of one of its windows, whose index among them ends the path; nothing where it comes too late
+-- an entry's change of one of its windows, whose index is the last number of the path; none if it comes too late
 abbrev pub window_change : Kind → List Agg → Window → List Timed → Timed → ℕ × Span → List Change
 window_change over aggs w before t (i, span) =
     if is_added w span t

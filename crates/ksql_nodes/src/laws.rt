@@ -1,4 +1,4 @@
-//! Laws of the steps. None of these functions does anything.
+//! Laws of the steps. These functions do nothing.
 ghost use Rattle.std.specs.Prelude.{◌≡◌, ℕ, Bool, true, List, [], ◌∷◌, ◌++◌, filter, None};
 ghost use Rattle.std.specs.List.{AllByRecursion};
 ghost use Rattle.ksql_types.specs.declared.relation.Kind.TheVariants as kind;
@@ -13,9 +13,9 @@ ghost use Rattle.ksql_nodes.specs.Nodes.{gives};
 ghost use Rattle.ksql_nodes.specs.TableAggregates.{aggregate_of_table};
 ghost use Rattle.ksql_nodes.specs.Steps.{as_one, only, Covers, IsHeld, IsTableFrom, KeepsStamp, Timeless};
 
-/// What a step gives for one entry more is added to what it gives for those before it. Every node keeps the stamps of
-/// its entries, and what it gives is fixed by the entry and by those earlier ones that it looks at. So its results on
-/// some of the entries, as those of one lane, are what these entries cause among all.
+/// The results of a step for one more entry come after those for the earlier entries. Every node keeps the stamps of
+/// its entries, and its results depend only on the entry and the earlier entries that it looks at. So its results on a
+/// part of the entries, such as one lane, are what those entries cause among all.
 pub fn nodes_are_local()
     ensures more { (step : Step) (before es : List OneEntry) (e : OneEntry) →
         results step before (es ++ e ∷ []) ≡ results step before es ++ step (before ++ es) e }
@@ -26,19 +26,19 @@ pub fn nodes_are_local()
         (es : List OneEntry) → results (gives n node) [] (filter p es) ≡ results (only p (gives n node)) [] es }
 {}
 
-/// Steps in a row are one step.
+/// A chain of steps acts as one step.
 pub fn chains_are_one()
     ensures { (steps : List Step) (es : List OneEntry) → through steps es ≡ results (as_one steps) [] es }
 {}
 
-/// To cut the results is to cut the entries.
+/// Cutting the results is the same as cutting the entries.
 pub fn chains_are_cut()
     ensures { (p : OneStamp → Bool) (steps : List Step) → AllByRecursion KeepsStamp steps → (es : List OneEntry) →
         PassesFirst (λ e. p e.change.place.stamp) es →
         filter (λ c. p c.place.stamp) (through steps es) ≡ through steps (filter (λ e. p e.change.place.stamp) es) }
 {}
 
-/// What entered a group of a table less what left it is what the table holds in it.
+/// What entered a group of a table, less what left it, is what the table holds in the group.
 pub fn tables_are_summed()
     ensures { (n : ℕ) (keys : List OneTyped) (aggs : List OneAgg) (es : List OneEntry) →
         AllByRecursion Timeless keys → AllByRecursion IsHeld aggs → IsTableFrom [] es →

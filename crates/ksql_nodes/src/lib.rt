@@ -1,4 +1,4 @@
-//! The steps of queries: what a node of a sub-topology gives for each change that comes to it, of streams and of tables.
+//! The steps of queries: what a node of a sub-topology gives for each change that reaches it, from streams and tables.
 #![tactic(auto)]
 
 mod laws;

@@ -3,16 +3,16 @@ use ksql_program::{Aggs, JoinKind};
 use ksql_types::{CopyOf, Items, Kind, Window};
 use std::alloc::{AllocError, Global};
 
-/// One side of a join: its relation, and its number of columns, the key columns included.
+/// One side of a join: its relation, and its number of columns, key columns included.
 #[derive(Clone, Copy, Debug, PartialEq, Eq)]
 pub struct Side {
     pub relation: u32,
     pub columns: u32,
 }
 
-/// One step of a query inside a sub-topology. The rows of the changes that come to it are whole, key columns first. `on`
-/// of a join and the key of a `Rekey` are over the left side's rows; from `Aggregate` to `Select` a row has the group's
-/// key, the aggregates and, where there is a window, its start and end.
+/// One step of a query within a sub-topology. The rows of incoming changes are whole, key columns first. `on` of a join
+/// and the key of a `Rekey` are over the left side's rows. From `Aggregate` to `Select`, a row has the group's key, the
+/// aggregates and, if windowed, the window's start and end.
 #[derive(Debug, Drop)]
 pub enum Node {
     Rekey {
@@ -52,7 +52,7 @@ pub enum Node {
     },
 }
 
-/// Nodes in their order.
+/// Nodes, in order.
 pub type Nodes = Items<Node>;
 
 impl CopyOf for Node {

@@ -25,7 +25,7 @@ impl<R> Model for DirFolder<R> {
 }
 
 impl<R: Files> DirFolder<R> {
-    /// The working folder, of whose files no read has failed. Takes no memory.
+    /// The working folder, before any read failed. Takes no memory.
     pub fn new(rt: R, alloc: Global) -> DirFolder<R>
         ensures { result ≡ [] }
     {
@@ -68,7 +68,7 @@ fn bytes_of_file<R: Files>(rt: &R, alloc: Global, name: &str) -> io::Result<Vec<
     first_bytes(alloc, fs::open(rt, name)?, READ_LIMIT)
 }
 
-/// The first bytes that the reader has left, at most `limit` of them.
+/// Up to `limit` bytes from the reader.
 fn first_bytes<F: Read + Drop>(alloc: Global, reader: F, limit: usize) -> io::Result<Vec<u8>>
     ensures short { IfOk result (λ bytes. vec_len bytes ≤ limit) }
     ensures known { IfOk result (λ bytes. IfSome (F.remaining reader) (λ all. bytes.items ≡ take limit all)) }

@@ -3,30 +3,30 @@ ghost use Rattle.ksql_outside.specs.Outside.{read_bytes, content, MayJoin, read_
 
 use std::alloc::{AllocError, Global};
 
-/// The most bytes of a file that a read answers.
+/// The most bytes that a read of a file returns.
 pub(crate) const READ_LIMIT: usize = 67_108_865;
 
-/// Why a read gave no bytes.
+/// Why a read returned no bytes.
 #[derive(Clone, Copy, Debug, PartialEq, Eq)]
 pub enum ReadFail {
-    /// The file is missing or couldn't be read: its name is now among the names that failed.
+    /// The file is missing or couldn't be read; its name joins the names that failed.
     Failed,
     /// Out of memory.
     OutOfMemory,
 }
 
-/// Files that are read whole by their names.
+/// Files that are read whole, by name.
 pub trait Folder {
     ghost use Rattle.std.specs.Prelude.{Option, List, ℕ};
 
-    // The files, as names and bytes, where they are known.
+    // The files, as names and bytes, if they are known.
     ghost files: { Self → Option (List (List ℕ × List ℕ)) };
 
-    // The names whose reads failed, the latest last.
+    // The names whose reads failed, latest last.
     ghost failed: { Self → List (List ℕ) };
 
-    /// The bytes of the file of this name, cut after 67,108,865 of them.
-    /// The memory for the name is taken before the file is looked for.
+    /// The bytes of the file with this name, cut off after 67,108,865 bytes. Allocates memory for the name before it
+    /// looks for the file.
     fn read(&mut self, alloc: Global, name: &str) -> Result<Vec<u8>, ReadFail>
         ensures told { IfOk result (λ bytes. IfSome (files self.old) (λ all. read_bytes name.now all ≡ Some bytes.items)) }
         ensures short { IfOk result (λ bytes. vec_len bytes ≤ read_limit) }
@@ -47,7 +47,7 @@ impl From<AllocError> for ReadFail {
     }
 }
 
-/// The bytes that a read of a file of these bytes answers: at most the first 67,108,865.
+/// What a read of a file with these bytes returns: at most the first 67,108,865 of them.
 #[tactic(auto, unfolding(crate::specs::Outside::read_limit))]
 pub(crate) fn answer_of(alloc: Global, bytes: &[u8]) -> Result<Vec<u8>, AllocError>
     ensures short { IfOk result (λ cut. vec_len cut ≤ read_limit) }

@@ -1,10 +1,10 @@
-/// What a thread calls as it begins a task.
+/// A hook that a thread calls when it begins a task.
 pub trait Gate {
-    /// The thread begins the task `part` of the sub-topology `sub`. Returns, and answers nothing.
+    /// The thread begins task `part` of sub-topology `sub`.
     fn arrive(&self, sub: u32, part: u32);
 }
 
-/// A gate at which nobody waits.
+/// A gate where nobody waits.
 #[derive(Clone, Copy, Debug)]
 pub struct NoGate;
 

@@ -1,4 +1,4 @@
-//! Where `ksql` reads its files and writes its output, and the gate at which its threads arrive.
+//! Where `ksql` reads its files and writes its output, and the gate that its threads pass.
 #![tactic(auto)]
 
 mod dir_folder;

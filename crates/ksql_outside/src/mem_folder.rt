@@ -26,7 +26,7 @@ impl Model for MemFolder {
 }
 
 impl MemFolder {
-    /// A folder of these files, whose names differ. `failing` has the numbers, from 1, of the reads that fail.
+    /// A folder of these files, whose names differ. `failing` lists the reads that fail, counted from 1.
     pub fn new(alloc: Global, files: Vec<(Chars, Bytes)>, failing: Vec<u64>) -> MemFolder
         requires { AreNamesDistinct files.items }
         ensures { result ≡ record { files = files.items; failing = failing.items; reads = 0; failed = [] } }
@@ -66,7 +66,7 @@ impl Folder for MemFolder {
         ensures grows { MayJoin self.old.failed self.new.failed name.now }
         ensures cause { IsErrOf result ReadFail.Failed → self.new.failed ≡ self.old.failed ++ name.now ∷ [] }
 
-        // All that this folder does beyond what every folder does.
+        // What this folder promises beyond `Folder`.
         ensures answers { IfOk result (λ bytes. next_answer self.old name.now ≡ Some bytes.items) }
         ensures fails { IsErrOf result ReadFail.Failed → next_answer self.old name.now ≡ None }
         ensures none_joins { OnOk result (self.new.failed ≡ self.old.failed) }

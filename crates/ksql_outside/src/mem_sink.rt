@@ -28,7 +28,7 @@ impl Model for MemSink {
 }
 
 impl MemSink {
-    /// A sink that takes `room` bytes in all and at most `most` in one write, with all memory that it will need.
+    /// A sink that takes `room` bytes in all and at most `most` per write. It allocates all its memory here.
     pub fn new(alloc: Global, room: u64, most: u64) -> Result<MemSink, AllocError>
         requires { 1 ≤ most }
         ensures { IfOk result (λ sink. sink ≡ record { written = []; free = room; most = most; faults = 0 }) }
@@ -41,7 +41,7 @@ impl MemSink {
         })
     }
 
-    /// The bytes that were written.
+    /// The bytes written so far.
     pub fn written(&self) -> &[u8]
         ensures { result.now ≡ self.now.written }
     {
@@ -64,7 +64,7 @@ impl Sink for MemSink {
         ensures count { self.old.faults ≤ self.new.faults }
         ensures cause { OnErr result (Rose self.old.faults self.new.faults) }
 
-        // All that this sink does beyond what every sink does.
+        // What this sink promises beyond `Sink`.
         ensures takes { IfOk result (λ k. k ≡ next_taken self.old piece.now) }
         ensures fails { IsErr result ↔ ((0 < length piece.now) × (self.old.free ≡ 0)) }
         ensures ok { IfOk result (λ k. self.new ≡ record self.old { written = self.old.written ++ take k piece.now; free = self.old.free - k }) }

@@ -1,21 +1,21 @@
 ghost use Rattle.std.specs.Prelude.{◌≡◌, ◌<◌, ◌≤◌, length, take, IfOk, OnOk, OnErr, IsOk};
 ghost use Rattle.ksql_outside.specs.Outside.{followed_by, Rose, WrotePrefix};
 
-/// A write failed: nothing of its piece was written.
+/// A write failed, and wrote nothing of its piece.
 #[derive(Clone, Copy, Debug, PartialEq, Eq)]
 pub struct Failed;
 
-/// What takes bytes, in pieces of which a write may take the front alone.
+/// A target for bytes. A write may take only the first bytes of its piece.
 pub trait Sink {
     ghost use Rattle.std.specs.Prelude.{Option, List, ℕ};
 
-    // The bytes that were written, where they are known.
+    // The bytes written so far, if they are known.
     ghost written: { Self → Option (List ℕ) };
 
-    // How many writes failed. It never falls, and stands still at the greatest u64.
+    // The number of failed writes. It never falls, and saturates at the greatest u64.
     ghost faults: { Self → ℕ };
 
-    /// Writes the first bytes of the piece and answers how many: at least one, where the piece isn't empty.
+    /// Writes the first bytes of the piece and returns how many: at least one, unless the piece is empty.
     fn write(&mut self, piece: &[u8]) -> Result<usize, Failed>
         ensures front { IfOk result (λ k. k ≤ length piece.now) }
         ensures some { IfOk result (λ k. 0 < length piece.now → 0 < k) }
@@ -25,8 +25,8 @@ pub trait Sink {
         ensures cause { OnErr result (Rose (faults self.old) (faults self.new)) };
 }
 
-/// Writes all of the piece, in as many writes as it takes, until one fails. Takes no memory.
-/// At `Ok` no byte was left out, also where the sink doesn't tell what was written.
+/// Writes the whole piece, in as many writes as needed, until one fails. Takes no memory. `Ok` means that no byte was
+/// left out, even if the sink doesn't tell what was written.
 pub fn write_whole<K: Sink>(out: &mut K, piece: &[u8]) -> Result<(), Failed>
     ensures whole { OnOk result (K.written out.new ≡ followed_by (K.written out.old) piece.now) }
     ensures prefix { OnErr result (WrotePrefix (K.written out.old) (K.written out.new) piece.now) }

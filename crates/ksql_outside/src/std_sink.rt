@@ -3,7 +3,7 @@ ghost use Rattle.std.specs.Prelude.{◌≡◌};
 use crate::sink::{Failed, Sink};
 use std::marker::Model;
 
-/// Standard output, which contracts see as the count of the writes that failed. The count stands still at the greatest u64.
+/// Standard output, which contracts see as the number of failed writes. The count saturates at the greatest u64.
 #[derive(Drop)]
 pub struct StdSink<R> {
     rt: R,
@@ -19,7 +19,7 @@ impl<R> Model for StdSink<R> {
 }
 
 impl<R: Print> StdSink<R> {
-    /// Standard output, to which no write has failed.
+    /// Standard output, before any write failed.
     pub fn new(rt: R) -> StdSink<R>
         ensures { result ≡ 0 }
     {

@@ -1,4 +1,4 @@
--- The parts of what stands after the name of a statement that hold no query.
+-- The parts of what follows the name of a statement, without queries.
 use Rattle.std.proofs.Common.{◌≡◌, List, [], ◌∷◌, None, refl, sym, ap, ◌∙◌, subst}
 use Rattle.std.proofs.lemmas.Option.{none-some}
 use Rattle.ksql_lexer.specs.declared.token.Mark.TheVariants as mark
@@ -23,7 +23,7 @@ pub props_parts : (ps : List Property) (ts us : List Symbol) → Spells (g.props
     → (vs : List Symbol) × (ts ≡ Sign mark.Open ∷ vs) × Spells (g.prop_list ps) vs (Sign mark.Close ∷ us)
 props_parts ps ts us (g.all_props {ts = vs} d) = (vs, refl, d)
 
--- after WITH stand properties
+-- properties follow WITH
 pub with_there : (ps : List Property) (ts us rest end : List Symbol) → ts ≡ Key key.With ∷ us → end ≡ Key key.As ∷ rest → Spells (g.with_props ps) ts end → Spells (g.props ps) us end
 with_there ps ts us rest end h e g.no_props = absurd (cc)
 with_there ps ts us rest end h e (g.some_props {ts = vs} d) =

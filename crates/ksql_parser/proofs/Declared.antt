@@ -19,7 +19,7 @@ use Rattle.ksql_grammar.proofs.Steps.{If, if_some, sign_there, first_there}
 use Rattle.ksql_parser.proofs.Found.{column_found, property_found}
 use Rattle.ksql_parser.proofs.Lists.{list_found, last_only, more_only}
 
--- a sign stands first
+-- a sign comes first
 abbrev pub Signed : Mark → List Symbol → Type 0
 Signed m ts = (us : List Symbol) × (ts ≡ Sign m ∷ us)
 

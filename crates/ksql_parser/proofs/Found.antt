@@ -205,7 +205,7 @@ star_of_found ts =
     if_bind (after_sign mark.Star us) _ (λ vs. us ≡ Sign mark.Star ∷ vs) _ (sign_found mark.Star us) (λ vs m.
     behind (h.1 ∙ ap (λ x. h.0 ∷ x) k ∙ ap (λ x. h.0 ∷ Sign mark.Dot ∷ x) m) (g.star_of h.2))))
 
--- what stands at the head of a statement
+-- the head of a statement
 abbrev pub Head : List Symbol → (Bool × List ℕ) × List Symbol → Type 0
 Head ts x = (r n : Symbol) × (ts ≡ Key key.Create ∷ r ∷ n ∷ x.1) × (table_of r ≡ Some x.0.0) × (name_of n ≡ Some x.0.1)
 

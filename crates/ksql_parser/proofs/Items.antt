@@ -1,4 +1,4 @@
--- What is spelled as an item is read, and lists of them.
+-- What is spelled as an item, or as a list of items, is read.
 use Rattle.std.proofs.Common.{◌≡◌, ℕ, suc, ◌≤◌, ◌<◌, Bool, true, false, List, [], ◌∷◌, ◌++◌, length, Option, Some, None, refl, sym, ap, ◌∙◌, subst, append_assoc, arith}
 use Rattle.std.proofs.lemmas.Bool.{false≢true}
 use Rattle.std.proofs.lemmas.Option.{none-some, some_pair_parts}
@@ -32,7 +32,7 @@ use Rattle.ksql_parser.proofs.Only.{both}
 use Rattle.ksql_parser.proofs.Calls.{same_tail}
 use Rattle.ksql_parser.proofs.Joins.{StartsNoAlias, alias_only}
 
--- after a name and `.` no expression goes on with `*`
+-- after a name and `.`, `*` continues no expression
 abbrev dot_star : List Symbol → List Symbol
 dot_star ts = Sign mark.Dot ∷ Sign mark.Star ∷ ts
 
@@ -76,7 +76,7 @@ unfolding e.within e.disjunction e.conjunction
 within_fails k n name ts h =
     chain_empty or_of (e.conjunction (e.within k)) (n ∷ dot_star ts) (chain_empty and_of (e.negations (e.within k)) (n ∷ dot_star ts) (negations_fails (e.within k) n name ts h))
 
--- after an item no expression and no alias goes on
+-- after an item no expression and no alias continues
 item_no_alias : (s : Symbol) → ends_item s ≡ true → StartsNoAlias s
 item_no_alias (Sign mark.Comma) h = refl
 item_no_alias (Key key.From) h = refl
@@ -119,7 +119,7 @@ no_name s name ts us e h = none-some name (sym (ap name_at e) ∙ h)
 no_expr : (a : Expr) (ts us : List Symbol) → SpellsExpr (at expr a) (Sign mark.Star ∷ ts) us → ⊥
 no_expr a ts us d = false≢true (begins d)
 
--- what stands before `. *`
+-- what precedes `.*`
 abbrev StarOfAt : List Symbol → List ℕ × List Symbol → Type 0
 StarOfAt ts x = (n : Symbol) × (ts ≡ n ∷ dot_star x.1) × (name_of n ≡ Some x.0)
 

@@ -111,7 +111,7 @@ join_absent j ts rest h (g.a_join {k} {us} w s e) = absurd (none-some (k, us) (s
 abbrev pub joined_with : Source → Expr → JoinWord → Option JoinText
 joined_with s a k = Some (record { kind = k; source = s; on = a })
 
--- what stands after the words of a join
+-- what follows the words of a join
 abbrev pub HasJoin : JoinWord → Option JoinText → List Symbol → List Symbol → Type 0
 HasJoin k j us rest = (s : Source) × (a : Expr) × (vs : List Symbol) × (j ≡ joined_with s a k)
     × (r.source us ≡ both s (Key key.On ∷ vs)) × SpellsExpr (at expr a) vs rest × EndsExpr rest
@@ -155,7 +155,7 @@ inner_words (Key key.Inner ∷ Key key.Join ∷ ts) h k = refl
 inner_words (Key key.Inner ∷ _ ∷ ts) h k = refl
 inner_words (_ ∷ ts) h k = refl
 
--- what is read of the words of a join, by what stands after the first
+-- what is read of the words of a join, by what follows the first word
 module _ (k : JoinWord) (ts : List Symbol) (o : Option (List Symbol)) (h : r.join_words ts ≡ option_map (λ us. (k, us)) o) where
   pub words_none : None ≡ o → None ≡ r.join_words ts
   words_none e = sym (h ∙ ap (option_map (λ us. (k, us))) (sym e))

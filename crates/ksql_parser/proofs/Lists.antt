@@ -1,4 +1,4 @@
--- Lists with commas between the items: what is read is spelled, and what is spelled is read.
+-- Lists with commas: what is read is spelled, and what is spelled is read.
 use Rattle.std.proofs.Common.{◌≡◌, ℕ, zero, suc, List, [], ◌∷◌, Option, Some, None, ap, ◌∙◌}
 use Rattle.ksql_lexer.specs.declared.token.Mark.TheVariants as mark
 use Rattle.ksql_grammar.specs.declared.symbol.Symbol.{Symbol}

@@ -19,7 +19,7 @@ use Rattle.ksql_grammar.proofs.Found.{behind}
 use Rattle.ksql_parser.proofs.Steps.{along, same_read, failed, bind_is}
 use Rattle.ksql_grammar.proofs.Steps.{key_there}
 
--- where a clause begins, no expression goes on
+-- where a clause begins, no expression continues
 place_ends : (s : Symbol) → 1 ≤ place_of s → goes_on s ≡ false
 place_ends (Word _) h = refl
 place_ends (Quoted _) h = refl
@@ -47,7 +47,7 @@ tail_of (s ∷ ss) = ss
 abbrev pub both : {A : Type 0} → A → List Symbol → Option (A × List Symbol)
 both a ts = Some (a, ts)
 
--- what a call for an expression gives, if one stands there
+-- the result of reading an expression, if there is one
 abbrev pub OnlyAt : List Symbol → Result (Expr × Bor (List Symbol)) ReadError → Type 0
 OnlyAt us r = (a : Expr) (rest : List Symbol) → SpellsExpr (at expr a) us rest → EndsExpr rest → Gives with_rest r (both a rest)
 

@@ -28,7 +28,7 @@ parts_split (t ∷ ts) =
       | false ↦ ap (onto_first t) (parts_split ts) ∙ onto_same t (slice_split is_semicolon ts)
     ]
 
--- the first list, where there is a `;`
+-- the first list, if there is a `;`
 pub first_statement : (ts : List TokenKind) (end : ℕ) → end ≡ position_or_len is_semicolon ts → end < length ts
     → statements ts ≡ filter is_filled (take end ts ∷ []) ++ statements (drop (end + 1) ts)
 first_statement ts end is inside =
@@ -50,7 +50,7 @@ unsplit (t ∷ ts) h =
       | false ↦ λ e. let k : length (t ∷ ts) ≤ cond (not false) (1 + position_or_len is_semicolon ts) 0 = rw e at h in ap (onto_first t) (unsplit ts (omega arith))
     ] refl
 
--- and where there is none
+-- and if there is none
 pub last_statement : (ts : List TokenKind) → length ts ≤ position_or_len is_semicolon ts → statements ts ≡ filter is_filled (ts ∷ []) ++ []
 last_statement ts none = ap (filter is_filled) (unsplit ts none) ∙ plain ts
   where

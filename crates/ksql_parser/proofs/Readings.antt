@@ -18,7 +18,7 @@ sign_read m ts us vs e h = same_Some us vs (sym (ap (after_sign m) e ∙ sign_th
 pub key_read : (k : Keyword) (ts us vs : List Symbol) → ts ≡ Key k ∷ us → after_key k ts ≡ Some vs → us ≡ vs
 key_read k ts us vs e h = same_Some us vs (sym (ap (after_key k) e ∙ key_there k us) ∙ h)
 
--- a call that failed where something stands failed out of memory
+-- a call that failed although it could read failed out of memory
 pub unread : {X Y Z W : Type 0} (seen : X → Y) (view : Z → W) (e : ReadError) (o : Option Y) (x : Y) (y : W) → o ≡ Some x → Gives seen (Err e) o → Gives view (Err e) (Some y)
 unread seen view e o x y k h = gives_err seen view e o (Some y) h (λ none. absurd (none-some x (sym none ∙ k)))
 

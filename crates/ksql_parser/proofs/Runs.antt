@@ -26,7 +26,7 @@ count_step p xs i d inside =
       | false ↦ λ e. let h = count_by_more_no p xs i d inside e in omega (arith, h)
     ] refl
 
--- one more token counts where it passes
+-- one more token counts if it passes
 pub count_more : (p : TokenKind → Bool) (ts : List Token) (i : ℕ) (t : Token) → i < length ts → t ≡ get_or ts i t
     → count_by p (take (i + 1) (kinds ts)) ≡ count_by p (take i (kinds ts)) + cond (p t.kind) 1 0
 count_more p ts i t inside here =
@@ -34,7 +34,7 @@ count_more p ts i t inside here =
     count_step p (kinds ts) i t.kind short
     ∙ ap (λ k. count_by p (take i (kinds ts)) + cond (p k) 1 0) (kind_at ts i t inside here)
 
--- the same of a number to which the test was added as 0 or 1
+-- the same for a number to which the test was added as 0 or 1
 pub counted : (p : TokenKind → Bool) (ts : List Token) (i : ℕ) (t : Token) → i < length ts → t ≡ get_or ts i t
     → (n byte : ℕ) (r : Bool) → n ≡ count_by p (take i (kinds ts)) → byte ≡ bool_byte r → r ≡ p t.kind → n + byte ≡ count_by p (take (i + 1) (kinds ts))
 counted p ts i t inside here n byte r so_far is_byte is_test =
@@ -55,7 +55,7 @@ written_at ts i t all inside here =
       | false ↦ λ e. absurd (both_ways (list_all is_written (kinds ts)) (list_all_at is_written (kinds ts) i t.kind short (ap is_written (kind_at ts i t inside here) ∙ e)) all)
     ] refl
 
--- where no token is too large, none at a place is
+-- if no token is too large, none at a place is
 pub fits_at : (ts : List Token) (i : ℕ) (t : Token) → ¬ (HasTooLarge (kinds ts)) → i < length ts → t ≡ get_or ts i t → ¬ (IsTrue (is_too_large t.kind))
 fits_at ts i t none inside here large =
     let short : i < length (kinds ts) = omega (arith, length-map ts (λ x. x.kind)) in

@@ -126,7 +126,7 @@ not_both tss (x ∷ trees) n c are (here {ts} p) = no_refusal rules ts c are.0.0
 not_both tss [] n c are (later none p) = absurd are
 not_both tss (x ∷ trees) n c are (later {others} {n = k} none p) = not_both others trees k c are.1 p
 
--- trees that are equal for each statement are one list
+-- lists of trees that agree for each statement are equal
 pub one_list_from : ((ts : List TokenKind) (a b : Statement) → IsSpelledBy a ts → IsSpelledBy b ts → a ≡ b)
     → (tss : List (List TokenKind)) (a b : List Statement) → AreTrees tss a → AreTrees tss b → a ≡ b
 one_list_from one [] [] [] p q = refl
@@ -139,7 +139,7 @@ one_list_from one (ts ∷ tss) (x ∷ a) (y ∷ b) p q =
     let further = one_list_from one tss a b p.1 q.1 in
     λ i. first i ∷ further i
 
--- what is so is answered
+-- every right result is returned
 pub answers_trees : (tss : List (List TokenKind)) (result : Result (Vec Statement) ParseFault) → Settles tss result
     → (trees : List Statement) → AreTrees tss trees → Answers result (Ok trees)
 answers_trees tss (Ok found) settled trees are = λ i. Ok (settled.1 trees are i)

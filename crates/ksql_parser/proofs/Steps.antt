@@ -1,4 +1,4 @@
--- Readers that find what is there: each step says what stands at the front.
+-- Readers that find what is there: each step says what comes first.
 use Rattle.std.proofs.Common.{◌≡◌, ℕ, Bool, true, false, cond, List, [], ◌∷◌, Option, Some, None, Result, Ok, Err, refl, sym, ap, ◌∙◌, subst}
 use Rattle.std.specs.Borrow.{Bor}
 use Rattle.std.specs.Option.{option_copied}
@@ -64,11 +64,11 @@ found_of seen o P x h e = if_some o P (seen x) h e
 pub copied_of : (o : Option (Bor (List Symbol))) (p : Option (List Symbol)) (P : List Symbol → Type 0) (x : Bor (List Symbol)) → If p P → option_copied o ≡ p → o ≡ Some x → P x.now
 copied_of o p P x h e k = if_some p P x.now h (sym e ∙ ap option_copied k)
 
--- a call that failed where something stands failed out of memory
+-- a call that failed although it could read failed out of memory
 pub failed : {A B X Y : Type 0} (seen : X → A) (other : Y → B) (e : ReadError) (a : A) (b : B) → Gives seen (Err e) (Some a) → Gives other (Err e) (Some b)
 failed seen other Unspelled a b h = absurd (none-some a (sym h))
 failed seen other OutOfMemory a b h = tt
 
--- a call that returned read what stands there
+-- a call that returned read what is there
 pub same_read : {A : Type 0} (x : A × Bor (List Symbol)) (a : A) (rest : List Symbol) → Gives with_rest (Ok x) (Some (a, rest)) → (a ≡ x.0) × (rest ≡ x.1.now)
 same_read x a rest h = let p = same_Some (a, rest) (x.0, x.1.now) h in (ap (λ y. y.0) p, ap (λ y. y.1) p)

@@ -5,7 +5,7 @@ use Rattle.ksql_grammar.specs.Symbols.{reserved_words}
 use Rattle.expression_trees.specs.Words.{beside}
 use Rattle.ksql_parser.specs.Words.{statement_words, clause_words, expression_words, closing_words}
 
--- what stands beside a word in two tables is what stands in the first, or else in the second
+-- the entry of a word in two tables is that in the first, or else that in the second
 pub beside-append : {A : Type 0} (xs ys : List (List ℕ × A)) (word : List ℕ) → beside (xs ++ ys) word ≡ option_or (beside xs word) (beside ys word)
 beside-append [] ys word = refl
 beside-append (x ∷ xs) ys word =

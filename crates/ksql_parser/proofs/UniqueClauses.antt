@@ -66,7 +66,7 @@ expression ts = reading.within (suc (length ts)) ts
 pub expressions : Reader (List Expr)
 expressions ts = reading.exprs (reading.within (suc (length ts))) ts
 
--- an optional part, after its words where they stand
+-- an optional part, after its words if they are present
 abbrev pub option_at : {A : Type 0} → Reader A → List Symbol → Option (List Symbol) → Option (Option A × List Symbol)
 option_at read ts (Some us) = read us >>= λ a. Some (Some a.0, a.1)
 option_at read ts None = Some (None, ts)

@@ -1,4 +1,5 @@
--- What is spelled without an expression is what is read: columns, properties, names with aliases and the words of a join.
+-- What is spelled without an expression is what is read: columns, properties, names with aliases and the words of a
+-- join.
 use Rattle.std.proofs.Common.{◌≡◌, ℕ, zero, suc, ◌≤◌, Bool, true, false, List, [], ◌∷◌, length, Option, Some, None, codes, refl, sym, ap, ap₂, ◌∙◌, subst, arith}
 use Rattle.std.proofs.lemmas.Bool.{false≢true}
 use Rattle.std.proofs.lemmas.Option.{none-some}

@@ -29,7 +29,7 @@ head_there s n t name ts h k =
     (bind_is (λ x. first name_of x.1 >>= λ m. both (x.0, m.0) m.1) (first_there table_of s (n ∷ ts) t h)
     (bind_is (λ m. both (t, m.0) m.1) (first_there name_of n ts name k) refl))
 
--- what stands after the name of what was spelled
+-- what follows the name of what was spelled
 abbrev pub HasBody : Statement → List Symbol → List Symbol → Type 0
 HasBody s ts rest = (us : List Symbol) × (r.head ts ≡ both (s.table, s.name) us) × r.SpellsBody s.body us rest
 

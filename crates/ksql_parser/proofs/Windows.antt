@@ -82,7 +82,7 @@ advance_only s p ts us h d =
     (then (r.after_word (codes "ADVANCE") (Word (codes "ADVANCE") ∷ Key key.By ∷ ts)) _ (Key key.By ∷ ts) _ (word_there (codes "ADVANCE") (Key key.By ∷ ts))
     (then (after_key key.By (Key key.By ∷ ts)) _ ts _ (key_there key.By ts) (span_only s ts us d)))
 
--- the word by which a window begins
+-- the word that a window begins with
 tumbling_at : (ts : List Symbol) → r.window (Word (codes "TUMBLING") ∷ ts) ≡ r.tumbling ts
 unfolding r.window
 tumbling_at ts = ap (λ o. r.window_at o (r.after_word (codes "HOPPING") (Word (codes "TUMBLING") ∷ ts))) (word_there (codes "TUMBLING") ts)
@@ -117,7 +117,7 @@ if_none : {A : Type 0} (o : Option A) (P : A → Type 0) → If o P → ((x : A)
 if_none None P h k = refl
 if_none (Some x) P h k = absurd (k x h)
 
--- after the window stands WHERE, a later clause or nothing
+-- after the window comes WHERE, a later clause or nothing
 pub window_only : (w : Option WindowText) (ts rest : List Symbol) → Spells (g.windowed w) ts rest → BeginsFrom 3 rest → r.windowed ts ≡ Some (w, rest)
 unfolding r.windowed
 window_only w ts rest g.no_window b =

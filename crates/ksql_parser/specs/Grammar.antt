@@ -1,5 +1,5 @@
--- The grammar of statements. `Spells p ts rest` says that the symbols ts are a spelling of p and then the rest.
--- There is one rule for each alternative; above a group of rules stands the line of the grammar that it is.
+-- The grammar of statements. `Spells p ts rest` says that the symbols ts spell p and then the rest. There is one rule
+-- for each alternative, and above each group of rules stands its line of the grammar.
 use Rattle.std.specs.Prelude.{◌≡◌, ℕ, Bool, true, false, List, [], ◌∷◌, Option, Some, None, map, codes}
 use Rattle.ksql_lexer.specs.declared.token.Mark.TheVariants as mark
 use Rattle.ksql_lexer.specs.declared.token.TokenKind.{TokenKind}
@@ -59,7 +59,7 @@ pub data Phrase : Type 0 where
   having : Option Expr → Phrase
   emit : Phrase
 
--- whether a statement creates a table, by the word that says so
+-- whether a statement creates a table, by its word TABLE or STREAM
 abbrev pub table_of : Symbol → Option Bool
 table_of (Key key.Stream) = Some false
 table_of (Key key.Table) = Some true
@@ -77,7 +77,7 @@ unit_words =
     ∷ (codes "SECONDS", unit.Second) ∷ (codes "MILLISECOND", unit.Millisecond)
     ∷ (codes "MILLISECONDS", unit.Millisecond) ∷ []
 
--- the unit that a symbol is
+-- the unit that a symbol names
 abbrev pub unit_of : Symbol → Option UnitWord
 unit_of (Word word) = beside unit_words word
 unit_of _ = None
@@ -199,6 +199,6 @@ pub data Spells : Phrase → List Symbol → List Symbol → Type 0 where
   no_emit : {ts : List Symbol} → Spells emit ts ts
   changes : {c : Symbol} {ts : List Symbol} → IsWord (codes "CHANGES") c → Spells emit (Key key.Emit ∷ c ∷ ts) ts
 
--- the tokens are a spelling of the statement
+-- the tokens spell the statement
 abbrev pub IsSpelledBy : Statement → List TokenKind → Type 0
 IsSpelledBy s ts = Spells (statement s) (map symbol_of ts) []

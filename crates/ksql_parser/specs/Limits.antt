@@ -1,4 +1,4 @@
--- The rules that refuse a statement, in their order.
+-- The rules that refuse a statement, in order.
 use Rattle.std.specs.Prelude.{◌≡◌, ℕ, ◌+◌, ◌<◌, Bool, true, false, ◌||◌, nat_lt, IsTrue, ◌⊎◌, List, [], ◌∷◌, length, take, count_by, bytes_eq, codes}
 use Rattle.std.specs.List.{list_any}
 use Rattle.std.specs.Str.Parse.{digits_value}
@@ -29,7 +29,7 @@ abbrev pub is_closing : TokenKind → Bool
 is_closing (kind.Mark mark.Close) = true
 is_closing t = is_word (codes "END") t
 
--- in one of the prefixes the number of `(` and CASE less the number of `)` and END passes 64
+-- in some prefix, the number of `(` and CASE exceeds that of `)` and END by more than 64
 abbrev pub IsTooDeep : List TokenKind → Type 0
 IsTooDeep ts = (n : ℕ) × (count_by is_closing (take n ts) + 64 < count_by is_opening (take n ts))
 
@@ -41,11 +41,11 @@ is_too_large (kind.Text content) = nat_lt 65536 (length content)
 is_too_large (kind.Digits digits) = nat_lt 9223372036854775807 (digits_value 10 digits)
 is_too_large (kind.Mark m) = false
 
--- one of the tokens passes its limit
+-- a token exceeds its limit
 abbrev pub HasTooLarge : List TokenKind → Type 0
 HasTooLarge ts = IsTrue (list_any is_too_large ts)
 
--- the tokens are a spelling of a statement
+-- the tokens spell a statement
 abbrev pub IsSpelled : List TokenKind → Type 0
 IsSpelled ts = (s : Statement) × IsSpelledBy s ts
 
@@ -58,7 +58,7 @@ begins_with_select (t ∷ ts) = is_word (codes "SELECT") t
 abbrev pub joins_twice : List TokenKind → Bool
 joins_twice ts = nat_lt 1 (count_by (is_word (codes "JOIN")) ts)
 
--- the words of what ksqlDB has beyond this grammar
+-- the words of unsupported parts of ksqlDB
 abbrev pub unsupported_words : List (List ℕ)
 unsupported_words =
     codes "INSERT" ∷ codes "DROP" ∷ codes "TERMINATE" ∷ codes "PAUSE" ∷ codes "RESUME" ∷ codes "EXPLAIN" ∷ codes "SHOW"
@@ -80,11 +80,11 @@ HasUnsupported ts = IsTrue (begins_with_select ts || joins_twice ts || list_any 
 pub data Rule : Type 0 where
   too_many too_deep too_large unsupported unspelled : Rule
 
--- in their order
+-- the rules, in order
 abbrev pub rules : List Rule
 rules = too_many ∷ too_deep ∷ too_large ∷ unsupported ∷ unspelled ∷ []
 
--- what each refuses
+-- what each rule refuses
 abbrev pub Refuses : Rule → List TokenKind → Type 0
 Refuses too_many ts = HasTooMany ts
 Refuses too_deep ts = IsTooDeep ts
@@ -92,7 +92,7 @@ Refuses too_large ts = HasTooLarge ts
 Refuses unsupported ts = ¬ IsSpelled ts × HasUnsupported ts
 Refuses unspelled ts = ¬ IsSpelled ts
 
--- and by which code
+-- the code of each rule
 abbrev pub code_of : Rule → Code
 code_of too_many = TooLarge
 code_of too_deep = TooLarge

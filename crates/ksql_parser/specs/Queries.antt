@@ -1,4 +1,4 @@
--- What the two halves of a query are, and where JOIN stands.
+-- The two halves of a query, and JOIN.
 use Rattle.std.specs.Prelude.{◌≡◌, List, ◌∷◌, Option}
 use Rattle.ksql_grammar.specs.declared.symbol.Keyword.{Keyword}
 use Rattle.ksql_grammar.specs.declared.symbol.Keyword.TheVariants as key
@@ -21,10 +21,10 @@ abbrev pub SpellsClauses : Clauses → List Symbol → List Symbol → Type 0
 SpellsClauses c ts us = (s0 s1 s2 : List Symbol) × Spells (filter c.filter) ts s0 × Spells (group c.group) s0 s1
     × Spells (partition c.partition) s1 s2 × Spells (having c.having) s2 us
 
--- the query of two halves
+-- the query of its two halves
 abbrev pub select_of : Front → Clauses → Select
 select_of f c = record { items = f.items; source = f.source; join = f.join; window = f.window; filter = c.filter; group = c.group; partition = c.partition; having = c.having }
 
--- after JOIN, before which this word may stand
+-- after JOIN, which this word may precede
 unfoldable pub after_join : Keyword → List Symbol → Option (List Symbol)
 after_join k ts = after_key key.Join (after_or_here ts (after_key k ts))

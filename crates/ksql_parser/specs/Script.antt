@@ -17,7 +17,7 @@ use Rattle.ksql_parser.specs.Limits.{rules, RefusesFirst, NoneRefuses}
 abbrev pub AreOfText : List Token → Type 0
 AreOfText ts = (text : List ℕ) × (length text ≤ longest_text) × AreTokens text ts
 
--- a token in front of the first list
+-- the lists, with a token in front of the first one
 abbrev pub onto_first : TokenKind → List (List TokenKind) → List (List TokenKind)
 onto_first t [] = (t ∷ []) ∷ []
 onto_first t (first ∷ others) = (t ∷ first) ∷ others
@@ -31,7 +31,7 @@ abbrev pub is_filled : List TokenKind → Bool
 is_filled [] = false
 is_filled _ = true
 
--- the statements: those lists that aren't empty
+-- the statements: the lists that aren't empty
 abbrev pub statements : List TokenKind → List (List TokenKind)
 statements ts = filter is_filled (parts ts)
 
@@ -43,20 +43,20 @@ IsTreeOf ts s = NoneRefuses rules ts × IsSpelledBy s ts
 abbrev pub AreTrees : List (List TokenKind) → List Statement → Type 0
 AreTrees = AllZip IsTreeOf
 
--- the first statement that a rule refuses has this number, from 1, and its first rule this code
+-- the number, from 1, of the first statement that a rule refuses, and the code of its first rule
 pub data FirstRefused : List (List TokenKind) → ℕ → Code → Type 0 where
   here : {ts : List TokenKind} {others : List (List TokenKind)} {code : Code}
       → RefusesFirst rules ts code → FirstRefused (ts ∷ others) 1 code
   later : {ts : List TokenKind} {others : List (List TokenKind)} {n : ℕ} {code : Code}
       → NoneRefuses rules ts → FirstRefused others n code → FirstRefused (ts ∷ others) (suc n) code
 
--- an answer is so: the trees of the statements, or the first refusal
+-- a result is right: the trees of the statements, or the first refusal
 abbrev pub IsParsed : List Token → Result (Vec Statement) ParseFault → Type 0
 IsParsed ts (Ok trees) = AreTrees (statements (kinds ts)) trees.items
 IsParsed ts (Err (Refused n code)) = FirstRefused (statements (kinds ts)) n code
 IsParsed ts (Err OutOfMemory) = Unit {0}
 
--- what is answered is this, unless memory ran out
+-- the result is this, unless memory ran out
 abbrev pub Answers : Result (Vec Statement) ParseFault → Result (List Statement) ParseFault → Type 0
 Answers (Ok trees) wanted = wanted ≡ Ok trees.items
 Answers (Err (Refused n code)) wanted = wanted ≡ Err (Refused n code)

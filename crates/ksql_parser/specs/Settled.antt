@@ -1,4 +1,4 @@
--- What the reading of one statement, and of all of them, settles.
+-- What reading one statement, and all of them, settles.
 use Rattle.std.specs.Prelude.{◌≡◌, ℕ, List, Result, Ok, Err}
 use Rattle.std.specs.Global.{Vec}
 use Rattle.ksql_lexer.specs.declared.token.TokenKind.{TokenKind}
@@ -13,7 +13,7 @@ use Rattle.ksql_parser.specs.Script.{IsTreeOf, AreTrees, FirstRefused}
 abbrev pub IsOnlyTree : List TokenKind → Statement → Type 0
 IsOnlyTree ts s = IsTreeOf ts s × ((other : Statement) → IsSpelledBy other ts → other ≡ s)
 
--- an answer for the statement of a number: its only tree, or the code of the first rule that refuses it
+-- a result for the statement with a number: its only tree, or the code of the first rule that refuses it
 abbrev pub SettlesOne : ℕ → List TokenKind → Result Statement ParseFault → Type 0
 SettlesOne number ts (Ok s) = IsOnlyTree ts s
 SettlesOne number ts (Err (Refused n code)) = (n ≡ number) × RefusesFirst rules ts code
@@ -23,7 +23,7 @@ SettlesOne number ts (Err OutOfMemory) = Unit {0}
 abbrev pub AreOnlyTrees : List (List TokenKind) → List Statement → Type 0
 AreOnlyTrees tss trees = AreTrees tss trees × ((others : List Statement) → AreTrees tss others → others ≡ trees)
 
--- an answer for all statements: their only trees, or the first refusal
+-- a result for all statements: their only trees, or the first refusal
 abbrev pub Settles : List (List TokenKind) → Result (Vec Statement) ParseFault → Type 0
 Settles tss (Ok trees) = AreOnlyTrees tss trees.items
 Settles tss (Err (Refused n code)) = FirstRefused tss n code

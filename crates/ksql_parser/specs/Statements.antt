@@ -1,4 +1,4 @@
--- How the parts of a statement that hold no expression are read from the front of some symbols.
+-- How the parts of a statement without expressions are read from the start of some symbols.
 use Rattle.std.specs.Prelude.{◌≡◌, ◌≤◌, ℕ, Bool, true, false, if◌then◌else◌, List, [], ◌∷◌, Option, Some, None, option_map, bytes_eq, codes}
 use Rattle.std.specs.Borrow.{Bor}
 use Rattle.ksql_lexer.specs.declared.token.Mark.TheVariants as mark
@@ -26,7 +26,7 @@ use Rattle.ksql_parser.specs.Grammar.{Spells, table_of, columns, props, with_pro
 use Rattle.ksql_grammar.specs.Expressions.{Reader, after_key, after_sign, first}
 use Rattle.expression_trees.specs.Options.{◌>>=◌}
 
--- a value and the symbols after it, both lent
+-- a value and the symbols after it, both borrowed
 abbrev pub lent : {A : Type 0} → Bor A × Bor (List Symbol) → A × List Symbol
 lent x = (x.0.now, x.1.now)
 
@@ -35,7 +35,7 @@ unfoldable pub after_word : List ℕ → List Symbol → Option (List Symbol)
 after_word w (Word found ∷ ts) = if bytes_eq found w then Some ts else None
 after_word w _ = None
 
--- after both, one after the other
+-- after both words
 unfoldable pub after_words : List ℕ → List ℕ → List Symbol → Option (List Symbol)
 after_words v w ts = after_word v ts >>= after_word w
 
@@ -203,7 +203,7 @@ head ts = do
   n ← first name_of t.1
   Some ((t.0, n.0), n.1)
 
--- the place of a clause among those of a query, by the word that begins it; 0 if none does
+-- the rank of a clause in a query, by the word that begins it; 0 if none does
 abbrev pub place_of : Symbol → ℕ
 place_of (Key key.Join) = 1
 place_of (Key key.Inner) = 1
@@ -217,12 +217,12 @@ place_of (Key key.Having) = 6
 place_of (Key key.Emit) = 7
 place_of _ = 0
 
--- nothing stands there, or a clause of this place or a later one
+-- the end, or a clause of this rank or a later one
 abbrev pub BeginsFrom : ℕ → List Symbol → Type 0
 BeginsFrom n [] = Unit {0}
 BeginsFrom n (s ∷ ss) = n ≤ place_of s
 
--- after an item stands a comma or FROM
+-- whether a symbol can follow an item: a comma or FROM
 abbrev pub ends_item : Symbol → Bool
 ends_item (Sign mark.Comma) = true
 ends_item (Key key.From) = true

@@ -1,4 +1,4 @@
--- The tables of words in parts, and what the value of digits is where it may be too large.
+-- The tables of words in parts, and the value of digits that may be too large.
 use Rattle.std.specs.Prelude.{ℕ, ◌^◌, ◌-◌, min, Bool, true, ◌&&◌, nat_lt, IsTrue, List, [], ◌∷◌, length, codes}
 use Rattle.std.specs.List.{list_all}
 use Rattle.std.specs.Char.{is_ascii_digit}
@@ -64,7 +64,7 @@ form_words =
 abbrev pub are_digits : List ℕ → Bool
 are_digits ds = nat_lt 0 (length ds) && list_all is_ascii_digit ds
 
--- whether a token, if it is of digits, has digits
+-- whether a token of digits has at least one digit
 abbrev pub is_written : TokenKind → Bool
 is_written (kind.Digits digits) = are_digits digits
 is_written _ = true
@@ -73,6 +73,6 @@ is_written _ = true
 abbrev pub AreWritten : List TokenKind → Type 0
 AreWritten ts = IsTrue (list_all is_written ts)
 
--- the number that digits write, or the largest of 64 bits where that is larger
+-- the number that digits spell, or the largest of 64 bits if it is larger
 abbrev pub capped_value : List ℕ → ℕ
 capped_value digits = min (digits_value 10 digits) (2 ^ 64 - 1)

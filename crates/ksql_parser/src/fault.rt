@@ -1,11 +1,11 @@
 use ksql_types::Code;
 use std::alloc::{AllocError, AllocFailed};
 
-/// Why tokens have no trees.
+/// Why tokens give no trees.
 #[derive(Clone, Copy, Debug, PartialEq, Eq)]
 pub enum ParseFault {
-    /// The first statement that a rule refuses, by its number from 1, and the code of its first rule: `Syntax`,
-    /// `TooLarge` or `Unsupported`.
+    /// The first refused statement, counted from 1, and the code of the first rule that it breaks: `Syntax`, `TooLarge`
+    /// or `Unsupported`.
     Refused { statement: u32, code: Code },
     /// Out of memory.
     OutOfMemory,

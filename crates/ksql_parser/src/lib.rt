@@ -1,4 +1,4 @@
-//! The trees of a script, or its first refusal.
+//! The parser: the trees of a script's statements, or the first refusal.
 #![tactic(auto)]
 
 mod fault;

@@ -47,7 +47,7 @@ fn is_closing(kind: &TokenKind) -> bool
     matches!(kind, TokenKind::Mark(Mark::Close)) || is_word(kind, "END")
 }
 
-/// Whether the `(` and CASE of a statement nest deeper than 64 anywhere.
+/// Whether `(` and CASE nest deeper than 64 anywhere in a statement.
 pub(crate) fn is_too_deep(tokens: &[Token]) -> bool
     ensures { IsTrue result ↔ IsTooDeep (kinds tokens.now) }
 {
@@ -75,7 +75,7 @@ fn is_too_large(kind: &TokenKind) -> bool
     }
 }
 
-/// Whether a token passes its limit: a name of 128 bytes, a text of 65,536 bytes, digits of 9223372036854775807.
+/// Whether a token exceeds its limit: 128 bytes for a name, 65,536 bytes for a text, 9223372036854775807 for digits.
 pub(crate) fn has_too_large(tokens: &[Token]) -> bool
     requires { AreWritten (kinds tokens.now) }
     ensures { result ≡ list_any is_too_large (kinds tokens.now) }
@@ -127,7 +127,7 @@ fn has_unsupported_word(tokens: &[Token]) -> bool
     false
 }
 
-/// Whether a statement has a form of ksqlDB that isn't supported.
+/// Whether a statement uses an unsupported form of ksqlDB.
 pub(crate) fn has_unsupported(tokens: &[Token]) -> bool
     ensures { IsTrue result ↔ HasUnsupported (kinds tokens.now) }
 {

@@ -14,8 +14,8 @@ use crate::statement::read_statement;
 use crate::symbols::symbols_of;
 use ksql_grammar::ReadError;
 use ksql_lexer::{Mark, Token, TokenKind};
-use statement_trees::Statement;
 use ksql_types::Code;
+use statement_trees::Statement;
 use std::alloc::Global;
 
 fn is_semicolon(kind: &TokenKind) -> bool
@@ -30,7 +30,7 @@ fn first_semicolon(tokens: &[Token]) -> Option<usize>
     tokens.iter().position(|token| is_semicolon(&token.kind))
 }
 
-/// The tokens up to the first `;`, and those after it.
+/// The tokens before the first `;`, and those after it.
 fn first_part(tokens: &[Token]) -> (&[Token], &[Token])
     ensures parts { statements (kinds tokens.now) ≡ filter is_filled (kinds result.0.now ∷ []) ++ statements (kinds result.1.now) }
     ensures shorter { 0 < length tokens.now → length result.1.now < length tokens.now }
@@ -42,7 +42,7 @@ fn first_part(tokens: &[Token]) -> (&[Token], &[Token])
     }
 }
 
-/// The tree of the statement of this number, or its refusal.
+/// The tree of statement `number`, or its refusal.
 fn tree_of(alloc: Global, number: u32, tokens: &[Token]) -> Result<Statement, ParseFault>
     requires { AreWritten (kinds tokens.now) }
     ensures { SettlesOne number (kinds tokens.now) result }
@@ -91,13 +91,13 @@ fn trees_of(alloc: Global, tokens: &[Token]) -> Result<Vec<Statement>, ParseFaul
     Ok(trees)
 }
 
-/// The trees of the statements, in their order, or the first refusal. Takes a time linear in the tokens but for the
-/// copies of names and texts.
+/// The trees of the statements in order, or the first refusal. Takes time linear in the tokens, apart from the copies
+/// of names and texts.
 pub fn parse(alloc: Global, tokens: &[Token]) -> Result<Vec<Statement>, ParseFault>
     requires { AreOfText tokens.now }
-    // What is answered is so: these are the trees of all statements, or this is the first refusal.
+    // Every result is right: these are the trees of all statements, or this is the first refusal.
     ensures found { IsParsed tokens.now result }
-    // What is so is answered, unless memory runs out.
+    // Every right result is returned, unless memory runs out.
     ensures only { (trees : List Tree) → AreTrees (statements (kinds tokens.now)) trees → Answers result (Ok trees) }
     ensures refused { (n : ℕ) (code : OneCode) → FirstRefused (statements (kinds tokens.now)) n code
         → Answers result (Err (ParseFault.Refused n code)) }
@@ -105,12 +105,12 @@ pub fn parse(alloc: Global, tokens: &[Token]) -> Result<Vec<Statement>, ParseFau
     trees_of(alloc, tokens)
 }
 
-/// No list of tokens is a spelling of two statements.
+/// No list of tokens spells two statements.
 pub fn one_tree()
     ensures { (ts : List Kind) (a b : Tree) → IsSpelledBy a ts → IsSpelledBy b ts → a ≡ b }
 {}
 
-/// Statements have one list of trees or one first refusal, and not both.
+/// Statements have either one list of trees or one first refusal, and not both.
 pub fn one_list()
     ensures trees { (tss : List (List Kind)) (a b : List Tree) → AreTrees tss a → AreTrees tss b → a ≡ b }
     ensures refusal { (tss : List (List Kind)) (m n : ℕ) (c d : OneCode) → FirstRefused tss m c → FirstRefused tss n d

@@ -1,5 +1,5 @@
-//! Statements. A tree that is let go is given to `drop`: the check goes through such a call once, but through every form of a
-//! local tree that ends with its block.
+//! Reading statements. A tree that isn't needed is passed to `drop`: the check goes through such a call once, but
+//! through every form of a local tree that ends with its block.
 
 ghost use Rattle.std.specs.Prelude.{◌≡◌, List, [], ◌∷◌, Some, IfOk, option_map};
 ghost use Rattle.ksql_lexer.specs.declared.token.Mark.TheVariants as mark;
@@ -24,11 +24,11 @@ use crate::statement::queries::read_select;
 use crate::statement::step::{key, name, sign};
 use ksql_grammar::{Keyword, ReadError, Symbol, after_sign};
 use ksql_lexer::Mark;
-use statement_trees::{Statement, StatementBody};
 use ksql_types::{Chars, CopyOf};
+use statement_trees::{Statement, StatementBody};
 use std::alloc::Global;
 
-/// Whether STREAM or TABLE stands first, and the symbols after it: true for TABLE.
+/// Whether the statement creates a table (or else a stream), and the symbols after TABLE or STREAM.
 #[tactic(auto, unfolding(ksql_grammar::specs::Expressions::first))]
 fn table(symbols: &[Symbol]) -> Result<(bool, &[Symbol]), ReadError>
     ensures { Gives with_rest result (read.first creates symbols.now) }
@@ -40,7 +40,7 @@ fn table(symbols: &[Symbol]) -> Result<(bool, &[Symbol]), ReadError>
     }
 }
 
-/// CREATE, what it creates and its name: whether it is a table, the name, and the symbols after it.
+/// CREATE, the kind of relation and its name: whether it is a table, the name, and the symbols after them.
 #[tactic(auto, unfolding(crate::specs::Statements::head))]
 fn head(alloc: Global, symbols: &[Symbol]) -> Result<((bool, Chars), &[Symbol]), ReadError>
     ensures { Gives with_rest result (part.head symbols.now) }
@@ -51,7 +51,7 @@ fn head(alloc: Global, symbols: &[Symbol]) -> Result<((bool, Chars), &[Symbol]),
     Ok(((table, name.copy(alloc)?), rest))
 }
 
-/// Columns, `)`, WITH and properties.
+/// The columns of a declaration, `)`, and WITH and its properties.
 fn declared(alloc: Global, symbols: &[Symbol]) -> Result<(StatementBody, &[Symbol]), ReadError>
     ensures found { IfOk result (λ x. part.SpellsDeclared x.0 symbols.now x.1.now) }
     ensures only { (b : OneBody) (rest : List OneSymbol) → part.SpellsDeclared b symbols.now rest
@@ -64,7 +64,7 @@ fn declared(alloc: Global, symbols: &[Symbol]) -> Result<(StatementBody, &[Symbo
     Ok((StatementBody::Declared { columns, props }, rest))
 }
 
-/// WITH and properties, where they are there, AS and a query.
+/// WITH and its properties, if present, then AS and a query.
 fn query(alloc: Global, symbols: &[Symbol]) -> Result<(StatementBody, &[Symbol]), ReadError>
     ensures found { IfOk result (λ x. part.SpellsQuery x.0 symbols.now x.1.now) }
     ensures only { (b : OneBody) → part.SpellsQuery b symbols.now [] → Gives with_rest result (Some (b, [])) }
@@ -75,7 +75,7 @@ fn query(alloc: Global, symbols: &[Symbol]) -> Result<(StatementBody, &[Symbol])
     Ok((StatementBody::Query { props, select }, rest))
 }
 
-/// What stands after the name of a statement.
+/// Reads what follows the name of a statement.
 fn body(alloc: Global, symbols: &[Symbol]) -> Result<(StatementBody, &[Symbol]), ReadError>
     ensures found { IfOk result (λ x. part.SpellsBody x.0 symbols.now x.1.now) }
     ensures only { (b : OneBody) → part.SpellsBody b symbols.now [] → Gives with_rest result (Some (b, [])) }
@@ -86,7 +86,7 @@ fn body(alloc: Global, symbols: &[Symbol]) -> Result<(StatementBody, &[Symbol]),
     }
 }
 
-/// The tree of a statement whose symbols are these, all of them.
+/// The tree of the statement that these symbols spell as a whole.
 pub(crate) fn read_statement(alloc: Global, symbols: &[Symbol]) -> Result<Statement, ReadError>
     ensures found { IfOk result (λ s. Spells (statement s) symbols.now []) }
     ensures only { (s : OneStatement) → Spells (statement s) symbols.now [] → Gives (λ x. x) result (Some s) }

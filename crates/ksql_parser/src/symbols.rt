@@ -10,7 +10,7 @@ use ksql_lexer::{Token, TokenKind};
 use ksql_types::{Chars, CopyOf};
 use std::alloc::{AllocError, Global};
 
-/// The number that decimal digits write, or `u64::MAX` where that is larger.
+/// The number that decimal digits spell, or `u64::MAX` if it is larger.
 pub(crate) fn number_of(digits: &str) -> u64
     requires { IsTrue (are_digits digits.now) }
     ensures { result ≡ capped_value digits.now }
@@ -30,7 +30,7 @@ fn word_symbol(alloc: Global, word: &Chars) -> Result<Symbol, AllocError>
     }
 }
 
-/// The token as the grammar reads it.
+/// A token as the grammar sees it.
 fn symbol_of(alloc: Global, kind: &TokenKind) -> Result<Symbol, AllocError>
     requires written { IsTrue (is_written kind.now) }
     requires fits { ¬ (IsTrue (is_too_large kind.now)) }
@@ -45,7 +45,7 @@ fn symbol_of(alloc: Global, kind: &TokenKind) -> Result<Symbol, AllocError>
     }
 }
 
-/// The tokens as the grammar reads them.
+/// The tokens as the grammar sees them.
 pub(crate) fn symbols_of(alloc: Global, tokens: &[Token]) -> Result<Vec<Symbol>, AllocError>
     requires written { AreWritten (kinds tokens.now) }
     requires fit { ¬ (HasTooLarge (kinds tokens.now)) }

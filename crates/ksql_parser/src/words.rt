@@ -7,7 +7,7 @@ ghost use Rattle.ksql_parser.specs.Words.{clause_words, closing_words, command_w
 
 use ksql_grammar::Keyword;
 
-/// The reserved word that a word is.
+/// The reserved word that a word spells, if any.
 #[tactic(auto, unfolding(ksql_grammar::specs::Symbols::keyword_of), using(crate::proofs::Tables::joined))]
 pub(crate) fn keyword_of(word: &str) -> Option<Keyword>
     ensures { result ≡ keyword_of word.now }
@@ -89,7 +89,7 @@ fn closing_keyword(word: &str) -> Option<Keyword>
     }
 }
 
-/// Whether a word is of what ksqlDB has beyond this grammar.
+/// Whether a word belongs to an unsupported part of ksqlDB.
 pub(crate) fn is_unsupported_word(word: &str) -> bool
     ensures { result ≡ list_any (λ wanted. bytes_eq word.now wanted) unsupported_words }
 {

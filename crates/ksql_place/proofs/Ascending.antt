@@ -13,7 +13,7 @@ use Rattle.std.proofs.lemmas.List.Elements.{recursion_from_All, All-head, All-ta
 use Rattle.std.proofs.lemmas.List.Sorted.{ranks_by, sorted_far, IsPermutation-refl, IsPermutation-cons, IsPermutation-trans, IsPermutation-sym, IsPermutation-middle}
 use Rattle.ksql_place.specs.Ascending.{placed, ascending}
 
--- what an answer says the other way round
+-- the meaning of a reversed comparison
 gt-turned : (o p : Ordering) → o ≡ ordering_reverse p → is_gt o ≡ true → is_gt p ≡ false
 gt-turned o Less h up = refl
 gt-turned o Equal h up = refl
@@ -128,7 +128,7 @@ module _ {A : Type 0} {cmp : A → A → Ordering} (total : IsTotalOrder cmp) wh
       by true rest = ap (λ (bs : List A). u ∷ bs) rest
       by false rest = refl
 
-  -- where none of the second list is before any of the first, each is put in order by itself
+  -- if none of the second list is before any of the first, each is sorted on its own
   pub ascending-append : (us vs : List A) → All (λ u. All (λ v. is_gt (cmp u v) ≡ false) vs) us → ascending cmp (us ++ vs) ≡ ascending cmp us ++ ascending cmp vs
   ascending-append [] vs apart = refl
   ascending-append (u ∷ us) vs apart =
@@ -177,7 +177,7 @@ module _ {A : Type 0} {cmp : A → A → Ordering} (total : IsTotalOrder cmp) wh
         by true is rest = filter-placed a (ascending cmp bs) is (Ascends-ascending bs) ∙ ap (placed cmp a) rest
         by false is rest = filter-gone a (ascending cmp bs) is ∙ rest
 
-  -- members that tie with one don't stand before each other
+  -- members that tie with a third are not before each other
   tied-both : (x a b : A) → tied cmp x a ≡ true → tied cmp x b ≡ true → is_gt (cmp a b) ≡ false
   tied-both x a b with-a with-b = ap is_gt (sym (total.congr x a b ((Equal-is (cmp x a)).0 with-a)) ∙ (Equal-is (cmp x b)).0 with-b)
 
@@ -278,7 +278,7 @@ module _ {A : Type 0} {cmp : A → A → Ordering} (total : IsTotalOrder cmp) wh
   NoneBefore-append s [] vs us-none vs-none = vs-none
   NoneBefore-append s (u ∷ us) vs us-none vs-none = (us-none.0, NoneBefore-append s us vs us-none.1 vs-none)
 
-  -- of two lists that ascend, the first of the one goes first, where it isn't after the first of the other
+  -- of two lists that ascend, the first list's head goes first unless it is after the other's
   pub merge-left : (a b : A) (us vs : List A) → is_gt (cmp a b) ≡ false → Ascends cmp (a ∷ us) → Ascends cmp (b ∷ vs) →
       ascending cmp ((a ∷ us) ++ b ∷ vs) ≡ a ∷ ascending cmp (us ++ b ∷ vs)
   merge-left a b us vs low us-up vs-up =

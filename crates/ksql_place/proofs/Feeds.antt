@@ -1,4 +1,4 @@
--- The orders of the feeds stand one after another.
+-- The orders of the feeds come one after another.
 use Rattle.std.proofs.Common.{◌≡◌, List, ◌++◌, ◌<◌, false, arith}
 use Rattle.std.specs.List.{All}
 use Rattle.std.specs.Ordering.{is_gt}

@@ -65,7 +65,7 @@ pub record IsRun (a b : Stamp) : Type 0 where
   pub topic : a.topic ≡ b.topic
   pub part : a.part ≡ b.part
 
--- what is known of a head after the stamp m was taken
+-- the facts about a head after the stamp m was taken
 pub record FitsBehind (m : Stamp) (w : Waiting) : Type 0 where
   pub feed : m.feed ≡ w.stamp.feed
   pub low : is_gt (stamp_cmp m w.stamp) ≡ false
@@ -75,7 +75,7 @@ abbrev pub Fits : Stamp → Queue → Type 0
 Fits m [] = Unit {0}
 Fits m (w ∷ q) = FitsBehind m w
 
--- what is known of two records in a row
+-- the facts about two consecutive records
 pub record FollowsOn (w v : Waiting) : Type 0 where
   pub feed : w.stamp.feed ≡ v.stamp.feed
   pub high : v.stamp.high ≡ max w.stamp.high v.time
@@ -327,7 +327,7 @@ taken-members x (done {qs} empty) = ap (filter (same x)) (sym (none-waiting qs (
 taken-members x (next {qs} {rest} {w} {stamps} t first more) =
     ap (λ (ss : List Stamp). cond (same x w.stamp) (w.stamp ∷ ss) ss) (taken-members x more) ∙ sym (takes-members x t)
 
--- so what is taken is the stamps ascending
+-- so the stamps taken are the stamps in ascending order
 pub taken-only : (m : Stamp) (qs : List Queue) (stamps : List Stamp) → Taken qs stamps → IsLeft m qs → stamps ≡ ascending stamp_cmp (waiting_stamps qs)
 taken-only m qs stamps taken left =
     same_by_ties stamp_total stamps (ascending stamp_cmp (waiting_stamps qs)) (taken-ascends m taken left).1

@@ -105,7 +105,7 @@ queues-left : (feed : ℕ) (parts : List PartTimes) → AreDistinct parts → Is
 queues-left feed parts distinct =
     record { fits = queues-fit feed parts; parts = queues-part feed parts; apart = queues-apart feed parts (AllOther-from_distinct parts distinct) }
 
--- what is taken is the order of consumption
+-- the stamps taken are the order of consumption
 pub only_order : (feed : ℕ) (parts : List PartTimes) (taken : List Stamp) → AreDistinct parts → Taken (queues feed parts) taken → taken ≡ stamps_of feed parts
 only_order feed parts taken distinct t =
     taken-only (feed_start feed) (queues feed parts) taken t (queues-left feed parts distinct) ∙ ap (ascending stamp_cmp) (queues-stamps feed parts)

@@ -44,7 +44,7 @@ module _ {A : Type 0} (p : A → Bool) where
   filter-not [] gone = refl
   filter-not (b ∷ bs) gone = ap₂ (λ (t : Bool) (us : List A). cond (not t) (b ∷ us) us) gone.0 (filter-not bs gone.1)
 
-  -- a list whose members that pass stand first is these and then the others
+  -- a list whose passing members come first is these and then the others
   pub cut : (xs : List A) → PassesFirst p xs → xs ≡ filter p xs ++ filter (λ x. not (p x)) xs
   cut [] first = refl
   cut (a ∷ bs) first = by (p a) refl (cut bs first.1)
@@ -78,7 +78,7 @@ less-from_far o Equal turned far apart = absurd (apart turned)
 less-from_far o Greater turned far apart = turned
 
 module _ {A : Type 0} {cmp : A → A → Ordering} (total : IsTotalOrder cmp) where
-  -- a list that ascends, of which no two tie, rises
+  -- a list that ascends without ties rises
   pub Rises-from_sort : (bs : List A) → IsSorted cmp bs → AllPairs (λ a b. cmp a b ≡ Equal → ⊥) bs → Rises cmp bs
   Rises-from_sort bs sorted apart =
       let far = sorted_far (λ a b. is_lt (cmp a b)) (ranks_by total (λ a. a)) bs sorted in
@@ -131,6 +131,6 @@ module _ {A : Type 0} {cmp : A → A → Ordering} (total : IsTotalOrder cmp) wh
         λ among. rest-among v x vs us vs-up.0 among (subst (λ (a : A). Contains (a ∷ us) x) heads ((same x).1 (Contains-after v x vs among))),
       )))
 
-  -- two lists that rise are equal where they have the same members
+  -- two lists that rise are equal if they have the same members
   pub same_members : (us vs : List A) → Rises cmp us → Rises cmp vs → ((x : A) → Contains us x ↔ Contains vs x) → us ≡ vs
   same_members us vs us-up vs-up same = same-climbing us vs (Climbs-from_rises cmp us us-up) (Climbs-from_rises cmp vs vs-up) same

@@ -7,22 +7,22 @@ use Rattle.ksql_place.specs.declared.stamp.Stamp.{Stamp}
 use Rattle.ksql_place.specs.declared.order.PartTimes.{PartTimes}
 use Rattle.ksql_place.specs.Order.{part_stamps}
 
--- a record that waits in its partition: its time and its stamp
+-- a record waiting in its partition: its time and its stamp
 pub record Waiting : Type 0 where
   pub time : ℕ
   pub stamp : Stamp
 
--- the records of one partition that wait, in the partition's order
+-- the waiting records of one partition, in the partition's order
 abbrev pub Queue : Type 0
 Queue = List Waiting
 
--- heads are compared by time, then by topic, then by partition
+-- heads compare by time, then by topic, then by partition
 abbrev pub head_cmp : Waiting → Waiting → Ordering
 head_cmp a b =
     ordering_then (nat_cmp a.time b.time)
     (ordering_then (nat_cmp a.stamp.topic b.stamp.topic) (nat_cmp a.stamp.part b.stamp.part))
 
--- the record isn't after the head of the queue, where there is one
+-- the record isn't after the head of the queue, if any
 abbrev pub IsNoLater : Waiting → Queue → Type 0
 IsNoLater w [] = ⊤
 IsNoLater w (head ∷ q) = IsTrue (is_le (head_cmp w head))
@@ -32,13 +32,13 @@ pub data Takes : List Queue → Waiting → List Queue → Type 0 where
   here : {w : Waiting} {q : Queue} {qs : List Queue} → Takes ((w ∷ q) ∷ qs) w (q ∷ qs)
   behind : {q : Queue} {qs rest : List Queue} {w : Waiting} → Takes qs w rest → Takes (q ∷ qs) w (q ∷ rest)
 
--- the stamps as they come when each time a head that is after no other is taken, until none is left
+-- the stamps in the order that results from taking a head that is after no other, until none is left
 pub data Taken : List Queue → List Stamp → Type 0 where
   done : {qs : List Queue} → All (λ q. q ≡ []) qs → Taken qs []
   next : {qs rest : List Queue} {w : Waiting} {stamps : List Stamp} →
       Takes qs w rest → All (IsNoLater w) qs → Taken rest stamps → Taken qs (w.stamp ∷ stamps)
 
--- a record's time beside its stamp
+-- a record's time and stamp
 abbrev pub waiting : ℕ × Stamp → Waiting
 waiting p = record { time = p.0; stamp = p.1 }
 

@@ -1,4 +1,5 @@
--- Where records and changes stand, and the order of consumption (Kafka Streams developer guide: the head with the smallest timestamp is taken first).
+-- The places of records and changes, and the order of consumption (Kafka Streams developer guide: the head with the
+-- smallest timestamp is taken first).
 use Rattle.std.specs.Prelude.{◌≡◌, ℕ, List, [], ◌∷◌, ◌++◌, ◌+◌, ◌≤◌, ◌^◌, length, max}
 use Rattle.std.specs.List.{flat_map, AllPairs}
 use Rattle.std.specs.declared.cmp.Ordering.{Ordering}
@@ -10,7 +11,7 @@ use Rattle.ksql_place.specs.declared.change.SourceRecord.{SourceRecord}
 use Rattle.ksql_place.specs.declared.order.PartTimes.{PartTimes}
 use Rattle.ksql_place.specs.Ascending.{ascending}
 
--- stamps are compared field by field
+-- stamps compare field by field
 abbrev pub stamp_cmp : Stamp → Stamp → Ordering
 stamp_cmp a b =
     ordering_then (nat_cmp a.feed b.feed)
@@ -32,8 +33,8 @@ abbrev pub greatest : List ℕ → ℕ
 greatest [] = 0
 greatest (n ∷ ns) = max n (greatest ns)
 
--- The stamps of one partition's records in one feed, the first of which has the offset first. Each has after its feed the
--- greatest time of its partition up to and including it; before are the times of the records in front.
+-- The stamps of one partition's records in one feed, the first of which has the offset `first`. Each has after its feed
+-- the greatest time of its partition up to and including it; `before` are the times of the earlier records.
 unfoldable pub stamped : (feed topic part first : ℕ) (before times : List ℕ) → List Stamp
 stamped feed topic part first before [] = []
 stamped feed topic part first before (time ∷ times) =
@@ -45,7 +46,7 @@ stamped feed topic part first before (time ∷ times) =
 abbrev pub part_stamps : ℕ → PartTimes → List Stamp
 part_stamps feed p = stamped feed p.topic p.part p.first [] p.times
 
--- records are compared by their stamps
+-- records compare by their stamps
 abbrev pub record_cmp : SourceRecord → SourceRecord → Ordering
 record_cmp a b = stamp_cmp a.stamp b.stamp
 
@@ -57,6 +58,6 @@ stamps_of feed parts = ascending stamp_cmp (flat_map (part_stamps feed) parts)
 abbrev pub AreDistinct : List PartTimes → Type 0
 AreDistinct parts = AllPairs (λ p q. p.topic ≡ q.topic → ¬ (p.part ≡ q.part)) parts
 
--- no record's offset passes the greatest number of 64 bits
+-- no record's offset exceeds the greatest 64-bit number
 abbrev pub HasOffsets : PartTimes → Type 0
 HasOffsets p = p.first + length p.times ≤ 2 ^ 64

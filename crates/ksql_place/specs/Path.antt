@@ -3,7 +3,7 @@ use Rattle.std.specs.Prelude.{List, ℕ, []}
 use Rattle.ksql_place.specs.declared.path.Numbers.{Numbers}
 use Rattle.ksql_place.specs.declared.path.Numbers.TheVariants.{Root, One, Two, Three, Many}
 
--- the numbers that stand in a path
+-- the numbers of a path
 abbrev pub numbers_in : Numbers → List ℕ
 numbers_in Root = []
 numbers_in (One numbers) = numbers

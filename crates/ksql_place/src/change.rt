@@ -2,7 +2,7 @@ use crate::stamp::{Place, Stamp};
 use ksql_types::{CopyOf, Items, Key, Row, Span};
 use std::alloc::{AllocError, Global};
 
-/// The value of a record, read by its relation's schema.
+/// The value of a record, decoded by its relation's schema.
 #[derive(Debug, Drop)]
 pub enum Decoded {
     Good(Row),
@@ -19,14 +19,14 @@ pub struct SourceRecord {
     pub value: Decoded,
 }
 
-/// What a change says: of a stream, one more row; of a table, the row of its key before and after, where there is one.
+/// The content of a change: for a stream, one more row; for a table, the row of its key before and after, if any.
 #[derive(Debug, Drop)]
 pub enum Body {
     Said(Row),
     Turned { old: Option<Row>, new: Option<Row> },
 }
 
-/// A change of a relation. The span is the window of a windowed table's change.
+/// A change of a relation. `span` is the window if the relation is a windowed table.
 #[derive(Debug, Drop)]
 pub struct Change {
     pub place: Place,

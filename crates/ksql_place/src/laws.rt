@@ -1,4 +1,4 @@
-//! Laws of the orders. None of these functions does anything.
+//! Laws of the orders. These functions do nothing.
 ghost use Rattle.std.specs.Prelude.{◌≡◌, ◌↔◌, ◌∷◌, ◌++◌, ◌<◌, ℕ, All, AllPairs, Bool, Contains, List, filter, map, not, true, false};
 ghost use Rattle.std.specs.List.Sorted.{IsPermutation, IsSorted, IsSortedByKey, IsStable, IsStableByKey};
 ghost use Rattle.std.specs.Cmp.{IsTotalOrder};
@@ -40,12 +40,12 @@ pub fn places_between_are_ordered()
         → between_cmp b rb c rc ≡ Ordering.Less → between_cmp a ra c rc ≡ Ordering.Less }
 {}
 
-/// The order by any comparison that is total has the members that were given, each as often; it ascends, and members that
-/// tie keep their order. A list that ascends already stays as it is. A part of the order is the order of that part. Where
-/// none of a second list is before any of the first, the order of the first stands before that of the second; the second
-/// may be put in order by itself first. Two lists that ascend are merged by their heads, of which that of the first goes
-/// first where they tie. A list whose members that pass a test stand first is those members and then the others. A list
-/// that ascends, of which no two members tie, rises, and two lists that rise are equal where they have the same members.
+/// Sorting by any total comparison keeps the members, each as often; the result ascends, and members that tie keep
+/// their order. A list that ascends already is unchanged. Sorting commutes with filtering. If no member of a second
+/// list is before a member of the first, the sorted first list comes before the sorted second; the second may be sorted
+/// on its own first. Two lists that ascend are merged by their heads, where the first list's head goes first on a tie.
+/// If the members that pass a test come first, the list is those members and then the others. A list that ascends
+/// without ties rises, and two lists that rise are equal if they have the same members.
 pub fn lists_ascend<T>()
     ensures members { (cmp : T → T → Answer) → IsTotalOrder cmp → (xs : List T) → IsPermutation xs (ascending cmp xs) }
     ensures ascends { (cmp : T → T → Answer) → IsTotalOrder cmp → (xs : List T) → IsSorted cmp (ascending cmp xs) }
@@ -71,9 +71,9 @@ pub fn lists_ascend<T>()
         ((x : T) → Contains xs x ↔ Contains ys x) → xs ≡ ys }
 {}
 
-/// The order of consumption has the records that were fed, each as often, and ascends by their stamps. Records of the
-/// same stamp keep their order, and records that ascend already stay as they are. The stamps of the order are the order
-/// of the stamps, and a part of the order is the order of that part.
+/// The order of consumption has the records that were fed, each as often, and ascends by their stamps. Records with the
+/// same stamp keep their order, and records that ascend already stay as they are. Taking the stamps commutes with
+/// ordering, and so does filtering.
 pub fn order_is_sorted()
     ensures members { (records : List OneRecord) → IsPermutation records (ascending record_cmp records) }
     ensures ascends { (records : List OneRecord) →
@@ -88,7 +88,7 @@ pub fn order_is_sorted()
         filter passes (ascending record_cmp records) ≡ ascending record_cmp (filter passes records) }
 {}
 
-/// The order of the records of earlier feeds stands whole before that of the records of later feeds.
+/// The ordered records of earlier feeds all come before those of later feeds.
 pub fn feeds_follow()
     ensures { (earlier later : List OneRecord) →
         All (λ e. All (λ l. e.stamp.feed < l.stamp.feed) later) earlier →
@@ -96,9 +96,9 @@ pub fn feeds_follow()
         ≡ ascending record_cmp earlier ++ ascending record_cmp later }
 {}
 
-/// The merge law: the stamps of one feed, ascending, are what comes of taking again and again the head with the smallest
-/// time, ties going to the smaller topic number and then to the smaller partition, and nothing else comes of it. Each
-/// partition keeps its own order.
+/// The merge law: the stamps of one feed in ascending order are what results from repeatedly taking the head with the
+/// smallest time, ties going to the smaller topic number and then to the smaller partition; nothing else results from
+/// it. Each partition keeps its own order.
 pub fn order_is_merged()
     ensures taken { (feed : ℕ) (parts : List OnePart) → AreDistinct parts
         → Taken (queues feed parts) (stamps_of feed parts) }

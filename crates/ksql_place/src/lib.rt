@@ -1,4 +1,4 @@
-//! Where a change stands: stamps, places, the order of both, and what a record and a change are.
+//! Where a change stands: stamps and places, their order, records and changes.
 #![tactic(auto)]
 
 mod change;

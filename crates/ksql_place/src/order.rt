@@ -10,7 +10,7 @@ use std::alloc::{AllocError, Global};
 use std::cmp::Ordering;
 
 /// The times of the records that one feed brings to one partition of a topic, in milliseconds and in the order of their
-/// offsets, of which the first is given.
+/// offsets, starting from `first`.
 #[derive(Debug, Drop)]
 pub struct PartTimes {
     pub topic: u32,
@@ -30,14 +30,14 @@ impl CopyOf for PartTimes {
     }
 }
 
-/// The order of places of one relation: by stamp and then by path.
+/// Compares two places of one relation: by stamp, then by path.
 pub fn cmp_place(a: &Place, b: &Place) -> Ordering
     ensures { result ≡ place_cmp a.now b.now }
 {
     cmp_between(a, 0, b, 0)
 }
 
-/// The order of places of the relations numbered `ra` and `rb`: by stamp, then by relation, then by path.
+/// Compares places of the relations `ra` and `rb`: by stamp, then by relation, then by path.
 pub fn cmp_between(a: &Place, ra: u32, b: &Place, rb: u32) -> Ordering
     ensures { result ≡ between_cmp a.now ra b.now rb }
 {
@@ -60,7 +60,7 @@ pub fn stamps_of(alloc: Global, feed: u64, parts: &[PartTimes]) -> Result<Vec<St
     Ok(stamps)
 }
 
-/// Adds the stamps of one partition's records.
+/// Appends the stamps of one partition's records.
 fn push_stamps(stamps: &mut Vec<Stamp>, feed: u64, part: &PartTimes) -> Result<(), AllocError>
     requires { HasOffsets part.now }
     ensures { OnOk result (stamps.new.items ≡ stamps.old.items ++ part_stamps feed part.now) }
@@ -79,8 +79,8 @@ fn push_stamps(stamps: &mut Vec<Stamp>, feed: u64, part: &PartTimes) -> Result<(
     Ok(())
 }
 
-/// The order of consumption of these records: ascending by their stamps. Records of the same stamp keep their order.
-/// Takes of the order of n log n steps.
+/// The records in the order of consumption: ascending by stamp, where records with the same stamp keep their order.
+/// Takes O(n log n) steps.
 pub fn order_of(mut records: Vec<SourceRecord>) -> Result<Vec<SourceRecord>, AllocError>
     ensures { IfOk result (λ order. order.items ≡ ascending record_cmp records.items) }
 {

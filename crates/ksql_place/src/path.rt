@@ -5,7 +5,7 @@ use ksql_types::{Boxed, CopyOf, Items};
 use std::alloc::{AllocError, Global};
 use std::marker::Model;
 
-/// The numbers of a path. Up to three of them, as nearly all paths have, stand in the path itself.
+/// The numbers of a path. Up to three, as in nearly all paths, are stored in the path itself.
 #[derive(Debug, Drop)]
 enum Numbers {
     Root,
@@ -34,7 +34,7 @@ impl Model for Path {
 }
 
 impl Path {
-    /// The path of these numbers, copied. Up to three take no memory.
+    /// The path of these numbers. Up to three take no memory.
     pub fn of(alloc: Global, numbers: &[u32]) -> Result<Path, AllocError>
         ensures { IfOk result (λ made. made ≡ numbers.now) }
     {
@@ -48,7 +48,7 @@ impl Path {
         Ok(Path { numbers })
     }
 
-    /// The path without numbers. Takes no memory.
+    /// The empty path. Takes no memory.
     pub fn root() -> Path
         ensures { result ≡ [] }
     {
@@ -57,7 +57,7 @@ impl Path {
         }
     }
 
-    /// The numbers, lent.
+    /// The numbers, borrowed.
     pub fn items(&self) -> &[u32]
         ensures { result.now ≡ self.now }
     {
@@ -70,7 +70,7 @@ impl Path {
         }
     }
 
-    /// This path with one more number after it. Up to three numbers take no memory.
+    /// This path with a number appended. Up to three numbers take no memory.
     pub fn with_last(&self, alloc: Global, number: u32) -> Result<Path, AllocError>
         ensures { IfOk result (λ made. made ≡ self.now ++ number ∷ []) }
     {
@@ -87,7 +87,7 @@ impl Path {
         }
     }
 
-    /// This path with one more number before it. Up to three numbers take no memory.
+    /// This path with a number in front. Up to three numbers take no memory.
     pub fn with_first(&self, alloc: Global, number: u32) -> Result<Path, AllocError>
         ensures { IfOk result (λ made. made ≡ number ∷ self.now) }
     {

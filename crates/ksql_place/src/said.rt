@@ -5,8 +5,8 @@ ghost use Rattle.ksql_place.specs.Said.{is_skipped, row_in, said_by};
 use crate::change::{Decoded, SourceRecord};
 use ksql_types::{Key, Kind, Relation, Row};
 
-/// What a record says to a relation of this kind: a row, or to a table also that its key has no row any more. `None`
-/// where the record is skipped, as one without a key is by a table. Of a windowed table no record says anything.
+/// What a record says to a relation of this kind: a row, or for a table also that its key has no row any more. `None`
+/// if the record is skipped, as a table skips one without a key. Records say nothing to a windowed table.
 pub fn said_by<'a>(kind: Kind, key: &Key, value: &'a Decoded) -> Option<Option<&'a Row>>
     ensures { option_map (λ said. option_map (λ row. row.now) said) result ≡ option_map row_in (said_by kind key.now value.now) }
 {
@@ -18,7 +18,7 @@ pub fn said_by<'a>(kind: Kind, key: &Key, value: &'a Decoded) -> Option<Option<&
     }
 }
 
-/// Whether the record stands in the relation's topic and says nothing to it.
+/// Whether the record is in the relation's topic and is skipped there.
 pub fn is_skipped(relation: &Relation, record: &SourceRecord) -> bool
     ensures { result ≡ is_skipped relation.now «record».now }
 {

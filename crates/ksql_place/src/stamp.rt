@@ -2,9 +2,9 @@ use crate::path::Path;
 use ksql_types::CopyOf;
 use std::alloc::{AllocError, Global};
 
-/// The place of a record in the order of consumption. Stamps are compared field by field: the number of the feed,
-/// the greatest time of the record's partition in that feed up to the record, the topic's number, the partition and
-/// the offset.
+/// The place of a record in the order of consumption. Stamps compare field by field: the number of the feed, the
+/// greatest time in the record's partition in that feed up to the record, the topic's number, the partition and the
+/// offset.
 #[derive(Clone, Copy, Debug, PartialEq, Eq, PartialOrd, Ord)]
 pub struct Stamp {
     pub feed: u64,

@@ -9,10 +9,10 @@ abbrev pub relation_of : Item → Relation
 relation_of (Declared relation) = relation
 relation_of (Started query) = query.out
 
--- the relations of some items, in their order
+-- the relations of some items, in order
 abbrev pub relations : List Item → List Relation
 relations items = map relation_of items
 
--- the relation of a number
+-- the relation with a number
 abbrev pub relation_at : List Item → ℕ → Option Relation
 relation_at items number = slice_get (relations items) number

@@ -1,6 +1,6 @@
--- When a program is sound: what every later part may rest on.
-use Rattle.std.specs.Prelude.{◌≡◌, ◌≢◌, ℕ, ◌+◌, ◌*◌, ◌^◌, ◌<◌, ◌≤◌, Bool, true, false, nat_le, ◌⊎◌, IsTrue, List, [], ◌∷◌, ◌++◌, length, map, take, Option, Some, None, IfSome}
-use Rattle.std.specs.List.{list_all}
+-- Sound programs: what every later part may rely on.
+use Rattle.std.specs.Prelude.{◌≡◌, ◌≢◌, ℕ, suc, ◌+◌, ◌*◌, ◌^◌, ◌<◌, ◌≤◌, Bool, true, false, nat_le, ◌⊎◌, IsTrue, List, [], ◌∷◌, ◌++◌, length, map, take, Option, Some, None, IfSome}
+use Rattle.std.specs.List.{AllByRecursion, list_all}
 use Rattle.ksql_types.specs.declared.relation.Column.{Column}
 use Rattle.ksql_types.specs.declared.relation.Format.TheVariants.{Delimited}
 use Rattle.ksql_types.specs.declared.relation.Kind.{Kind}
@@ -35,7 +35,7 @@ use Rattle.ksql_program.specs.Program.{relations, relation_at}
 abbrev pub column_types : List Column → List (Option SqlType)
 column_types cs = map (λ c. Some c.ty) cs
 
--- what every relation of a number keeps
+-- what holds of a relation with its number
 pub record IsSoundRelation (number : ℕ) (r : Relation) : Type 0 where
   pub numbered : r.number ≡ number
   pub named : length r.name ≤ 128
@@ -47,28 +47,29 @@ pub record IsSoundRelation (number : ℕ) (r : Relation) : Type 0 where
   pub partitions_few : r.partitions ≤ 64
   pub some_value : r.format ≡ Delimited → 0 < length r.schema.values
 
--- how many key columns a declared relation can have: at most one, and a table exactly one
+-- the number of key columns that a declared relation can have: at most one, and exactly one for a table
 abbrev pub HasDeclaredKey : Kind → ℕ → Type 0
 HasDeclaredKey kind.Stream keys = keys ≤ 1
 HasDeclaredKey kind.Table keys = keys ≡ 1
 HasDeclaredKey kind.Windowed keys = ⊥
 
--- a relation that is declared
+-- a declared relation
 pub record IsSoundDeclaration (r : Relation) : Type 0 where
   pub declared : r.declared ≡ true
   pub keyed : HasDeclaredKey r.kind (length r.schema.keys)
 
 -- ---- expressions
 
--- an expression over rows of a relation of this kind with columns of these types: it has its type, no aggregate, no text that is
--- too long, and the row's time over a stream alone, since a table's row is worth the same at any time
+-- an expression over rows of a relation of this kind with columns of these types: it has its type, no aggregate and no
+-- text that is too long, and it uses ROWTIME only over streams, since a table's row must have the same value at any
+-- time
 pub record IsSoundOver (over : Kind) (types : List (Option SqlType)) (e : Typed) : Type 0 where
   pub typed : IsTyped types e
   pub plain : HoldsNoAggregate e
   pub short : HoldsShortTexts e
   pub timeless : over ≢ kind.Stream → IsTimeless e
 
--- each of some expressions, whose types are those of the columns, one by one
+-- expressions whose types are those of the columns, in order
 abbrev pub AreColumns : Kind → List (Option SqlType) → List Typed → List Column → Type 0
 AreColumns over types [] [] = Unit {0}
 AreColumns over types (e ∷ es) (c ∷ cs) = IsSoundOver over types e × (e.ty ≡ Some c.ty) × AreColumns over types es cs
@@ -90,7 +91,7 @@ abbrev pub rowkey_types : JoinKind → Relation → List (Option SqlType)
 rowkey_types Full left = row_key left
 rowkey_types _ left = []
 
--- a stream is joined with a table: its key is an expression of the stream's columns, and the table has one key column
+-- a stream joined with a table: its key is an expression of the stream's columns, and the table has one key column
 pub record JoinsStream (on : Typed) (left right : Relation) : Type 0 where
   pub left_stream : left.kind ≡ kind.Stream
   pub over_left : IsSoundOver kind.Stream (column_types (columns left)) on
@@ -98,7 +99,7 @@ pub record JoinsStream (on : Typed) (left right : Relation) : Type 0 where
   pub one_key : length right.schema.keys ≡ 1
   pub like_key : IfSome on.ty (λ t. row_key right ≡ Some t ∷ [])
 
--- a table is joined with a table: each has one key column, and they are joined by these
+-- a table joined with a table: each has one key column, and they are joined by these
 pub record JoinsTable (on : Typed) (left right : Relation) : Type 0 where
   pub left_table : left.kind ≡ kind.Table
   pub by_key : on.node ≡ n.Column 0
@@ -107,7 +108,7 @@ pub record JoinsTable (on : Typed) (left right : Relation) : Type 0 where
   pub one_key_right : length right.schema.keys ≡ 1
   pub like_key : row_key left ≡ row_key right
 
--- which joins there are: INNER and LEFT of a stream and a table, and all of two tables
+-- the joins that exist: INNER and LEFT of a stream and a table, and all kinds of two tables
 abbrev pub IsJoined : JoinKind → Typed → Relation → Relation → Type 0
 IsJoined Full on left right = JoinsTable on left right
 IsJoined _ on left right = Joins left.kind
@@ -117,7 +118,7 @@ IsJoined _ on left right = Joins left.kind
     Joins kind.Table = JoinsTable on left right
     Joins kind.Windowed = ⊥
 
--- the rows that a query reads have columns of these types, where the relations before it are these
+-- the columns of the rows that a query reads have these types, given the earlier items
 pub data Reads (before : List Item) : From → List (Option SqlType) → Relation → Type 0 where
   one : {number : ℕ} {r : Relation} → relation_at before number ≡ Some r → r.kind ≢ kind.Windowed
       → Reads before (from.One number) (column_types (columns r)) r
@@ -127,7 +128,7 @@ pub data Reads (before : List Item) : From → List (Option SqlType) → Relatio
 
 -- ---- aggregates and windows
 
--- which aggregates there are over a table
+-- which aggregates can be used on a table
 abbrev pub IsOverTable : AggFun → Type 0
 IsOverTable CountAll = Unit {0}
 IsOverTable Count = Unit {0}
@@ -148,13 +149,13 @@ abbrev pub argument_type : Option Typed → Option (Option SqlType)
 argument_type None = None
 argument_type (Some e) = Some e.ty
 
--- aggregates over rows of these columns, and the types of the columns that they have after a grouping
+-- aggregates over rows of these columns, and the types of their columns after a grouping
 pub data Aggregates (over : Kind) (types : List (Option SqlType)) : List Agg → List (Option SqlType) → Type 0 where
   none : Aggregates over types [] []
   more : {a : Agg} {gs : List Agg} {t : Option SqlType} {ts : List (Option SqlType)} → IsAggOver over a.fun → IsArgument over types a.arg
       → agg_type a.fun (argument_type a.arg) ≡ Some t → Aggregates over types gs ts → Aggregates over types (a ∷ gs) (t ∷ ts)
 
--- a window: it has a size, moves on, by no more than its size, and a time has at most 64 of them
+-- a window has a size, advances by at least one and at most its size, and a time has at most 64 windows
 pub record IsSoundWindow (w : Window) : Type 0 where
   pub moves : 0 < w.advance
   pub covers : w.advance ≤ w.size
@@ -178,20 +179,20 @@ grouped_kind (Some w) = kind.Windowed
 
 -- ---- the key of a plain result
 
--- each of some expressions is the column of this number, and of those that follow
+-- the expressions are consecutive columns, from this number on
 abbrev pub AreColumnsFrom : ℕ → List Column → List Typed → Type 0
 AreColumnsFrom i [] [] = Unit {0}
 AreColumnsFrom i (c ∷ cs) (e ∷ es) = (e.node ≡ n.Column i) × AreColumnsFrom (i + 1) cs es
 AreColumnsFrom i _ _ = ⊥
 
--- of two tables: the left key, or in an INNER join also the right one; in a FULL one ROWKEY
+-- of two tables: the left key, or in an INNER join also the right one; in a FULL join ROWKEY
 abbrev pub IsTablesKey : JoinKind → Relation → Relation → Typed → Type 0
 IsTablesKey Inner l r e = (e.node ≡ n.Column 0) ⊎ (e.node ≡ n.Column (length (columns l)))
 IsTablesKey Left l r e = e.node ≡ n.Column 0
 IsTablesKey Full l r e = e.node ≡ n.Column (length (columns l) + length (columns r))
 
--- the keys of a plain result: the source's, of a stream what PARTITION BY may put there; in a join whose left side is a
--- stream one expression, and in one of tables one of their keys
+-- the keys of a plain result: the source's, or for a stream those of PARTITION BY; in a join with a stream on the left
+-- one expression, and in a join of tables one of their keys
 pub data IsKeyed (before : List Item) : From → List Typed → Type 0 where
   own : {number : ℕ} {r : Relation} {es : List Typed} → relation_at before number ≡ Some r
       → AreColumnsFrom 0 r.schema.keys es → IsKeyed before (from.One number) es
@@ -209,7 +210,7 @@ HasItsKey before f (shape.Group ks w gs h vs) = Unit {0}
 
 -- ---- queries
 
--- what is made of rows of a relation's kind with columns of these types
+-- the shape of a query over rows of a relation's kind with columns of these types
 pub data Makes (over : Relation) (types : List (Option SqlType)) : Shape → Relation → Type 0 where
   plain : {ks vs : List Typed} {out : Relation} → AreColumns over.kind types ks out.schema.keys → AreColumns over.kind types vs out.schema.values
       → out.kind ≡ over.kind → Makes over types (shape.Plain ks vs) out
@@ -225,19 +226,35 @@ pub data IsSoundQuery (before : List Item) : Query → Type 0 where
   query : {q : Query} {types : List (Option SqlType)} {left : Relation} → Reads before q.from types left → IsCondition left.kind types q.filter
       → Makes left types q.shape q.out → HasItsKey before q.from q.shape → q.out.declared ≡ false → IsSoundQuery before q
 
+-- ---- how many aggregates there are
+
+-- a grouping has fewer aggregates than four bytes can count
+abbrev pub HasFewAggregates : Shape → Type 0
+HasFewAggregates (shape.Plain ks vs) = Unit {0}
+HasFewAggregates (shape.Group ks w gs h vs) = suc (length gs) < 2 ^ 32
+
+-- and so does the grouping of an item, if any
+abbrev pub ItemHasFewAggregates : Item → Type 0
+ItemHasFewAggregates (Declared r) = Unit {0}
+ItemHasFewAggregates (Started q) = HasFewAggregates q.shape
+
+-- ---- items
+
 -- an item after others
 abbrev pub IsSoundItem : List Item → Item → Type 0
 IsSoundItem before (Declared r) = IsSoundRelation (length before) r × IsSoundDeclaration r
 IsSoundItem before (Started q) = IsSoundRelation (length before) q.out × IsSoundQuery before q
 
--- each item, after those in front of it
+-- each item, given the earlier ones
 abbrev pub AreSoundItems : List Item → List Item → Type 0
 AreSoundItems before [] = Unit {0}
 AreSoundItems before (i ∷ is) = IsSoundItem before i × AreSoundItems (before ++ i ∷ []) is
 
--- a sound program: at most 200 relations, whose names differ, as do their topics, each sound after those before it
+-- a sound program: at most 200 relations, whose names differ, as do their topics, each sound after those before it, and few
+-- aggregates in each query
 pub record IsSound (items : List Item) : Type 0 where
   pub few : length items ≤ 200
   pub names_differ : IsTrue (are_distinct (map (λ r. r.name) (relations items)))
   pub topics_differ : IsTrue (are_distinct (map (λ r. r.topic) (relations items)))
   pub sound : AreSoundItems [] items
+  pub few_aggregates : AllByRecursion ItemHasFewAggregates items

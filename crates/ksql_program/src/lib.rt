@@ -1,4 +1,4 @@
-//! A script as it is run: its relations and its queries.
+//! A script in the form in which it runs: its relations and its queries.
 #![tactic(auto)]
 
 mod copies;

@@ -4,13 +4,14 @@ ghost use Rattle.ksql_program.specs.Program.{relation_of};
 use crate::query::Query;
 use ksql_types::{Items, Relation};
 
-/// A script as it is run: its relations in the order of their statements. An item's index is its relation's number.
+/// A script in the form in which it runs: its relations in the order of their statements. An item's index is its
+/// relation's number.
 #[derive(Debug, Drop)]
 pub struct Program {
     pub items: ProgramItems,
 }
 
-/// The items of a program, in their order.
+/// The items of a program, in order.
 pub type ProgramItems = Items<Item>;
 
 /// A relation of a program: declared over a topic, or the result of a query.

@@ -1,8 +1,9 @@
 use ksql_expr::{AggFun, Exprs, Typed};
 use ksql_types::{Items, Relation, Window};
 
-/// A persistent query: what it reads, WHERE, what it makes of the rows, and its result. A row in `from` has the key
-/// columns and then the value columns of the left and then of the right relation, then, in a FULL join, ROWKEY.
+/// A persistent query: what it reads, its WHERE, its shape, and the relation of its result. A row in `from` has the key
+/// columns and then the value columns of the left relation, then those of the right one, and in a FULL join a last
+/// column ROWKEY.
 #[derive(Debug, Drop)]
 pub struct Query {
     pub from: From,
@@ -11,7 +12,7 @@ pub struct Query {
     pub out: Relation,
 }
 
-/// What a query reads: relations by their numbers. `on` is the left side's join key, over a row in `from`.
+/// What a query reads: relations, by number. `on` is the left side's join key, over a row in `from`.
 #[derive(Debug, Drop)]
 pub enum From {
     One {
@@ -33,9 +34,9 @@ pub enum JoinKind {
     Full,
 }
 
-/// What a query makes of its rows. A plain query's keys and values are over a row in `from`. A grouped query's keys,
-/// and the arguments of its aggregates, are over a row in `from`; its `having` and `values` are over a row after the
-/// grouping, which has the keys, the aggregates and, where there is a window, its start and end.
+/// How a query turns rows into its result. A plain query's keys and values are over a row in `from`. A grouped query's
+/// keys, and the arguments of its aggregates, are over a row in `from`; its `having` and `values` are over a row after
+/// the grouping, which has the keys, the aggregates and, for a windowed query, the window's start and end.
 #[derive(Debug, Drop)]
 pub enum Shape {
     Plain {
@@ -51,12 +52,12 @@ pub enum Shape {
     },
 }
 
-/// An aggregate of a grouped query. `arg` is None exactly for COUNT of `*`.
+/// An aggregate of a grouped query. `arg` is None exactly for COUNT(*).
 #[derive(Debug, Drop)]
 pub struct Agg {
     pub fun: AggFun,
     pub arg: Option<Typed>,
 }
 
-/// The aggregates of a grouped query: those of the items and then those of HAVING, equal ones once.
+/// The aggregates of a grouped query, without duplicates: those of the items, then those of HAVING.
 pub type Aggs = Items<Agg>;

@@ -1,4 +1,4 @@
--- The first of some codes whose rule is broken, from that of the codes after the first.
+-- The first of some codes whose rule is broken, given the first among those after the head.
 use Rattle.std.proofs.Common.{◌≡◌, ◌-◌, ◌≤◌, Bool, false, List, [], ◌∷◌, length, get_or, take, drop, Option, Some, None, IsTrue, inr, arith, ap, ◌∙◌, subst}
 use Rattle.std.specs.Prelude.{◌↔◌, IfSome}
 use Rattle.std.proofs.Math.Seq.{take-length}

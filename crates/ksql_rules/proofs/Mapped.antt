@@ -8,7 +8,7 @@ any-map : {A B : Type 0} (p : B → Bool) (f : A → B) (xs : List A) → list_a
 any-map p f [] = refl
 any-map p f (x ∷ xs) = ap (λ b. p (f x) || b) (any-map p f xs)
 
--- one of some expressions passes, where these are what is lent
+-- one of some borrowed expressions passes
 pub lent : (p : Expr → Bool) (xs : List (Bor Expr)) (es : List Expr) → map (λ a. a.now) xs ≡ es → list_any (λ a. p a.now) xs ≡ list_any p es
 lent p xs es h = sym (any-map p (λ (a : Bor Expr). a.now) xs) ∙ ap (list_any p) h
 

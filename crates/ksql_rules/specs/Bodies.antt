@@ -1,4 +1,4 @@
--- The body of a statement as it is judged.
+-- The body of a statement in the judgement.
 use Rattle.std.specs.Prelude.{◌≡◌, List}
 use Rattle.ksql_types.specs.declared.relation.Relation.{Relation}
 use Rattle.statement_trees.specs.declared.tree.StatementBody.{StatementBody}
@@ -8,7 +8,7 @@ use Rattle.ksql_rules.specs.declared.broken.Body.{Body}
 use Rattle.ksql_rules.specs.declared.broken.Body.TheVariants.{Declared, Query}
 use Rattle.ksql_rules.specs.Findings.{AreFindings}
 
--- a body is what stands in the statement, over these relations
+-- a body is the one written in the statement, over these relations
 abbrev pub IsBodyOf : Body → List Relation → StatementBody → Type 0
 IsBodyOf (Declared columns props) catalog body = body ≡ is.Declared columns.now props.now
 IsBodyOf (Query props findings) catalog body =

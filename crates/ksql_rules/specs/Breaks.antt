@@ -1,4 +1,4 @@
--- The rules by which a statement is refused, code by code, where these relations stand before it.
+-- The rules for statements, code by code, given the relations of the earlier statements.
 use Rattle.std.specs.Prelude.{ℕ, ◌+◌, ◌==◌, Bool, true, false, not, ◌&&◌, ◌||◌, nat_lt, if◌then◌else◌, IsTrue, ◌⊎◌, List, [], ◌∷◌, ◌++◌, length, map, filter, Option, Some, None, is_some, is_none, unwrap_or, option_map, codes, bytes_eq}
 use Rattle.std.specs.List.{list_any, list_all}
 use Rattle.ksql_types.specs.Catalog.{has_name, has_topic}
@@ -33,17 +33,17 @@ use Rattle.ksql_typing.specs.Standing.{HasType, HasValue, CanBeTrue, CanAgree}
 use Rattle.ksql_scopes.specs.Uses.{has_unknown_name, has_ambiguous_name, has_unknown_function}
 use Rattle.ksql_clauses.specs.Windows.{is_too_large, is_bad}
 
--- ---- TooLarge: a limit is passed
+-- ---- TooLarge: a limit is exceeded
 
--- whether a property is a PARTITIONS of more than 64
+-- whether a property is PARTITIONS with more than 64
 abbrev pub wants_many_partitions : Property → Bool
 wants_many_partitions p = bytes_eq (name_of p) (codes "PARTITIONS") && nat_lt 64 (unwrap_or (digits_in p.value) 0)
 
--- whether one of them is, also where there are several
+-- whether one of the properties is, even if there are several
 abbrev pub has_many_partitions : List Property → Bool
 has_many_partitions ps = list_any wants_many_partitions ps
 
--- whether a name in the result of a join, which may be made of an alias and a name, is above 128 bytes
+-- whether a column name in a join's result, which may be made of an alias and a name, is above 128 bytes
 abbrev pub has_long_name : List Known → List Named → Bool
 has_long_name ks cs = is_join ks && list_any (λ c. nat_lt 128 (length c.name)) cs
 
@@ -58,7 +58,7 @@ is_query_too_large catalog q =
 
 -- ---- NameTaken
 
--- the topic of a statement: that of KAFKA_TOPIC, and of a query without it the relation's name
+-- the topic of a statement: that of KAFKA_TOPIC, or for a query without it the relation's name
 abbrev pub topic_of : List ℕ → StatementBody → Option (List ℕ)
 topic_of name (Declared cs ps) = topic_in ps
 topic_of name (Query ps q) = if is_some (value_of (codes "KAFKA_TOPIC") ps) then topic_in ps else Some name
@@ -103,7 +103,7 @@ abbrev pub IfThere : {A : Type 0} → (A → Type 0) → Option A → Type 0
 IfThere P None = Unit {0}
 IfThere P (Some x) = P x
 
--- the expressions of a query have the types that their places want
+-- the expressions of a query have the types that their places require
 pub record IsQueryTyped (q : Select) (ks : List Known) : Type 0 where
   pub on : Each (λ a. (t : Option SqlType) × HasType (on_scope q ks) a t) (on_exprs q)
   pub front : Each (λ a. (t : Option SqlType) × HasType (from_scope q ks) a t) (front_exprs q)
@@ -133,7 +133,7 @@ is_grouped q = nat_lt 0 (length q.group)
 abbrev pub makes_table : Select → List Known → Bool
 makes_table q ks = is_grouped q || not (reads_stream ks)
 
--- a table with a stream on its right, or FULL between a stream and a table
+-- whether a join has a table on the left and a stream on the right, or is FULL between a stream and a table
 abbrev pub is_wrong_join : Bool → Option (Bool × Bool) → Bool
 is_wrong_join full None = false
 is_wrong_join full (Some sides) = (not sides.0 && sides.1) || (full && not (same sides.0 sides.1))
@@ -159,12 +159,12 @@ abbrev pub has_stream_side : Option (Bool × Bool) → Bool
 has_stream_side None = false
 has_stream_side (Some sides) = sides.0 || sides.1
 
--- whether ON isn't `a = b` of the stated form
+-- whether ON isn't `a = b` of the required form
 abbrev pub is_not_on_key : Select → List Known → Bool
 is_not_on_key q ks = is_join ks && not (is_some (join_key q ks)) && not (is_stream_join (joined_streams ks))
 
--- whether a key column is missing. It isn't looked at in a join of two streams, nor in one that has a stream and whose
--- ON isn't of the stated form, nor with both GROUP BY and PARTITION BY.
+-- whether a key column is missing. This isn't checked in a join of two streams, nor in one with a stream whose ON
+-- doesn't have the required form, nor with both GROUP BY and PARTITION BY.
 abbrev pub lacks_key : Select → List Known → Bool
 lacks_key q ks =
     not (is_stream_join (joined_streams ks)) && not (has_stream_side (joined_streams ks) && is_not_on_key q ks)
@@ -178,7 +178,7 @@ have_other_partitions _ = false
 
 -- ---- AggregateMisuse
 
--- the expressions of a query's items, a star's columns among them, and of HAVING, with resolved names
+-- the expressions of a query's items, including the columns of a star, and of HAVING, with resolved names
 abbrev pub shown_exprs : Select → List Known → List Expr
 shown_exprs q ks = map (λ c. c.expr) (result_columns q ks) ++ there (option_map (resolved (item_scope q ks)) q.having)
 
@@ -234,7 +234,7 @@ abbrev pub has_bad_topic : Option (List ℕ) → Bool
 has_bad_topic None = true
 has_bad_topic (Some topic) = not (is_topic_name topic)
 
--- whether there is no column besides those of the key
+-- whether there are only key columns
 abbrev pub has_only_keys : List ColumnText → Bool
 has_only_keys cs = list_all is_key cs
 
@@ -246,7 +246,7 @@ abbrev pub is_query_bad : List ℕ → List Property → Select → List Known �
 is_query_bad name ps q ks =
     are_bad ps || has_bad_topic (topic_of name (Query ps q)) || (is_delimited (result_format ps ks) && (length (value_columns q ks) == 0))
 
--- ---- the rules by their codes
+-- ---- the rules by code
 
 -- a declaration of columns with properties; `table` tells which kind
 abbrev pub DeclarationBreaks : List Relation → Statement → List ColumnText → List Property → Code → Type 0
@@ -282,7 +282,7 @@ abbrev pub BodyBreaks : List Relation → Statement → StatementBody → Code �
 BodyBreaks catalog st (Declared cs ps) c = DeclarationBreaks catalog st cs ps c
 BodyBreaks catalog st (Query ps q) c = QueryBreaks catalog st ps q (all_known catalog q) c
 
--- whether there are 200 relations already, which is too large
+-- whether there are already 200 relations, so that another one is too large
 abbrev pub is_full_catalog : List Relation → Code → Bool
 is_full_catalog catalog code.TooLarge = nat_lt 199 (length catalog)
 is_full_catalog catalog _ = false

@@ -1,4 +1,4 @@
--- What is decided of a query's expressions by the sets of their types.
+-- What the sets of types decide about a query's expressions.
 use Rattle.std.specs.Prelude.{Bool, true, Option, Some, None}
 use Rattle.std.specs.List.{list_all}
 use Rattle.expression_trees.specs.declared.tree.Expr.{Expr}
@@ -15,16 +15,16 @@ use Rattle.ksql_clauses.specs.Keys.{on_sides}
 abbrev pub types_of : Scope → Expr → Types
 types_of s a = (judged a s).types
 
--- a part, where it is there, has a type that fits BOOLEAN
+-- a part, if present, has a type that fits BOOLEAN
 abbrev pub fits_truth : Scope → Option Expr → Bool
 fits_truth s None = true
 fits_truth s (Some a) = decided.can_be_true (types_of s a)
 
--- a column has a type other than that of NULL alone
+-- a column has a type other than that of plain NULL
 abbrev pub is_valued : Scope → Named → Bool
 is_valued s c = decided.has_value (types_of s c.expr)
 
--- two sides, where they are there, have types that agree
+-- two sides, if present, have types that agree
 abbrev pub do_sides_agree : Scope → Option (Expr × Expr) → Bool
 do_sides_agree s None = true
 do_sides_agree s (Some sides) = decided.can_agree (types_of s sides.0) (types_of s sides.1)

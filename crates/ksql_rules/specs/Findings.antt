@@ -1,4 +1,4 @@
--- What is found out of a query once.
+-- What is found out about a query once.
 use Rattle.std.specs.Prelude.{◌≡◌, ◌-◌, ◌^◌, ◌≤◌, List, length, map, option_map}
 use Rattle.std.specs.List.{list_any, list_all}
 use Rattle.expression_trees.specs.declared.tree.Expr.{Expr}
@@ -15,13 +15,13 @@ use Rattle.ksql_rules.specs.declared.findings.Found.{Found}
 use Rattle.ksql_clauses.specs.Keys.{join_key, key_places}
 use Rattle.ksql_rules.specs.Limits.{IsQueryWithin}
 
--- what is found out of some expressions in a scope
+-- the findings about some expressions in a scope
 pub record IsFound (f : Found) (s : Scope) (es : List Expr) : Type 0 where
   pub unknown_is : f.unknown ≡ list_any (has_unknown_name s) es
   pub ambiguous_is : f.ambiguous ≡ list_any (has_ambiguous_name s) es
   pub typed_is : f.typed ≡ list_all (λ a. is_some_in (judged a s).types) es
 
--- what is found out of a query over its sources, where it keeps its limits
+-- the findings about a query over its sources, given its limits
 pub record AreFindings (f : Findings) : Type 0 where
   pub within : IsQueryWithin f.select.now
   pub columns_few : length f.scope.columns ≤ 2 ^ 32 - 2

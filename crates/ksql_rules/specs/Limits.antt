@@ -1,5 +1,5 @@
--- What statements and relations keep of the limits before the judgement looks at them: names of at most 128 bytes, texts
--- of at most 65,536, digits of at most 9223372036854775807, and at most 64 columns.
+-- The limits that hold of statements and relations before the judgement: names have at most 128 bytes, texts at most
+-- 65,536, digits are at most 9223372036854775807, and there are at most 64 columns.
 use Rattle.std.specs.Prelude.{◌≤◌, ⊤, All, length, Some}
 use Rattle.ksql_types.specs.declared.relation.Relation.{Relation}
 use Rattle.statement_trees.specs.declared.tree.Select.{Select}
@@ -13,7 +13,7 @@ use Rattle.ksql_scopes.specs.Uses.{IsSmall}
 use Rattle.ksql_clauses.specs.Items.{IsShortItem}
 use Rattle.ksql_clauses.specs.Sources.{alias_of, sources, early_exprs, late_exprs}
 
--- an item's alias is a name as the grammar has it
+-- an item's alias is a name as in the grammar
 abbrev pub HasShortAlias : SelectItem → Type 0
 HasShortAlias (One a (Some alias)) = length alias ≤ 128
 HasShortAlias _ = ⊤

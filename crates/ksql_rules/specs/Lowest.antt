@@ -1,4 +1,4 @@
--- The lowest code whose rule a statement breaks, where these relations stand before it.
+-- The lowest code whose rule a statement breaks, given the relations of the earlier statements.
 use Rattle.std.specs.Prelude.{◌≡◌, ◌⊎◌, List, [], ◌∷◌}
 use Rattle.ksql_types.specs.declared.relation.Relation.{Relation}
 use Rattle.statement_trees.specs.declared.tree.Statement.{Statement}
@@ -6,7 +6,7 @@ use Rattle.ksql_types.specs.declared.code.Code.{Code}
 use Rattle.ksql_types.specs.declared.code.Code.TheVariants.{TooLarge, UnknownRelation, NameTaken, UnknownColumn, AmbiguousColumn, DuplicateColumn, TypeMismatch, WrongKind, KeyMissing, JoinNotOnKey, PartitionMismatch, AggregateMisuse, BadWindow, Unsupported, BadProperty}
 use Rattle.ksql_rules.specs.Breaks.{Breaks}
 
--- the codes of the judgement, from the lowest
+-- the codes of the judgement, lowest first
 abbrev pub codes_in_order : List Code
 codes_in_order =
     TooLarge ∷ UnknownRelation ∷ NameTaken ∷ UnknownColumn ∷ AmbiguousColumn ∷ DuplicateColumn ∷ TypeMismatch ∷ WrongKind

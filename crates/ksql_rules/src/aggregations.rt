@@ -11,12 +11,12 @@ ghost use Rattle.ksql_rules.specs.Findings.{AreFindings};
 use crate::findings::Findings;
 use crate::queries::{is_grouped, is_stream_join, joins_itself, reads_windowed};
 use crate::truth::either;
-use ksql_clauses::{Named, joined_streams, reads_stream};
-use expression_trees::Expr;
 use aggregate_rules::{
     has_aggregate, has_bare_column, has_nested_aggregate, has_ordered_aggregate,
     has_unknown_function,
 };
+use expression_trees::Expr;
+use ksql_clauses::{Named, joined_streams, reads_stream};
 use ksql_types::Boxed;
 
 fn one_has_aggregate(exprs: &[&Expr]) -> bool
@@ -60,7 +60,7 @@ fn is_having_bare(groups: &[Expr], having: &Option<Boxed<Expr>>) -> bool
     }
 }
 
-/// Whether a column of the result, or HAVING, has a column that is neither in an aggregate nor in a group expression.
+/// Whether a result column or HAVING has a column that is neither in an aggregate nor in a group expression.
 fn has_bare(findings: &Findings) -> bool
     requires { AreFindings findings.now }
     ensures { let q = findings.now.select.now in let ks = findings.now.known.items in
@@ -80,7 +80,7 @@ fn is_aggregated(findings: &Findings) -> bool
     one_has_aggregate(&findings.late)
 }
 
-/// Whether an aggregate stands outside the items and HAVING, or in another.
+/// Whether an aggregate stands outside the items and HAVING, or inside another.
 fn has_misplaced(findings: &Findings) -> bool
     requires { AreFindings findings.now }
     ensures { let q = findings.now.select.now in
@@ -92,7 +92,7 @@ fn has_misplaced(findings: &Findings) -> bool
     )
 }
 
-/// Whether an aggregate that a table has no place for stands in the items or HAVING.
+/// Whether the items or HAVING contain an aggregate that can't be used on a table.
 fn has_ordered(findings: &Findings) -> bool
     requires { AreFindings findings.now }
     ensures { result ≡ list_any grouping.has_ordered_aggregate (sources.late_exprs findings.now.select.now) }
@@ -100,7 +100,7 @@ fn has_ordered(findings: &Findings) -> bool
     one_has_ordered(&findings.late)
 }
 
-/// Whether a query uses aggregates where it can't, or groups without them.
+/// Whether a query uses aggregates where they aren't allowed, or groups without them.
 pub fn misuses_aggregates(findings: &Findings) -> bool
     requires { AreFindings findings.now }
     ensures { result ≡ spec.misuses_aggregates findings.now.select.now findings.now.known.items }

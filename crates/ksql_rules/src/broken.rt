@@ -17,21 +17,21 @@ use crate::queries::{
 use crate::topics::{has_many_partitions, is_taken};
 use crate::types::is_query_typed;
 use ksql_clauses::has_unknown_source;
-use statement_trees::{ColumnText, Property, Statement, StatementBody};
 use ksql_types::{Catalog, Code};
+use statement_trees::{ColumnText, Property, Statement, StatementBody};
 use std::alloc::{AllocError, Global};
 
 /// The most relations of a script.
 const MOST_RELATIONS: usize = 200;
 
-/// The body of a statement, and what is found out of its query.
+/// The body of a statement; for a query, with the findings about it.
 #[derive(Drop)]
 pub enum Body<'a> {
     Declared(&'a [ColumnText], &'a [Property]),
     Query(&'a [Property], Findings<'a>),
 }
 
-/// The body of a statement over the relations of a catalog.
+/// The body of a statement, given the relations of a catalog.
 pub fn body_of<'a>(
     alloc: Global,
     catalog: &Catalog,
@@ -88,7 +88,7 @@ fn query_breaks(
     }
 }
 
-/// Whether there are as many relations already as a script can have.
+/// Whether the script already has as many relations as it may.
 fn is_full_catalog(catalog: &Catalog, code: Code) -> bool
     ensures { result ≡ spec.is_full_catalog catalog.now code }
 {
@@ -115,7 +115,7 @@ fn body_breaks(
     }
 }
 
-/// Whether a statement, whose body is this, breaks the rule of a code.
+/// Whether a statement with this body breaks the rule of a code.
 pub fn breaks(
     alloc: Global,
     catalog: &Catalog,

@@ -8,8 +8,8 @@ ghost use Rattle.ksql_rules.specs.Breaks as spec;
 
 use crate::topics::{has_bad_topic, has_many_partitions, is_taken};
 use ksql_clauses::{are_bad, format_in, topic_in};
-use statement_trees::{ColumnText, KeyMark, Property, Statement};
 use ksql_types::{Catalog, Chars, Code, Format, are_column_names};
+use statement_trees::{ColumnText, KeyMark, Property, Statement};
 use std::alloc::{AllocError, Global};
 
 /// The most columns of a relation.
@@ -26,7 +26,7 @@ fn has_wrong_mark(table: bool, column: &ColumnText) -> bool
 }
 
 /// Whether a column has KEY or PRIMARY KEY.
-pub fn is_key(column: &ColumnText) -> bool
+fn is_key(column: &ColumnText) -> bool
     ensures { result ≡ spec.is_key column.now }
 {
     match column.mark {
@@ -41,7 +41,7 @@ fn is_primary(column: &ColumnText) -> bool
     matches!(column.mark, KeyMark::PrimaryKey)
 }
 
-/// Whether a column has KEY in a table, or PRIMARY KEY in a stream.
+/// Whether a table's column has KEY, or a stream's column PRIMARY KEY.
 fn has_wrong_marks(table: bool, columns: &[ColumnText]) -> bool
     ensures { result ≡ list_any (spec.has_wrong_mark table) columns.now }
 {
@@ -70,7 +70,7 @@ fn names_of<'a>(alloc: Global, columns: &'a [ColumnText]) -> Result<Vec<&'a Char
     Ok(found)
 }
 
-/// Whether two columns share a name, or one has a name that no column can have.
+/// Whether two columns share a name, or one has a reserved name.
 fn has_bad_names(alloc: Global, columns: &[ColumnText]) -> Result<bool, AllocError>
     ensures { IfOk result (λ bad. bad ≡ not (names.are_column_names (map (λ c. c.name) columns.now))) }
 {

@@ -7,8 +7,8 @@ ghost use Rattle.ksql_clauses.specs.Sources as sources;
 
 use expression_trees::Expr;
 use ksql_scopes::{Scope, resolved};
-use statement_trees::{Select, SelectItem};
 use ksql_types::Boxed;
+use statement_trees::{Select, SelectItem};
 use std::alloc::{AllocError, Global};
 
 fn with_part<'a>(
@@ -32,7 +32,7 @@ fn with_each<'a>(mut found: Vec<&'a Expr>, exprs: &'a [Expr]) -> Result<Vec<&'a 
     Ok(found)
 }
 
-/// The expression of ON, where there is one.
+/// The expression of ON, if any.
 pub fn on_exprs<'a>(alloc: Global, select: &'a Select) -> Result<Vec<&'a Expr>, AllocError>
     ensures { IfOk result (λ all. map (λ a. a.now) all.items ≡ sources.on_exprs select.now) }
 {
@@ -58,7 +58,7 @@ pub fn front_exprs<'a>(alloc: Global, select: &'a Select) -> Result<Vec<&'a Expr
     with_front(Vec::new(alloc), select)
 }
 
-/// The expressions of a query but those of its items and of HAVING.
+/// The expressions of a query except those of its items and HAVING.
 pub fn early_exprs<'a>(alloc: Global, select: &'a Select) -> Result<Vec<&'a Expr>, AllocError>
     ensures { IfOk result (λ all. map (λ a. a.now) all.items ≡ sources.early_exprs select.now) }
 {
@@ -85,7 +85,7 @@ pub fn late_exprs<'a>(alloc: Global, select: &'a Select) -> Result<Vec<&'a Expr>
     with_part(found, &select.having)
 }
 
-/// Some expressions with resolved names.
+/// The expressions with resolved names.
 pub fn each_resolved(alloc: Global, scope: &Scope, exprs: &[Expr]) -> Result<Vec<Expr>, AllocError>
     ensures { IfOk result (λ each. each.items ≡ map (names.resolved scope.now) exprs.now) }
 {
@@ -96,7 +96,7 @@ pub fn each_resolved(alloc: Global, scope: &Scope, exprs: &[Expr]) -> Result<Vec
     Ok(each)
 }
 
-/// A part that may be left out, with resolved names.
+/// An optional part, with resolved names.
 pub fn part_resolved(
     alloc: Global,
     scope: &Scope,

@@ -1,4 +1,4 @@
-//! What is found out of a query once, before its rules are looked at.
+//! What is found out about a query once, before its rules are checked.
 
 ghost use Rattle.std.specs.Prelude.{◌≡◌, ◌-◌, ◌^◌, ◌≤◌, All, IfOk, length, map};
 ghost use Rattle.ksql_scopes.specs.Uses.{IsSmall};
@@ -12,19 +12,19 @@ ghost use Rattle.ksql_rules.specs.Limits.{IsQueryWithin, IsRelationWithin};
 use crate::expressions::{
     each_resolved, early_exprs, front_exprs, late_exprs, on_exprs, part_resolved,
 };
+use expression_trees::Expr;
 use ksql_clauses::{
     Known, Named, all_known, columns_at, columns_besides, from_scope, item_scope, join_key,
     key_places, needs, on_scope, result_columns,
 };
-use expression_trees::Expr;
 use ksql_scopes::Scope;
-use statement_trees::Select;
 use ksql_type_sets::{Types, has_some_type};
 use ksql_types::{Boxed, Catalog};
 use ksql_typing::judgement::{Judged, judge};
+use statement_trees::Select;
 use std::alloc::{AllocError, Global};
 
-/// What is found out of some expressions together: whether a name in one stands for nothing, whether one stands for
+/// The findings about several expressions together: whether a name in one stands for nothing, whether one stands for
 /// several things, and whether each expression has a type.
 #[derive(Clone, Copy, Debug, PartialEq, Eq)]
 pub struct Found {
@@ -33,9 +33,10 @@ pub struct Found {
     pub typed: bool,
 }
 
-/// A query and what is found out of it: its sources that are in the catalog; what names can stand for in ON, in the items
-/// and HAVING, and elsewhere; its expressions, those of the items and HAVING last; the columns of its result, and the
-/// places of the key's; both sides of a join's key, the left relation's first; GROUP BY and HAVING with resolved names.
+/// A query and the findings about it: its sources that are in the catalog; what names can stand for in ON, in the items
+/// and HAVING, and elsewhere; its expressions, with those of the items and HAVING last; the result's columns, and the
+/// places of its key columns; both sides of a join's key, the left relation's first; GROUP BY and HAVING with resolved
+/// names.
 #[derive(Drop)]
 pub struct Findings<'a> {
     pub select: &'a Select,
@@ -56,7 +57,7 @@ pub struct Findings<'a> {
 }
 
 impl Findings<'_> {
-    /// The columns of the result's key.
+    /// The key columns of the result.
     pub fn key_columns(&self, alloc: Global) -> Result<Vec<&Named>, AllocError>
         requires { AreFindings self.now }
         ensures { IfOk result (λ found. map (λ c. c.now) found.items ≡ keys.key_columns self.now.select.now self.now.known.items) }
@@ -73,7 +74,7 @@ impl Findings<'_> {
     }
 }
 
-/// What is found out of an expression in a scope.
+/// The findings about an expression in a scope.
 fn judged(alloc: Global, scope: &Scope, expr: &Expr) -> Result<Judged, AllocError>
     requires small { IsSmall expr.now }
     requires columns { length scope.now.columns ≤ 2 ^ 32 - 2 }
@@ -92,7 +93,7 @@ pub fn types_of(alloc: Global, scope: &Scope, expr: &Expr) -> Result<Types, Allo
     Ok(found.types)
 }
 
-/// What is found out of some expressions in a scope.
+/// The findings about several expressions in a scope.
 #[tactic(auto, unfolding(ksql_typing::specs::Judged::judged))]
 fn found_in(alloc: Global, scope: &Scope, exprs: &[&Expr]) -> Result<Found, AllocError>
     requires small { All IsSmall (map (λ a. a.now) exprs.now) }
@@ -115,7 +116,7 @@ fn found_in(alloc: Global, scope: &Scope, exprs: &[&Expr]) -> Result<Found, Allo
     Ok(found)
 }
 
-/// What is found out of a query over the relations of a catalog.
+/// The findings about a query, given the relations of a catalog.
 pub fn find_out<'a>(
     alloc: Global,
     catalog: &Catalog,

@@ -1,4 +1,4 @@
-//! The rules by which a statement is refused: the lowest code of those that it breaks, or what is found out of it.
+//! The rules for statements: the lowest code of those that a statement breaks, or the findings about it.
 #![tactic(auto)]
 
 mod aggregations;
@@ -13,8 +13,6 @@ mod types;
 mod verdict;
 
 pub use broken::Body;
-pub use declarations::is_key;
 pub use findings::{Findings, Found};
 pub use queries::{is_grouped, result_format};
-pub use topics::query_topic;
 pub use verdict::{Verdict, judge_statement};

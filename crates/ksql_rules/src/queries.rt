@@ -13,8 +13,8 @@ use ksql_clauses::{
     Known, Named, are_bad, format_in, have_one_alias, is_alias, is_bad, is_full, is_join,
     is_too_large, is_windowed, joined_streams, reads_stream,
 };
-use statement_trees::{Property, Select, SelectItem, WindowText};
 use ksql_types::{Chars, Format, are_column_names};
+use statement_trees::{Property, Select, SelectItem, WindowText};
 use std::alloc::{AllocError, Global};
 
 /// The most columns of a relation.
@@ -47,14 +47,14 @@ fn is_one_long(columns: &[Named]) -> bool
     columns.iter().any(|column| is_long(column))
 }
 
-/// Whether a name in the result of a join, which may be made of an alias and a name, passes its limit.
+/// Whether a column name in a join's result, which may be made of an alias and a name, is too long.
 fn has_long_name(known: &[Known], columns: &[Named]) -> bool
     ensures { result ≡ spec.has_long_name known.now columns.now }
 {
     is_join(known) && is_one_long(columns)
 }
 
-/// Whether a query passes a limit.
+/// Whether a query exceeds a limit.
 pub fn is_query_too_large(findings: &Findings) -> bool
     requires { AreFindings findings.now }
     ensures { let q = findings.now.select.now in let columns = items.result_columns q findings.now.known.items in
@@ -94,7 +94,7 @@ pub fn has_unknown_column(findings: &Findings) -> bool
         || has_unknown_star(&findings.known, findings.select.items.items())
 }
 
-/// Whether a plain name is in both relations, or both are known by one name.
+/// Whether an unqualified name is in both relations, or both have the same alias.
 pub fn has_ambiguous_column(findings: &Findings) -> bool
     requires { AreFindings findings.now }
     ensures { result ≡ spec.has_ambiguous_column findings.now.select.now findings.now.known.items }
@@ -118,7 +118,7 @@ fn with_names<'a>(
     Ok(found)
 }
 
-/// Whether two columns of a result share a name, or one has a name that no column can have.
+/// Whether two columns of a result share a name, or one has a reserved name.
 pub fn has_bad_names(alloc: Global, findings: &Findings) -> Result<bool, AllocError>
     requires { AreFindings findings.now }
     ensures { IfOk result (λ bad. bad ≡ spec.has_bad_names findings.now.select.now findings.now.known.items) }
@@ -153,7 +153,7 @@ fn is_wrong_join(full: bool, sides: Option<(bool, bool)>) -> bool
     }
 }
 
-/// Whether a query is of another kind than its statement, or joins or partitions what it can't.
+/// Whether a query is of another kind than its statement, or has a join or PARTITION BY that isn't allowed.
 pub fn is_query_wrong(table: bool, select: &Select, known: &[Known]) -> bool
     ensures { result ≡ spec.is_query_wrong table select.now known.now }
 {
@@ -181,7 +181,7 @@ fn has_stream_side(sides: Option<(bool, bool)>) -> bool
     }
 }
 
-/// Whether ON isn't `a = b` of the stated form.
+/// Whether ON isn't `a = b` of the required form.
 pub fn is_not_on_key(findings: &Findings) -> bool
     requires { AreFindings findings.now }
     ensures { result ≡ spec.is_not_on_key findings.now.select.now findings.now.known.items }
@@ -197,7 +197,7 @@ fn is_one_missing(places: &[Option<usize>]) -> bool
     places.iter().any(|place| place.is_none())
 }
 
-/// Whether a result is without a column that its key needs.
+/// Whether a result lacks a column that its key needs.
 pub fn lacks_key(findings: &Findings) -> bool
     requires { AreFindings findings.now }
     ensures { result ≡ spec.lacks_key findings.now.select.now findings.now.known.items }
@@ -209,7 +209,7 @@ pub fn lacks_key(findings: &Findings) -> bool
         && is_one_missing(&findings.places)
 }
 
-/// Whether the numbers of partitions of joined relations differ.
+/// Whether joined relations have different numbers of partitions.
 pub fn have_other_partitions(known: &[Known]) -> bool
     ensures { result ≡ spec.have_other_partitions known.now }
 {
@@ -219,7 +219,7 @@ pub fn have_other_partitions(known: &[Known]) -> bool
     }
 }
 
-/// Whether a window has no grouping of a stream that it is of, or is none.
+/// Whether a window is invalid, or isn't on a grouping of a stream.
 pub fn is_bad_window(select: &Select, known: &[Known]) -> bool
     ensures { result ≡ spec.is_bad_window select.now known.now }
 {
@@ -239,7 +239,7 @@ pub fn joins_itself(known: &[Known]) -> bool
     }
 }
 
-/// Whether a windowed table is read.
+/// Whether a query reads a windowed table.
 pub fn reads_windowed(known: &[Known]) -> bool
     ensures { result ≡ list_any (λ k. sources.is_windowed k.relation) known.now }
 {

@@ -7,20 +7,20 @@ ghost use Rattle.ksql_clauses.specs.Properties as properties;
 ghost use Rattle.ksql_rules.specs.Breaks as spec;
 
 use ksql_clauses::{has_topic, is_word, topic_in};
-use statement_trees::{Property, PropertyValue, Statement, StatementBody};
 use ksql_types::{Catalog, Chars, is_topic_name};
+use statement_trees::{Property, PropertyValue, Statement, StatementBody};
 
 /// The most partitions of a topic.
 const MOST_PARTITIONS: u64 = 64;
 
-/// Whether properties want more partitions than a topic can have.
+/// Whether the properties ask for more partitions than a topic can have.
 pub fn has_many_partitions(props: &[Property]) -> bool
     ensures { result ≡ spec.has_many_partitions props.now }
 {
     props.iter().any(wants_many_partitions)
 }
 
-/// Whether a property is a PARTITIONS of more than a topic can have.
+/// Whether a property is PARTITIONS with more than a topic can have.
 fn wants_many_partitions(prop: &Property) -> bool
     ensures { result ≡ spec.wants_many_partitions prop.now }
 {
@@ -32,7 +32,7 @@ fn wants_many_partitions(prop: &Property) -> bool
     }
 }
 
-/// The topic of a query: that of KAFKA_TOPIC, and without it the relation's name.
+/// The topic of a query: that of KAFKA_TOPIC, or else the relation's name.
 pub fn query_topic<'a>(name: &'a Chars, props: &'a [Property]) -> Option<&'a Chars>
     ensures { option_copied result
         ≡ (if is_some (properties.value_of (codes "KAFKA_TOPIC") props.now) then properties.topic_in props.now else Some name.now) }
@@ -52,7 +52,7 @@ fn topic_of<'a>(name: &'a Chars, body: &'a StatementBody) -> Option<&'a Chars>
     }
 }
 
-/// Whether a topic is missing, or isn't legal.
+/// Whether a topic is missing or illegal.
 pub fn has_bad_topic(topic: Option<&Chars>) -> bool
     ensures { result ≡ spec.has_bad_topic (option_copied topic.entry) }
 {
@@ -80,7 +80,7 @@ fn is_topic_taken(catalog: &Catalog, topic: &Chars) -> bool
         .any(|relation| *topic == relation.topic)
 }
 
-/// Whether the name or the topic of a statement is that of a relation before it.
+/// Whether an earlier relation has the statement's name or topic.
 pub fn is_taken(catalog: &Catalog, statement: &Statement) -> bool
     ensures { result ≡ spec.is_taken catalog.now statement.now }
 {

@@ -1,8 +1,8 @@
-//! Truth values that are both taken: a caller has no branch.
+//! Truth values combined without a branch: both are evaluated.
 
 ghost use Rattle.std.specs.Prelude.{◌≡◌, ◌&&◌, ◌||◌};
 
-/// Whether one of two holds.
+/// Whether at least one of two holds.
 pub fn either(one: bool, other: bool) -> bool
     ensures { result ≡ (one || other) }
 {

@@ -1,4 +1,4 @@
-//! Whether the expressions of a query have the types that their places want.
+//! Whether the expressions of a query have the types that their places require.
 
 ghost use Rattle.std.specs.Prelude.{◌≡◌, ◌-◌, ◌^◌, ◌≤◌, ◌↔◌, All, IfOk, IsTrue, length};
 ghost use Rattle.std.specs.List.{list_all};
@@ -11,14 +11,14 @@ ghost use Rattle.ksql_clauses.specs.Keys as keys;
 
 use crate::findings::{Findings, types_of};
 use crate::truth::both;
-use ksql_clauses::{Named, on_sides};
 use expression_trees::Expr;
+use ksql_clauses::{Named, on_sides};
 use ksql_scopes::Scope;
-use statement_trees::Select;
 use ksql_type_sets::{can_agree, can_be_true, has_value};
+use statement_trees::Select;
 use std::alloc::{AllocError, Global};
 
-/// Whether a part, where it is there, has a type that fits BOOLEAN.
+/// Whether a part, if present, has a type that fits BOOLEAN.
 fn fits_truth(alloc: Global, scope: &Scope, part: &Option<Expr>) -> Result<bool, AllocError>
     requires small { All IsSmall (sources.there part.now) }
     requires columns { length scope.now.columns ≤ 2 ^ 32 - 2 }
@@ -30,7 +30,7 @@ fn fits_truth(alloc: Global, scope: &Scope, part: &Option<Expr>) -> Result<bool,
     }
 }
 
-/// Whether each column of a result has a type other than that of NULL alone.
+/// Whether each column of a result has a type other than that of plain NULL.
 fn are_valued(alloc: Global, scope: &Scope, columns: &[Named]) -> Result<bool, AllocError>
     requires small { All (λ c. IsSmall c.expr) columns.now }
     requires columns { length scope.now.columns ≤ 2 ^ 32 - 2 }
@@ -71,7 +71,7 @@ fn does_on_agree(alloc: Global, scope: &Scope, select: &Select) -> Result<bool, 
     }
 }
 
-/// Whether the expressions of a query have the types that their places want.
+/// Whether the expressions of a query have the types that their places require.
 pub fn is_query_typed(alloc: Global, findings: &Findings) -> Result<bool, AllocError>
     requires { AreFindings findings.now }
     ensures { IfOk result (λ typed. IsTrue typed ↔ breaks.IsQueryTyped findings.now.select.now findings.now.known.items) }

@@ -7,11 +7,11 @@ ghost use Rattle.ksql_rules.specs.Lowest.{BreaksFirst, BreaksNone};
 ghost use Rattle.ksql_rules.specs.Verdicts.{IsVerdict};
 
 use crate::broken::{Body, body_of, breaks};
-use statement_trees::Statement;
 use ksql_types::{Boxed, Catalog, Code};
+use statement_trees::Statement;
 use std::alloc::{AllocError, Global};
 
-/// The codes of the judgement, from the lowest.
+/// The codes of the judgement, lowest first.
 const CODES: [Code; 15] = [
     Code::TooLarge,
     Code::UnknownRelation,
@@ -30,7 +30,7 @@ const CODES: [Code; 15] = [
     Code::BadProperty,
 ];
 
-/// The first of some codes whose rule a statement breaks.
+/// The first of these codes whose rule a statement breaks.
 fn first_broken(
     alloc: Global,
     catalog: &Catalog,
@@ -51,14 +51,14 @@ fn first_broken(
     first_broken(alloc, catalog, statement, body, others)
 }
 
-/// What is judged of a statement: its lowest code, or its body where it breaks no rule.
+/// The verdict on a statement: its lowest code, or its body if it breaks no rule.
 #[derive(Drop)]
 pub enum Verdict<'a> {
     Refused(Code),
     Accepted(Boxed<Body<'a>>),
 }
 
-/// The verdict on a statement, where the relations of the catalog stand before it.
+/// The verdict on a statement, given the relations of the earlier statements.
 pub fn judge_statement<'a>(
     alloc: Global,
     catalog: &Catalog,

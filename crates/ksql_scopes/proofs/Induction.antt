@@ -18,7 +18,7 @@ IfThere P (Some x) = P x
 abbrev pub InWhen : (Expr → Type 0) → WhenText → Type 0
 InWhen P w = P w.cond × P w.result
 
--- what holds of a form where it holds of its parts
+-- a property of a form, given that it holds of its parts
 pub record Steps (P : Expr → Type 0) : Type 0 where
   pub digits : (number : ℕ) → P (e.Digits number)
   pub text : (content : List ℕ) → P (e.Text content)

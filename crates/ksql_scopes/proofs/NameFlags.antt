@@ -17,7 +17,7 @@ or-false false b h = (refl, h)
 pub none-of : {X : Type 0} (q : X → Bool) (xs ys : List X) → list_any q (xs ++ ys) ≡ false → (list_any q xs ≡ false) × (list_any q ys ≡ false)
 none-of q xs ys h = or-false (list_any q xs) (list_any q ys) (sym (list_any-append q xs ys) ∙ h)
 
--- a test of how many things a name stands for
+-- a test on how many things a name stands for
 abbrev pub counted : (ℕ → Bool) → Scope → Use → Bool
 counted p s u = p (length (meanings_of s u))
 

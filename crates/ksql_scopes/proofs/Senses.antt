@@ -1,4 +1,4 @@
--- What a name stands for, from the parts of a scope.
+-- What a name stands for, given the parts of a scope.
 use Rattle.std.proofs.Common.{◌≡◌, ℕ, suc, true, false, if◌then◌else◌, List, [], ◌∷◌, ◌++◌, Option, Some, None, refl, ap, sym, ◌∙◌}
 use Rattle.ksql_expr.specs.declared.typed.TypedNode.TheVariants as n
 use Rattle.ksql_scopes.specs.declared.scope.ScopeColumn.{ScopeColumn}
@@ -26,7 +26,7 @@ sense-append (m ∷ ms) os =
     sense-more m (ms ++ os) ∙ ap (both (Some (Some m))) (sense-append ms os)
     ∙ sym (both-assoc (Some (Some m)) (sense ms) (sense os)) ∙ ap (λ x. both x (sense os)) (sym (sense-more m ms))
 
--- what stands for either: what was found, and the columns that are left
+-- what stands for either: what was found, and the remaining columns
 abbrev pub with_rest : Option (List ℕ) → List ℕ → Option (Option Meaning) → ℕ → List ScopeColumn → Option (Option Meaning)
 with_rest q name found i cs = both found (sense (columns_known_as q name i cs))
 

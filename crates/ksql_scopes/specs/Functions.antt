@@ -1,4 +1,4 @@
--- The functions by their names (ksqlDB reference manual, "Scalar functions" and "Aggregate functions").
+-- Functions by name (ksqlDB reference manual, "Scalar functions" and "Aggregate functions").
 use Rattle.std.specs.Prelude.{ℕ, Bool, not, ◌||◌, List, [], ◌∷◌, Option, is_some, codes}
 use Rattle.expression_trees.specs.Words.{beside}
 use Rattle.ksql_expr.specs.declared.typed.Fun.{Fun}
@@ -17,17 +17,17 @@ aggregates =
     (codes "COUNT", agg.Count) ∷ (codes "SUM", agg.Sum) ∷ (codes "MIN", agg.Min) ∷ (codes "MAX", agg.Max)
     ∷ (codes "LATEST_BY_OFFSET", agg.Latest) ∷ (codes "EARLIEST_BY_OFFSET", agg.Earliest) ∷ []
 
--- the function of values of a name
+-- the scalar function with a name
 unfoldable pub function_of : List ℕ → Option Fun
 function_of name = beside functions name
 
--- the aggregate function of a name
+-- the aggregate function with a name
 unfoldable pub aggregate_of : List ℕ → Option AggFun
 aggregate_of name = beside aggregates name
 
 abbrev pub is_aggregate : List ℕ → Bool
 is_aggregate name = is_some (aggregate_of name)
 
--- whether there is no function of a name
+-- whether no function has a name
 abbrev pub is_unknown : List ℕ → Bool
 is_unknown name = not (is_some (function_of name) || is_aggregate name)

@@ -1,4 +1,4 @@
--- Expressions with resolved names: two are equal where their trees with resolved names are.
+-- Expressions with resolved names: two are equal if their trees with resolved names are.
 use Rattle.std.specs.Prelude.{ℕ, ◌==◌, Bool, true, false, ◌&&◌, if◌then◌else◌, List, [], ◌∷◌, length, filter, Option, Some, None, codes, bytes_eq}
 use Rattle.expression_trees.specs.declared.tree.Expr.{Expr, out-Expr}
 use Rattle.expression_trees.specs.declared.tree.Expr.TheVariants as e
@@ -13,16 +13,16 @@ use Rattle.expression_trees.specs.Parts.{becomes, when_becomes}
 abbrev pub is_row_time : Scope → Option (List ℕ) → List ℕ → Bool
 is_row_time s q name = length (row_time s q name) == 1
 
--- a name as it is written where these columns are known by it
+-- a name as it is written, given the columns that it stands for
 abbrev pub written_for : Scope → Option (List ℕ) → List ℕ → List ScopeColumn → Expr
 written_for s q name [] = if is_row_time s q name then e.Name None name else e.Name q name
 written_for s q name (c ∷ cs) = e.Name c.alias name
 
--- a name as every use of what it stands for is written: a column after the name of its relation, ROWTIME alone
+-- a name as it is written wherever it is used: a column after the name of its relation, ROWTIME alone
 abbrev pub full_name : Scope → Option (List ℕ) → List ℕ → Expr
 full_name s q name = written_for s q name (filter (is_known_as q name) s.columns)
 
--- what stands in the place of a name: what it stands for, in full
+-- the replacement of a name: what it stands for, in full
 abbrev pub full_name_of : Scope → Expr → Option Expr
 full_name_of s a = of (out-Expr a)
   where

@@ -7,13 +7,13 @@ use Rattle.ksql_expr.specs.declared.typed.TypedNode.TheVariants as n
 use Rattle.ksql_scopes.specs.declared.scope.Scope.{Scope}
 use Rattle.ksql_scopes.specs.declared.scope.ScopeColumn.{ScopeColumn}
 
--- whether what is known by an alias can be named after a qualifier, where one is written
+-- whether a qualifier, if written, names the relation with this alias
 abbrev pub is_qualified : Option (List ℕ) → Option (List ℕ) → Bool
 is_qualified None alias = true
 is_qualified (Some q) None = false
 is_qualified (Some q) (Some alias) = bytes_eq alias q
 
--- whether a column is known by a name after a qualifier
+-- whether a name after a qualifier stands for a column
 abbrev pub is_known_as : Option (List ℕ) → List ℕ → ScopeColumn → Bool
 is_known_as q name c = is_qualified q c.alias && bytes_eq c.column.name name
 
@@ -21,13 +21,13 @@ is_known_as q name c = is_qualified q c.alias && bytes_eq c.column.name name
 abbrev pub Meaning : Type 0
 Meaning = TypedNode × SqlType
 
--- the columns that are known by a name, where the first of these has this index
+-- the columns that a name stands for, where the first of these columns has this index
 abbrev pub columns_known_as : Option (List ℕ) → List ℕ → ℕ → List ScopeColumn → List Meaning
 columns_known_as q name i [] = []
 columns_known_as q name i (c ∷ cs) =
     if is_known_as q name c then (n.Column i, c.column.ty) ∷ columns_known_as q name (suc i) cs else columns_known_as q name (suc i) cs
 
--- the name by which the first column's relation is known
+-- the alias of the first column's relation
 abbrev pub first_alias : List ScopeColumn → Option (List ℕ)
 first_alias [] = None
 first_alias (c ∷ cs) = c.alias

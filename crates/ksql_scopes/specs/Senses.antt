@@ -1,4 +1,4 @@
--- What a name stands for, as it is counted up.
+-- What a name stands for, counted.
 use Rattle.std.specs.Prelude.{ℕ, List, [], ◌∷◌, Option, Some, None}
 use Rattle.ksql_expr.specs.declared.typed.TypedNode.{TypedNode}
 use Rattle.ksql_expr.specs.declared.typed.TypedNode.TheVariants as n
@@ -21,7 +21,7 @@ view Nothing = None
 view (One column ty) = Some (Some (place column, ty))
 view Several = Some None
 
--- what stands for either
+-- what stands for either of two
 abbrev pub both : Option (Option Meaning) → Option (Option Meaning) → Option (Option Meaning)
 both None other = other
 both one None = one

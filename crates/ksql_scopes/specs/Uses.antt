@@ -1,4 +1,4 @@
--- What stands in an expression: names, functions and literals.
+-- Names, functions and literals in an expression.
 use Rattle.std.specs.Prelude.{ℕ, Bool, true, false, ◌&&◌, ◌==◌, nat_lt, nat_le, if◌then◌else◌, List, [], ◌∷◌, ◌++◌, length, map, Option, Some, None, IsTrue}
 use Rattle.std.specs.List.{list_any, list_all, flat_map}
 use Rattle.expression_trees.specs.declared.tree.Expr.{Expr, fold-Expr}
@@ -8,7 +8,7 @@ use Rattle.ksql_scopes.specs.declared.scope.Scope.{Scope}
 use Rattle.ksql_scopes.specs.Functions.{is_aggregate, is_unknown}
 use Rattle.ksql_scopes.specs.Scope.{Meaning, meanings, inside}
 
--- a list for a part that may be left out
+-- the list of an optional part
 abbrev pub perhaps : {A : Type 0} → Option (List A) → List A
 perhaps None = []
 perhaps (Some xs) = xs
@@ -16,7 +16,7 @@ perhaps (Some xs) = xs
 abbrev pub all_of : {A : Type 0} → List (List A) → List A
 all_of xss = flat_map (λ xs. xs) xss
 
--- the lists of a form's parts, one after the other
+-- the lists of a form's parts, one after another
 abbrev pub gathered : {A : Type 0} → Expr-F (List A) (List A) → List A
 gathered (Expr-F.Digits number) = []
 gathered (Expr-F.Text content) = []
@@ -39,7 +39,7 @@ of_when w = w.cond ++ w.result
 
 -- ---- names
 
--- a name in an expression, its qualifier, and whether it stands in the argument of an aggregate
+-- a name in an expression, its qualifier, and whether it is in the argument of an aggregate
 pub record Use : Type 0 where
   pub within : Bool
   pub qualifier : Option (List ℕ)

@@ -17,7 +17,7 @@ pub fn is_row_time(scope: &Scope, qualifier: &Option<Chars>, name: &Chars) -> bo
     scope.stream && name.items() == "ROWTIME" && is_first(scope.columns.items(), qualifier)
 }
 
-/// The first column that is known by a name after a qualifier.
+/// The first column that `name` after `qualifier` stands for.
 pub fn first_known_as<'a>(
     columns: &'a [ScopeColumn],
     qualifier: &Option<Chars>,
@@ -30,8 +30,8 @@ pub fn first_known_as<'a>(
         .find(|column| is_known_as(qualifier, name, column))
 }
 
-/// A name as every use of what it stands for is written: a column after the name of its relation, ROWTIME alone.
-pub fn full_name(
+/// A name as it is written wherever it is used: a column after the name of its relation, ROWTIME alone.
+fn full_name(
     alloc: Global,
     scope: &Scope,
     qualifier: &Option<Chars>,
@@ -58,7 +58,7 @@ fn written(alloc: Global, qualifier: &Option<Chars>, name: &Chars) -> Result<Exp
     Ok(Expr::Name { qualifier, name })
 }
 
-/// What replaces the names in an expression: what each stands for in a scope, in full.
+/// Replaces each name in an expression by what it stands for in a scope, in full.
 #[derive(Clone, Copy)]
 struct FullNames<'a> {
     scope: &'a Scope,
@@ -78,7 +78,7 @@ impl Replaces for FullNames<'_> {
     }
 }
 
-/// An expression with resolved names.
+/// The expression with resolved names.
 #[tactic(auto, unfolding(crate::specs::Resolved::resolved))]
 pub fn resolved(alloc: Global, scope: &Scope, expr: &Expr) -> Result<Expr, AllocError>
     ensures { IfOk result (λ found. found ≡ spec.resolved scope.now expr.now) }

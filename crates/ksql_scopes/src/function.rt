@@ -1,4 +1,4 @@
-//! The functions by their names.
+//! Functions by name.
 
 ghost use Rattle.std.specs.Prelude.{◌≡◌};
 ghost use Rattle.ksql_scopes.specs.Functions as spec;
@@ -27,7 +27,7 @@ const AGGREGATES: [(&str, AggFun); 6] = [
     ("EARLIEST_BY_OFFSET", AggFun::Earliest),
 ];
 
-/// The function of values of a name.
+/// The scalar function of that name, if any.
 #[tactic(auto, unfolding(crate::specs::Functions::function_of))]
 pub fn function_of(name: &str) -> Option<Fun>
     ensures { result ≡ spec.function_of name.now }
@@ -42,7 +42,7 @@ pub fn function_of(name: &str) -> Option<Fun>
     None
 }
 
-/// The aggregate function of a name.
+/// The aggregate function of that name, if any.
 #[tactic(auto, unfolding(crate::specs::Functions::aggregate_of))]
 pub fn aggregate_of(name: &str) -> Option<AggFun>
     ensures { result ≡ spec.aggregate_of name.now }

@@ -11,14 +11,14 @@ pub struct Scope {
     pub windowed: bool,
 }
 
-/// A column, and the name by which its relation is known, where it belongs to one.
+/// A column, and the alias of its relation if it belongs to one.
 #[derive(Debug, Drop)]
 pub struct ScopeColumn {
     pub alias: Option<Chars>,
     pub column: Column,
 }
 
-/// Columns in the order of a row.
+/// The columns in the order of a row.
 pub type ScopeColumns = Items<ScopeColumn>;
 
 impl CopyOf for Scope {

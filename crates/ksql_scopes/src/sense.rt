@@ -7,7 +7,8 @@ ghost use Rattle.ksql_scopes.specs.Senses.{sense, view, both};
 use crate::scope::{Scope, ScopeColumn};
 use ksql_types::{Chars, SqlType};
 
-/// What a name stands for: nothing, one column by its index or else the row's time, and its type, or several things.
+/// What a name stands for: nothing, one thing and its type (a column by its index, or the row's time if `column` is
+/// None), or several things.
 #[derive(Clone, Copy, Debug, PartialEq, Eq)]
 pub enum Sense {
     Nothing,
@@ -27,7 +28,7 @@ impl Sense {
     }
 }
 
-/// Whether what is known by an alias can be named after a qualifier, where one is written.
+/// Whether `qualifier`, if written, names the relation with this alias.
 fn is_qualified(qualifier: &Option<Chars>, alias: &Option<Chars>) -> bool
     ensures { result ≡ is_qualified qualifier.now alias.now }
 {
@@ -38,7 +39,7 @@ fn is_qualified(qualifier: &Option<Chars>, alias: &Option<Chars>) -> bool
     }
 }
 
-/// Whether a column is known by a name after a qualifier.
+/// Whether `name` after `qualifier` stands for this column.
 pub(crate) fn is_known_as(qualifier: &Option<Chars>, name: &Chars, column: &ScopeColumn) -> bool
     ensures { result ≡ is_known_as qualifier.now name.now column.now }
 {
@@ -61,7 +62,7 @@ fn column_sense(columns: &[ScopeColumn], qualifier: &Option<Chars>, name: &Chars
     found
 }
 
-/// Whether what is known by the first column's alias can be named after a qualifier.
+/// Whether `qualifier`, if written, names the relation of the first column.
 pub(crate) fn is_first(columns: &[ScopeColumn], qualifier: &Option<Chars>) -> bool
     ensures { result ≡ is_qualified qualifier.now (first_alias columns.now) }
 {
@@ -107,7 +108,7 @@ fn bound_sense(scope: &Scope, windowed: bool, qualifier: &Option<Chars>, name: &
     Sense::Nothing
 }
 
-/// What a name stands for in a scope, in which the bounds of windows can be named where `windowed` is true.
+/// What a name stands for in a scope. If `windowed` is true, it can also name the bounds of windows.
 #[tactic(auto, unfolding(crate::specs::Scope::meanings))]
 pub fn sense_of(scope: &Scope, windowed: bool, qualifier: &Option<Chars>, name: &Chars) -> Sense
     requires { length scope.now.columns ≤ 2 ^ 32 - 2 }

@@ -1,4 +1,4 @@
--- Where what is spelled at the front of some symbols ends: at one place, or nowhere.
+-- Where what is spelled at the start of some symbols ends: at one place, or nowhere.
 use Rattle.std.proofs.Common.{◌≡◌, List, ◌∷◌, Option, Some, None, refl, sym, ap, ◌∙◌, subst}
 use Rattle.std.proofs.lemmas.Option.{none-some, same_Some, some_pair_parts}
 use Rattle.ksql_lexer.specs.declared.token.Mark.{Mark}

@@ -16,7 +16,7 @@ use Rattle.ksql_script.specs.Reading.{Refusal, Reads, too_long, not_utf8, no_tok
 use Rattle.ksql_script.specs.Script.{IsAccepted, IsRefused}
 
 module _ (script : List ℕ) where
-  -- what is so of the tokens of a script is so of them however they were found
+  -- a property of the tokens of a script holds however they were found
   same : (P : List Token → Type 0) (ts us : List Token) → AreTokens script ts → AreTokens script us → P ts → P us
   same P ts us a b = subst P (one_list script ts us a b)
 
@@ -67,7 +67,7 @@ module _ (script : List ℕ) where
   one_refusal s t c d (inr a) (inr b) =
       one_code b.0 s t c d (subst (λ (sts : List Statement). AreRefused sts s c) (one_trees a.0 b.0 a.1 b.1) a.2) b.2
 
-  -- and none where it is accepted
+  -- and none if it is accepted
   pub not_both : (program : Program) (s : ℕ) (c : Code) → IsAccepted script program → IsRefused script s c → ⊥
   not_both program s c is (inl a) = trees_or_refusal is.trees (s, c) is.read a
   not_both program s c is (inr a) =

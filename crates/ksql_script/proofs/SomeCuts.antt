@@ -11,7 +11,7 @@ use Rattle.ksql_lexer.proofs.Cuts.{run_at}
 pub some_run : (p : ℕ → Bool) (text : List ℕ) → (run : List ℕ) × (rest : List ℕ) × IsRun p text run rest
 some_run p text = (take (prefix_len p text) text, drop (prefix_len p text) text, run_at p text (prefix_len p text) _ _ refl refl refl)
 
--- at a byte, where it has one
+-- at a byte, if it has one
 abbrev IsCut : ℕ → List ℕ → Type 0
 IsCut q bs = (inside : List ℕ) × (rest : List ℕ) × (bs ≡ inside ++ q ∷ rest) × Lacks q inside
 
@@ -36,7 +36,7 @@ some_cut q (b ∷ bs) =
     (some_cut q bs))
     (cases_eq b q)
 
--- between two quotes, where it begins so
+-- between two quotes, if it begins with one
 pub some_between : (q : ℕ) (text : List ℕ) → ((inside : List ℕ) × (rest : List ℕ) × IsBetween q text inside rest) ⊎ NoneBetween q text
 some_between q [] = inr (λ inside rest e. cc)
 some_between q (b ∷ bs) =
@@ -48,7 +48,7 @@ some_between q (b ∷ bs) =
     (λ other. inr (λ inside rest f. other (cc)))
     (cases_eq b q)
 
--- after two bytes, where they are its first
+-- after two bytes, if they come first
 abbrev pub BeginsBy : ℕ → ℕ → List ℕ → Type 0
 BeginsBy x y text = (rest : List ℕ) × (text ≡ x ∷ y ∷ rest)
 
@@ -64,14 +64,14 @@ some_begin x y (b ∷ c ∷ text) =
     (λ other. inr (λ rest g. other (cc)))
     (cases_eq b x)
 
--- at its first `*/`, where it has one
+-- at its first `*/`, if it has one
 abbrev pub IsEnded : List ℕ → Type 0
 IsEnded bs = (inside : List ℕ) × (rest : List ℕ) × IsUpToEnd bs inside rest
 
 no_end_in_nil : ¬ (HasSubslice [] (codes "*/"))
 no_end_in_nil has = omega (arith, ap length has.2, length-append has.0 (codes "*/" ++ has.1))
 
--- one more byte in front makes no `*/`, where none begins the whole
+-- one more byte in front makes no `*/` unless one begins the whole
 no_end_more : (b : ℕ) (bs : List ℕ) → BeginsNotBy 42 47 (b ∷ bs) → ¬ (HasSubslice bs (codes "*/")) → ¬ (HasSubslice (b ∷ bs) (codes "*/"))
 no_end_more b bs other none has = at has.0 has.2
   where

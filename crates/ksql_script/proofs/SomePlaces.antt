@@ -14,7 +14,7 @@ use Rattle.ksql_lexer.proofs.Signs.{pair_longest, single_longest, no_mark}
 use Rattle.ksql_lexer.proofs.Places.{nothing_in_nil, word_longest, digits_longest, digits_nothing, quoted_longest, quoted_nothing, quoted_open, text_first, text_more, text_longest, text_open, blank_longest, line_longest, block_longest, no_comment_open, no_comment_front, front_open, mark_longest, mark_nothing}
 use Rattle.ksql_script.proofs.SomeCuts.{some_run, some_between, some_begin, some_end}
 
--- something stands there, or nothing does
+-- something begins there, or nothing does
 abbrev pub StandsOrNot : List ℕ → Type 0
 StandsOrNot text = ((piece : Option TokenKind) × (rest : List ℕ) × Longest text piece rest) ⊎ BeginsNothing text
 
@@ -53,7 +53,7 @@ at_backquote text c =
     (λ none. inr (quoted_open text c none))
     (some_between 96 text)
 
--- a text goes on where its quote is written twice
+-- a text continues if its quote is doubled
 text_from : (n : ℕ) (text content rest : List ℕ) → length rest < n → first_class text ≡ Some Quote → text ≡ 39 ∷ (doubled content ++ 39 ∷ rest) → StandsOrNot text
 text_from zero text content rest short c e = absurd (omega arith)
 text_from (suc n) text content rest short c e =

@@ -1,4 +1,4 @@
--- Where a statement ends: it is all of some symbols, or none is.
+-- Where a statement ends: all of the symbols are one statement, or they are none.
 use Rattle.std.proofs.Common.{◌≡◌, suc, List, [], ◌∷◌, length, Option, Some, None, refl, sym, ap, ◌∙◌, arith}
 use Rattle.std.proofs.lemmas.Option.{some_pair_parts}
 use Rattle.ksql_lexer.specs.declared.token.Mark.TheVariants as mark
@@ -104,7 +104,7 @@ some_statement ts =
     (λ vs s e. let h = body_of s.0 ts vs s.1 in (h.0, ((s.0.table, s.0.name), h.1), tt, (s.0.body, h.2)))
     (settled_given {C = Always} (r.head ts)) (λ us s. some_body us)
 
--- all of some symbols are a statement, or they are none
+-- all of the symbols together are a statement, or they are none
 pub some_spelling : (ts : List Symbol) → Dec (Spelt g.statement ts [])
 some_spelling ts = all (some_statement ts)
   where

@@ -1,4 +1,4 @@
--- What a script is: the program that it is accepted as, or its first refusal.
+-- The meaning of a script: its program, or its first refusal.
 use Rattle.std.specs.Prelude.{◌⊎◌, ℕ, List, Result, Ok, Err}
 use Rattle.ksql_types.specs.declared.code.Code.{Code}
 use Rattle.statement_trees.specs.declared.tree.Statement.{Statement}
@@ -9,12 +9,12 @@ use Rattle.ksql_script.specs.declared.fault.ScriptFault.{ScriptFault}
 use Rattle.ksql_script.specs.declared.fault.ScriptFault.TheVariants.{Refused, OutOfMemory}
 use Rattle.ksql_script.specs.Reading.{Reads}
 
--- a script is refused, in this statement and by this code: as it is read, or it is read as trees that the judgement refuses
+-- a script is refused in this statement with this code: by the lexer or parser, or by the judgement of its trees
 abbrev pub IsRefused : List ℕ → ℕ → Code → Type 0
 IsRefused script statement code =
     Reads script (Err (statement, code)) ⊎ ((trees : List Statement) × Reads script (Ok trees) × AreRefused trees statement code)
 
--- a script is accepted, as a program of these items: it is read as trees that are judged to be these items
+-- a script is accepted as a program of these items: the judgement of its trees gives these items
 pub record IsScriptOf (script : List ℕ) (items : List Item) : Type 0 where
   pub trees : List Statement
   pub read : Reads script (Ok trees)
@@ -24,7 +24,7 @@ pub record IsScriptOf (script : List ℕ) (items : List Item) : Type 0 where
 abbrev pub IsAccepted : List ℕ → Program → Type 0
 IsAccepted script program = IsScriptOf script program.items
 
--- an answer is so: the program, or the first refusal
+-- a result is right: the program, or the first refusal
 abbrev pub IsAnswer : List ℕ → Result Program ScriptFault → Type 0
 IsAnswer script (Ok program) = IsAccepted script program
 IsAnswer script (Err (Refused statement code)) = IsRefused script statement code

@@ -1,8 +1,8 @@
 use ksql_types::Code;
 use std::alloc::{AllocError, AllocFailed};
 
-/// Why a script has no program: its first refusal, at this statement, counted from 1 (0 is the script as a whole), or
-/// out of memory.
+/// Why a script gives no program: its first refusal, at a statement counted from 1 (0 is the script as a whole), or out
+/// of memory.
 #[derive(Clone, Copy, Debug, PartialEq, Eq)]
 pub enum ScriptFault {
     Refused { statement: u32, code: Code },

@@ -1,4 +1,4 @@
-//! Scripts: from bytes to the program that they are, or to their first refusal.
+//! Scripts: from bytes to a program, or to the first refusal.
 #![tactic(auto)]
 
 mod fault;

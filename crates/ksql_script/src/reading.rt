@@ -9,15 +9,15 @@ use ksql_analyse::{AnalyseFault, analyse};
 use ksql_lexer::{LexFault, tokens};
 use ksql_parser::{ParseFault, parse};
 use ksql_program::Program;
-use statement_trees::Statement;
 use ksql_types::Code;
+use statement_trees::Statement;
 use std::alloc::Global;
 use std::str;
 
 /// The most bytes of a script.
 const LONGEST_SCRIPT: usize = 1_048_576;
 
-/// The program that a script is accepted as, or its first refusal. `OutOfMemory` says nothing of the script.
+/// The program of a script, or its first refusal. `OutOfMemory` says nothing about the script.
 pub fn program_of_script(alloc: Global, script: &[u8]) -> Result<Program, ScriptFault>
     ensures answer { IsAnswer script.now result }
     ensures sound { IfOk result (λ program. IsSound program.items) }
@@ -30,7 +30,8 @@ pub fn program_of_script(alloc: Global, script: &[u8]) -> Result<Program, Script
     }
 }
 
-/// The trees of a script's statements, or its refusal as it is read. `OutOfMemory` says nothing of the script.
+/// The trees of a script's statements, or a refusal by the lexer or parser. `OutOfMemory` says nothing about the
+/// script.
 #[tactic(auto, using(crate::specs::Reading::too_long, crate::specs::Reading::not_utf8), unfolding(ksql_types::specs::Text::longest_text))]
 pub fn trees_of_script(alloc: Global, script: &[u8]) -> Result<Vec<Statement>, ScriptFault>
     ensures { IsRead script.now result }
@@ -61,7 +62,7 @@ fn trees_of_text(alloc: Global, text: &str) -> Result<Vec<Statement>, ScriptFaul
     }
 }
 
-/// That a script is refused in this statement, for this reason.
+/// The refusal of a statement, with its code.
 fn refused(statement: u32, code: Code) -> ScriptFault
     ensures { result ≡ ScriptFault.Refused statement code }
 {

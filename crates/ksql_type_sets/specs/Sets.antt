@@ -1,4 +1,4 @@
--- Sets of types: those that a form can have, made from those of its parts.
+-- Sets of types: the types that a form can have, computed from those of its parts.
 use Rattle.std.specs.Prelude.{Bool, true, false, ◌&&◌, if◌then◌else◌, nat_le, length, List, [], ◌∷◌, ◌++◌, Option, Some, None}
 use Rattle.std.specs.List.{list_any, list_all}
 use Rattle.ksql_types.specs.declared.operator.BinaryOp.{BinaryOp}
@@ -27,22 +27,22 @@ has a (Some sql.Bool) = a.truth
 abbrev pub collect : (Option SqlType → Bool) → Types
 collect p = record { null = p None; int = p (Some sql.Int); big = p (Some sql.Big); text = p (Some sql.Text); truth = p (Some sql.Bool) }
 
--- whether one of a set passes
+-- whether a type in a set passes
 unfoldable pub some_in : Types → (Option SqlType → Bool) → Bool
 some_in a p = list_any (λ t. has a t && p t) kinds
 
--- whether two types are one
+-- whether two types are the same
 abbrev pub is_same : Option SqlType → Option SqlType → Bool
 is_same None None = true
 is_same (Some a) (Some b) = same_type a b
 is_same _ _ = false
 
--- whether what is found is this type
+-- whether the result is this type
 abbrev pub is_found : Option (Option SqlType) → Option SqlType → Bool
 is_found None t = false
 is_found (Some found) t = is_same found t
 
--- this type alone, where a condition holds
+-- this type alone, if a condition holds
 abbrev pub where_found : Bool → Option SqlType → Types
 where_found holds found = collect (λ t. holds && is_same found t)
 
@@ -61,7 +61,7 @@ binary_types o a b = collect (λ t. some_in a (λ x. some_in b (λ y. is_found (
 abbrev pub fitting : SqlType → Types → Types
 fitting wanted a = truth_where (some_in a (fits wanted))
 
--- whether a set has a type
+-- whether a set isn't empty
 abbrev pub is_some_in : Types → Bool
 is_some_in a = some_in a (λ t. true)
 
@@ -78,7 +78,7 @@ one_of_types a choices = truth_where (some_in a (λ x. each_in (are_comparable x
 abbrev pub cast_types : SqlType → Types → Types
 cast_types to a = where_found (some_in a (λ x. can_cast x to)) (Some to)
 
--- the types of the whole, where one is joint
+-- the common types of two sets
 abbrev pub joint_two : Types → Types → Types
 joint_two a b = collect (λ t. some_in a (λ x. some_in b (λ y. is_found (joint x y) t)))
 
@@ -119,7 +119,7 @@ fun_types f sets = fixed_types f sets
 abbrev pub agg_types : AggFun → Types → Types
 agg_types f a = collect (λ t. some_in a (λ x. is_found (agg_type f (Some x)) t))
 
--- what a call of an unknown function can have
+-- the types that a call of an unknown function can have
 abbrev pub unknown_types : Bool → Types
 unknown_types holds = collect (λ t. holds)
 
@@ -131,7 +131,7 @@ agg_call_types f star args = no_types
 abbrev pub fun_call_types : Fun → Bool → List Types → Types
 fun_call_types f star args = if star then no_types else fun_types f args
 
--- a call, from the functions of its name and the sets of its arguments
+-- the types of a call, given the functions with its name and the sets of its arguments
 abbrev pub call_types : Option AggFun → Option Fun → Bool → List Types → Types
 call_types (Some f) _ star args = agg_call_types f star args
 call_types None (Some f) star args = fun_call_types f star args

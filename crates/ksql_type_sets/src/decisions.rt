@@ -1,4 +1,4 @@
-//! What is decided of expressions by the sets of their types.
+//! What the sets of their types decide about expressions.
 
 ghost use Rattle.std.specs.Prelude.{◌≡◌};
 ghost use Rattle.ksql_type_sets.specs.Decisions as spec;
@@ -8,7 +8,7 @@ use crate::possible::{KINDS, Types};
 use ksql_expr::{fits, same_type};
 use ksql_types::SqlType;
 
-/// Whether an expression has a type other than that of NULL alone.
+/// Whether an expression has a type other than that of plain NULL.
 #[tactic(auto, unfolding(crate::specs::Sets::some_in))]
 pub fn has_value(types: Types) -> bool
     ensures { result ≡ spec.has_value types }
@@ -16,7 +16,7 @@ pub fn has_value(types: Types) -> bool
     KINDS.iter().any(|x| types.has(*x) && x.is_some())
 }
 
-/// Whether a type of an expression fits BOOLEAN.
+/// Whether some type of an expression fits BOOLEAN.
 #[tactic(auto, unfolding(crate::specs::Sets::some_in))]
 pub fn can_be_true(types: Types) -> bool
     ensures { result ≡ spec.can_be_true types }
@@ -42,7 +42,7 @@ fn can_agree_with(one: Option<SqlType>, types: Types) -> bool
     KINDS.iter().any(|x| types.has(*x) && do_agree(one, *x))
 }
 
-/// Whether a type of one expression and a type of another agree: they are one, or one of them is that of NULL alone.
+/// Whether a type of one expression agrees with a type of the other: they are the same, or one is that of plain NULL.
 #[tactic(auto, unfolding(crate::specs::Sets::some_in))]
 pub fn can_agree(one: Types, other: Types) -> bool
     ensures { result ≡ spec.can_agree one other }

@@ -1,4 +1,4 @@
-//! Sets of types: those that a form can have, made from those of its parts, and what is decided by them.
+//! Sets of types: the types that a form can have, computed from those of its parts, and what they decide.
 #![tactic(auto)]
 
 mod decisions;

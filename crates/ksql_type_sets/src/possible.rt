@@ -1,4 +1,4 @@
-//! Sets of types: those that a form can have, made from those of its parts.
+//! Sets of types: the types that a form can have, computed from those of its parts.
 
 ghost use Rattle.std.specs.Prelude.{◌≡◌, [], ◌∷◌, Some};
 ghost use Rattle.std.specs.List.{list_all};
@@ -12,7 +12,7 @@ use ksql_expr::{
 };
 use ksql_types::{BinaryOp, SqlType};
 
-/// Some of the types that an expression can have; `null` stands for the type of NULL alone.
+/// Some of the types that an expression can have; `null` stands for the type of plain NULL.
 #[derive(Clone, Copy, Debug, PartialEq, Eq)]
 pub struct Types {
     pub null: bool,
@@ -32,7 +32,7 @@ pub(crate) const KINDS: [Option<SqlType>; 5] = [
 ];
 
 impl Types {
-    /// Whether a type is one of these.
+    /// Whether a type is in the set.
     pub fn has(self, ty: Option<SqlType>) -> bool
         ensures { result ≡ spec.has self ty }
     {
@@ -74,7 +74,7 @@ fn is_one(found: Option<SqlType>, ty: Option<SqlType>) -> bool
     }
 }
 
-/// This type alone, where a condition holds.
+/// The set of this one type if a condition holds, else the empty set.
 pub fn where_found(holds: bool, found: Option<SqlType>) -> Types
     ensures { result ≡ spec.where_found holds found }
 {
@@ -96,7 +96,7 @@ fn sign_can(arg: Types, ty: Option<SqlType>) -> bool
         .any(|x| arg.has(*x) && is_one(sign_type(*x), ty))
 }
 
-/// The types after a sign.
+/// The types of a signed number.
 pub fn sign(arg: Types) -> Types
     ensures { result ≡ spec.sign_types arg }
 {
@@ -127,7 +127,7 @@ fn binary_can(op: BinaryOp, left: Types, right: Types, ty: Option<SqlType>) -> b
         .any(|x| left.has(*x) && binary_can_with(op, *x, right, ty))
 }
 
-/// The types of an operator between two expressions.
+/// The types of a binary operator's result.
 pub fn binary(op: BinaryOp, left: Types, right: Types) -> Types
     ensures { result ≡ spec.binary_types op left right }
 {
@@ -147,7 +147,7 @@ fn can_fit(wanted: SqlType, arg: Types) -> bool
     KINDS.iter().any(|x| arg.has(*x) && fits(wanted, *x))
 }
 
-/// A truth value, where the argument fits.
+/// The type of a truth value, if the argument fits.
 pub fn fitting(wanted: SqlType, arg: Types) -> Types
     ensures { result ≡ spec.fitting wanted arg }
 {
@@ -189,7 +189,7 @@ fn can_lie_between(arg: Types, low: Types, high: Types) -> bool
         .any(|x| arg.has(*x) && can_be_between(*x, low, high))
 }
 
-/// A truth value, where some types fit BETWEEN.
+/// The type of a truth value, if some types of the operands fit BETWEEN.
 pub fn between(arg: Types, low: Types, high: Types) -> Types
     ensures { result ≡ spec.between_types arg low high }
 {
@@ -220,7 +220,7 @@ fn can_be_one_of(arg: Types, choices: &[Types]) -> bool
         .any(|x| arg.has(*x) && can_equal_each(*x, choices))
 }
 
-/// A truth value, where some types fit IN.
+/// The type of a truth value, if some types of the operands fit IN.
 pub fn one_of(arg: Types, choices: &[Types]) -> Types
     ensures { result ≡ spec.one_of_types arg choices.now }
 {
@@ -234,7 +234,7 @@ fn can_be_cast(arg: Types, to: SqlType) -> bool
     KINDS.iter().any(|x| arg.has(*x) && can_cast(*x, to))
 }
 
-/// The type that is cast to, where a type can be cast to it.
+/// The type `to`, if some type of the argument can be cast to it.
 pub fn cast(to: SqlType, arg: Types) -> Types
     ensures { result ≡ spec.cast_types to arg }
 {
@@ -313,7 +313,7 @@ fn can_be_whens(operand: Option<Types>, conds: &[Types]) -> bool
     }
 }
 
-/// The types of a CASE: those of its results, where its conditions fit.
+/// The types of a CASE: those of its results, if its conditions fit.
 pub fn case(operand: Option<Types>, conds: &[Types], results: &[Types]) -> Types
     ensures { result ≡ spec.case_types operand conds.now results.now }
 {
@@ -417,7 +417,7 @@ fn can_fit_each(wanted: SqlType, args: &[Types]) -> bool
     args.iter().all(|arg| can_fit(wanted, *arg))
 }
 
-/// The types of a call of a function of values.
+/// The types of a scalar function's result.
 pub fn call(fun: Fun, args: &[Types]) -> Types
     ensures { result ≡ spec.fun_types fun args.now }
 {
@@ -443,7 +443,7 @@ fn aggregate_can(fun: AggFun, arg: Types, ty: Option<SqlType>) -> bool
         .any(|x| arg.has(*x) && is_found(agg_type(fun, Some(*x)), ty))
 }
 
-/// The types of a call of an aggregate function.
+/// The types of an aggregate function's result.
 pub fn aggregate(fun: AggFun, arg: Types) -> Types
     ensures { result ≡ spec.agg_types fun arg }
 {
@@ -456,7 +456,7 @@ pub fn aggregate(fun: AggFun, arg: Types) -> Types
     }
 }
 
-/// What a call of an unknown function can have: every type, that of NULL too, where each argument has one.
+/// The types of an unknown function's result: every type, plain NULL included, if each argument has a type.
 pub fn unknown(args: &[Types]) -> Types
     ensures { result ≡ spec.unknown_types (list_all spec.is_some_in args.now) }
 {

@@ -56,7 +56,7 @@ pub is_none-copied : (o : Option (Bor Relation)) → is_none o ≡ is_none (opti
 is_none-copied None = refl
 is_none-copied (Some r) = refl
 
--- a relation stands so far after the first as its number is above a number
+-- a relation is as far after the first as its number is above a given number
 abbrev StandsFrom : ℕ → List Relation → Relation → Type 0
 StandsFrom first rs r = (i : ℕ) × (r.number ≡ first + i) × (slice_get rs i ≡ Some r)
 
@@ -76,7 +76,7 @@ found_from p first (s ∷ rs) r e f =
         let there : (rest g).0 + (first + 1) ≡ r.number = omega (arith, (rest g).1) in
         (suc (rest g).0, omega arith, (rest g).2)
 
--- a relation that is found stands at its number
+-- the place of a relation that is found is its number
 pub find-numbered : (p : Relation → Bool) (rs : List Relation) (r : Relation) → IsCatalog rs → find p rs ≡ Some r → slice_get rs r.number ≡ Some r
 find-numbered p rs r e f =
     let found = found_from p 0 rs r (first_so (are_numbered 0 rs) (are_distinct rs) e) f in
@@ -89,7 +89,7 @@ IfSome-numbered p rs None e f = tt
 IfSome-numbered p rs (Some found) e f = find-numbered p rs found.now e (sym f)
 
 module _ (r : Relation) where
-  -- one whose name nobody has goes last
+  -- a relation with a new name is appended
   pub insert_entry-free : (es : Entries) → AreNamed es → is_taken r.name r.topic (values_of es) ≡ false → insert_entry bytes_eq es r.name r ≡ es ++ (r.name, r) ∷ []
   insert_entry-free [] named free = refl
   insert_entry-free ((k, s) ∷ es) named free =

@@ -9,7 +9,7 @@ use Rattle.ksql_types.specs.declared.value.Value.{Value}
 use Rattle.ksql_types.specs.declared.value.Value.TheVariants.{Null, Int, Big, Txt, Bool as Truth}
 use Rattle.ksql_types.specs.Order.{is_alike, AreAlike, value_cmp, key_cmp}
 
--- the number, the text and the truth of a value, of which one counts
+-- the number, the text and the truth of a value, one of which counts
 abbrev number_of : Value → ℤ
 number_of (Int n) = n
 number_of (Big n) = n
@@ -23,7 +23,7 @@ abbrev truth_of : Value → Bool
 truth_of (Truth b) = b
 truth_of _ = false
 
--- an order of all values, which is that of values where they are alike
+-- a total order of all values, which agrees with that of values of one type
 abbrev whole_cmp : Value → Value → Ordering
 whole_cmp = then_cmp (on number_of int_cmp) (then_cmp (on text_of (slice_cmp nat_cmp)) (on truth_of bool_cmp))
 
@@ -73,7 +73,7 @@ key_cmp-trans a b c e f p q =
     key_cmp-whole a c (AreAlike-trans a b c e f)
     ∙ (lists_total whole_total).trans a b c (sym (key_cmp-whole a b e) ∙ p) (sym (key_cmp-whole b c f) ∙ q)
 
--- two values, and so two keys, the other way round compare the other way
+-- swapping two values, and so two keys, reverses their order
 value_cmp-reversed : (x y : Value) → value_cmp x y ≡ ordering_reverse (value_cmp y x)
 value_cmp-reversed (Int a) (Int b) = int_cmp_total.antisymm a b
 value_cmp-reversed (Big a) (Big b) = int_cmp_total.antisymm a b

@@ -22,20 +22,20 @@ is_taken name topic relations = list_any (λ relation. has_name name relation ||
 abbrev pub IsTaken : List ℕ → List ℕ → List Relation → Type 0
 IsTaken name topic relations = IsTrue (is_taken name topic relations)
 
--- whether no two relations have a name or a topic in common
+-- whether all names and all topics of the relations differ
 abbrev pub are_distinct : List Relation → Bool
 are_distinct [] = true
 are_distinct (relation ∷ more) = not (is_taken relation.name relation.topic more) && are_distinct more
 
--- whether the relations are numbered one by one, from a number on
+-- whether the relations are numbered consecutively, starting from a number
 abbrev pub are_numbered : ℕ → List Relation → Bool
 are_numbered first [] = true
 are_numbered first (relation ∷ more) = (relation.number == first) && are_numbered (first + 1) more
 
--- relations whose numbers are their indices, and whose names and topics differ
+-- relations whose numbers are their indices, and whose names and topics all differ
 abbrev pub IsCatalog : List Relation → Type 0
 IsCatalog relations = IsTrue (are_numbered 0 relations && are_distinct relations)
 
--- each relation stands after its own name
+-- each relation is paired with its own name
 abbrev pub AreNamed : List (List ℕ × Relation) → Type 0
 AreNamed entries = IsTrue (list_all (λ entry. bytes_eq entry.0 entry.1.name) entries)

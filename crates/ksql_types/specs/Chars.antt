@@ -1,4 +1,4 @@
--- Texts as they are held.
+-- How texts are stored.
 use Rattle.std.specs.Prelude.{ℕ, List, ◌≤◌, length, take}
 use Rattle.std.specs.Arc.{arc_str_bytes}
 use Rattle.std.specs.Str.{IsUtf8}
@@ -12,7 +12,7 @@ abbrev pub bytes_in : Text → List ℕ
 bytes_in (Short s) = take s.len s.bytes
 bytes_in (Long t) = arc_str_bytes t
 
--- a text whose bytes stand in it
+-- a text stored in place
 pub record IsShortText (s : ShortText) : Type 0 where
   pub few : s.len ≤ 14
   pub utf8 : IsUtf8 (take s.len s.bytes)

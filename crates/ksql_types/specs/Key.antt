@@ -1,4 +1,4 @@
--- What a key is.
+-- Keys.
 use Rattle.std.specs.Prelude.{List, [], ◌∷◌, length, Bool, true, false, not, nat_le, ◌&&◌, IsTrue}
 use Rattle.std.specs.List.{list_all}
 use Rattle.ksql_types.specs.declared.key.KeyValues.{KeyValues}
@@ -11,14 +11,14 @@ abbrev pub is_null : Value → Bool
 is_null Null = true
 is_null _ = false
 
--- whether values make a key: at most eight values, none of which is NULL
+-- whether values form a key: at most eight values, none of which is NULL
 abbrev pub is_key : List Value → Bool
 is_key values = nat_le (length values) 8 && list_all (λ v. not (is_null v)) values
 
 abbrev pub IsKey : List Value → Type 0
 IsKey values = IsTrue (is_key values)
 
--- the values that stand in a key
+-- the values of a key
 abbrev pub values_of : KeyValues → List Value
 values_of (One value) = value ∷ []
 values_of (Several values) = values

@@ -1,17 +1,18 @@
--- Names of columns and topics (ksqlDB reference manual, "Identifiers" and "Pseudocolumns"; Apache Kafka, "Topic names").
+-- Names of columns and topics (ksqlDB reference manual, "Identifiers" and "Pseudocolumns"; Apache Kafka, "Topic
+-- names").
 use Rattle.std.specs.Prelude.{ℕ, Bool, true, not, ◌&&◌, ◌||◌, ◌==◌, nat_le, List, [], ◌∷◌, length, codes, bytes_eq}
 use Rattle.std.specs.List.{list_any, list_all}
 use Rattle.std.specs.Char.{is_ascii_alphanumeric}
 
--- whether a text is one of some
+-- whether a text is one of these
 abbrev pub is_among : List (List ℕ) → List ℕ → Bool
 is_among names name = list_any (bytes_eq name) names
 
--- names that no column has
+-- names that no column can have
 abbrev pub reserved_columns : List (List ℕ)
 reserved_columns = codes "ROWTIME" ∷ codes "ROWKEY" ∷ codes "WINDOWSTART" ∷ codes "WINDOWEND" ∷ []
 
--- whether names differ
+-- whether all names differ
 abbrev pub are_distinct : List (List ℕ) → Bool
 are_distinct [] = true
 are_distinct (name ∷ names) = not (is_among names name) && are_distinct names

@@ -8,7 +8,7 @@ use Rattle.ksql_types.specs.declared.relation.TaskName.{TaskName}
 use Rattle.ksql_types.specs.declared.value.Value.{Value}
 use Rattle.ksql_types.specs.declared.value.Value.TheVariants.{Int, Big, Txt, Bool as Truth}
 
--- whether two values have the same type; a NULL is like none
+-- whether two values have the same type; NULL has the type of no value
 abbrev pub is_alike : Value → Value → Bool
 is_alike (Int a) (Int b) = true
 is_alike (Big a) (Big b) = true
@@ -16,7 +16,7 @@ is_alike (Txt a) (Txt b) = true
 is_alike (Truth a) (Truth b) = true
 is_alike _ _ = false
 
--- two lists are as long, and their values have, one by one, the same types
+-- two lists have the same length, and their values the same types in order
 abbrev pub AreAlike : List Value → List Value → Type 0
 AreAlike a b = IsTrue (pointwise is_alike a b)
 
@@ -32,6 +32,6 @@ value_cmp _ _ = Equal
 abbrev pub key_cmp : List Value → List Value → Ordering
 key_cmp = slice_cmp value_cmp
 
--- how two tasks compare: by the sub-topology, and then by the partition
+-- how two tasks compare: by sub-topology, then by partition
 abbrev pub task_cmp : TaskName → TaskName → Ordering
 task_cmp a b = ordering_then (nat_cmp a.sub b.sub) (nat_cmp a.part b.part)

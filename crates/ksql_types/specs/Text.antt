@@ -5,6 +5,6 @@ use Rattle.std.specs.Prelude.{ℕ}
 unfoldable pub longest_text : ℕ
 longest_text = 1048576
 
--- the most bytes of a text that is a value
+-- the most bytes of a VARCHAR value
 abbrev pub longest_value : ℕ
 longest_value = 65536

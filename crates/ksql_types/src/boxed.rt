@@ -19,14 +19,14 @@ impl<T> Model for Boxed<T> {
 }
 
 impl<T> Boxed<T> {
-    /// The value, lent.
+    /// The value, borrowed.
     pub fn get(&self) -> &T
         ensures { result.now ≡ self.now }
     {
         &self.inner
     }
 
-    /// The value, given back.
+    /// Takes the value off the heap.
     pub fn into_inner(self) -> T
         ensures { result ≡ self }
     {

@@ -9,15 +9,15 @@ use indexmap::IndexMap;
 use std::alloc::{AllocError, AllocFailed, Global};
 use std::marker::Model;
 
-/// Why a relation isn't added: a relation has its name or its topic, or out of memory.
+/// Why a relation can't be added: another one has its name or its topic, or out of memory.
 #[derive(Clone, Copy, Debug, PartialEq, Eq)]
 pub enum AddRefusal {
     NameTaken,
     OutOfMemory,
 }
 
-/// The relations of a script, in the order in which they were added. The number of each is its index, and no two have
-/// a name or a topic in common.
+/// The relations of a script, in the order in which they were added. A relation's number is its index, and no two
+/// relations share a name or a topic.
 #[derive(Drop)]
 pub struct Catalog {
     by_name: IndexMap<Chars, Relation>,
@@ -37,7 +37,7 @@ impl Model for Catalog {
 }
 
 impl Catalog {
-    /// No relations. Takes no memory.
+    /// An empty catalog. Takes no memory.
     pub fn new(alloc: Global) -> Catalog
         ensures { result ≡ [] }
     {
@@ -46,7 +46,7 @@ impl Catalog {
         }
     }
 
-    /// Adds a relation after the others. Where it answers an error the catalog is as before.
+    /// Appends a relation. After an error the catalog is unchanged.
     pub fn add(&mut self, alloc: Global, relation: Relation) -> Result<(), AddRefusal>
         requires { relation.number ≡ length self.old }
         ensures added { OnOk result (self.new ≡ self.old ++ relation ∷ []) }
@@ -62,7 +62,7 @@ impl Catalog {
         Ok(())
     }
 
-    /// The relation with the name.
+    /// The relation with this name.
     pub fn find(&self, name: &Chars) -> Option<&Relation>
         ensures value { option_copied result ≡ find_named name.now self.now }
         ensures none { is_none result ≡ not (list_any (has_name name.now) self.now) }
@@ -71,14 +71,14 @@ impl Catalog {
         self.by_name.get(name)
     }
 
-    /// The relation with the number.
+    /// The relation with this number.
     pub fn get(&self, number: u32) -> Option<&Relation>
         ensures { option_copied result ≡ slice_get self.now number }
     {
         self.items().get(number as usize)
     }
 
-    /// The relations, lent.
+    /// All relations, in the order of their numbers.
     pub fn items(&self) -> &[Relation]
         ensures value { result.now ≡ self.now }
         ensures catalog { IsCatalog self.now }
@@ -86,7 +86,7 @@ impl Catalog {
         self.by_name.values().as_slice()
     }
 
-    /// Whether a relation has the name or the topic.
+    /// Whether a relation has this name or this topic.
     fn is_taken(&self, name: &Chars, topic: &Chars) -> bool
         ensures { result ≡ is_taken name.now topic.now self.now }
     {

@@ -16,14 +16,14 @@ use std::hash::{Hash, Hasher};
 use std::marker::Model;
 use std::sync::ArcStr;
 
-/// A text of at most 1,048,576 bytes of UTF-8, which contracts see as the list of its bytes. A copy of a long text shares its
-/// bytes.
+/// A text of at most 1,048,576 bytes of UTF-8, which contracts see as the list of its bytes. A copy of a long text
+/// shares its bytes.
 #[derive(Debug, Drop)]
 pub struct Chars {
     text: Text,
 }
 
-/// A text of at most 14 bytes stands in the value itself.
+/// A text of at most 14 bytes is stored in place.
 #[derive(Debug, Drop)]
 enum Text {
     Short(ShortText),
@@ -51,7 +51,7 @@ impl Model for Chars {
 }
 
 impl Chars {
-    /// The text.
+    /// A text of at most 1,048,576 bytes as `Chars`.
     pub fn of(text: String) -> Result<Chars, AllocError>
         requires { string_len text ≤ longest_text }
         ensures { IfOk result (λ made. made ≡ string_bytes text) }
@@ -75,7 +75,7 @@ impl Chars {
         Ok(Chars { text })
     }
 
-    /// The text, lent.
+    /// The text, borrowed.
     #[tactic(auto, unfolding(crate::specs::Text::longest_text))]
     pub fn items(&self) -> &str
         ensures value { result.now ≡ self.now }

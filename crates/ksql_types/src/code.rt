@@ -1,4 +1,4 @@
-/// Why a script is refused. Their numbers are S1 to S16, in this order.
+/// Why a script is refused. The codes are S1 to S16, in this order.
 #[derive(Clone, Copy, Debug, PartialEq, Eq)]
 pub enum Code {
     Syntax,

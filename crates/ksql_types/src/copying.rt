@@ -2,9 +2,9 @@ ghost use Rattle.std.specs.Prelude.{◌≡◌, IfOk};
 
 use std::alloc::{AllocError, Global};
 
-/// Plain data that can be copied: the copy equals what it copies, as contracts see both.
+/// Plain data that can be copied: contracts see the copy as equal to the original.
 pub trait CopyOf: Drop {
-    /// An equal value.
+    /// A copy, equal to `self`.
     fn copy(&self, alloc: Global) -> Result<Self, AllocError>
     where
         Self: Sized,

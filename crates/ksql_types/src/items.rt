@@ -29,7 +29,7 @@ impl<T> Items<T> {
         Items { inner }
     }
 
-    /// The elements, lent.
+    /// The elements, borrowed.
     pub fn items(&self) -> &[T]
         ensures { result.now ≡ self.now }
     {

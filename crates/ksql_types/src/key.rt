@@ -9,14 +9,14 @@ use std::alloc::{AllocError, Global};
 use std::array;
 use std::marker::Model;
 
-/// The values of a key: most keys have one, which takes no list.
+/// The values of a key. Most keys have one value, which needs no list.
 #[derive(Debug, Drop)]
 enum KeyValues {
     One(Value),
     Several(Items<Value>),
 }
 
-/// A key: at most 8 values, none of which is `Null`. The empty list is no key.
+/// A key: at most 8 values, none of which is `Null`. The empty list means no key.
 #[derive(Debug, Drop)]
 pub struct Key {
     values: KeyValues,
@@ -57,14 +57,14 @@ impl Key {
         Key { values }
     }
 
-    /// Whether these values make a key.
+    /// Whether these values form a key.
     pub fn is_key(values: &[Value]) -> bool
         ensures { result ≡ is_key values.now }
     {
         values.len() <= 8 && are_present(values)
     }
 
-    /// The values, lent.
+    /// The values, borrowed.
     pub fn items(&self) -> &[Value]
         ensures value { result.now ≡ self.now }
         ensures key { IsKey self.now }
@@ -76,7 +76,7 @@ impl Key {
     }
 }
 
-/// The only value of a list of one, or the list.
+/// The only value of a list of one, or else the list itself.
 fn single(values: Vec<Value>) -> Result<Value, Vec<Value>>
     ensures one { IfOk result (λ value. values.items ≡ value ∷ []) }
     ensures several { IfErr result (λ same. same.items ≡ values.items) }

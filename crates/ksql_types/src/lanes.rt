@@ -8,8 +8,8 @@ use crate::key::Key;
 use crate::value::Value;
 use std::alloc::{AllocError, Global};
 
-/// The bytes of a key: of one value its own bytes, and of several values each one's after their length as 4 bytes. A
-/// text is its UTF-8, an INTEGER 4 and a BIGINT 8 bytes, a BOOLEAN one byte; numbers are big-endian.
+/// The bytes of a key: a single value's own bytes, or for several values the bytes of each after their length as 4
+/// bytes. A text is its UTF-8, an INTEGER 4 and a BIGINT 8 bytes, a BOOLEAN one byte; numbers are big-endian.
 pub fn key_bytes(alloc: Global, key: &Key) -> Result<Bytes, AllocError>
     ensures { IfOk result (λ bytes. bytes ≡ spec.key_bytes key.now) }
 {
@@ -21,7 +21,8 @@ pub fn key_bytes(alloc: Global, key: &Key) -> Result<Bytes, AllocError>
     Ok(Items::of(out))
 }
 
-/// The partition of a key among `n`: the hash of its bytes modulo `n`, and of no key that of its home. Takes no memory.
+/// The partition of a key among `n`: the hash of its bytes modulo `n`, or `home` modulo `n` for no key. Takes no
+/// memory.
 #[tactic(auto, unfolding(crate::specs::Lane::hash))]
 pub fn lane(key: &Key, n: u32, home: u32) -> u32
     requires some { 1 ≤ n }
@@ -49,7 +50,7 @@ fn put_value(out: &mut Vec<u8>, value: &Value) -> Result<(), AllocError>
     }
 }
 
-/// Appends the bytes of each value after their length.
+/// Appends each value's length and bytes.
 fn put_values(out: &mut Vec<u8>, values: &[Value]) -> Result<(), AllocError>
     ensures { OnOk result (out.new.items ≡ out.old.items ++ flat_map (λ v. after_length (value_bytes v)) values.now) }
 {
@@ -60,7 +61,7 @@ fn put_values(out: &mut Vec<u8>, values: &[Value]) -> Result<(), AllocError>
     Ok(())
 }
 
-/// How many bytes a value has.
+/// The number of bytes of a value.
 #[tactic(auto, unfolding(crate::specs::Text::longest_text))]
 fn value_len(value: &Value) -> u32
     ensures { result ≡ length (value_bytes value.now) }
@@ -74,7 +75,7 @@ fn value_len(value: &Value) -> u32
     }
 }
 
-/// What bytes make of the hash of those before them.
+/// The hash `before`, continued over these bytes.
 fn hash_bytes(before: u32, bytes: &[u8]) -> u32
     ensures { result ≡ fold hash_step before bytes.now }
 {
@@ -83,7 +84,7 @@ fn hash_bytes(before: u32, bytes: &[u8]) -> u32
     })
 }
 
-/// What the bytes of a value make of the hash of those before them.
+/// The hash `before`, continued over the bytes of a value.
 fn hash_value(before: u32, value: &Value) -> u32
     ensures { result ≡ fold hash_step before (value_bytes value.now) }
 {
@@ -96,7 +97,7 @@ fn hash_value(before: u32, value: &Value) -> u32
     }
 }
 
-/// The hash of the bytes of values, each after its length.
+/// The hash of the values' bytes, each after its length.
 #[tactic(auto, unfolding(crate::specs::Lane::hash))]
 fn hash_values(values: &[Value]) -> u32
     ensures { result ≡ spec.hash (flat_map (λ v. after_length (value_bytes v)) values.now) }

@@ -1,4 +1,4 @@
-//! The values, keys, rows and schemas that every crate of `ksql` speaks of.
+//! The values, keys, rows and schemas that all crates of `ksql` share.
 #![tactic(auto)]
 
 mod boxed;
@@ -27,7 +27,7 @@ pub use key::Key;
 pub use lanes::{key_bytes, lane};
 pub use names::{are_column_names, is_among, is_topic_name};
 pub use operator::BinaryOp;
-pub use order::{cmp_key, cmp_task, keys_are_ordered};
+pub use order::{cmp_key, keys_are_ordered};
 pub use relation::{
     Changelog, Column, Columns, Format, Kind, Relation, Schema, Span, StoreEntry, TaskName, Window,
 };

@@ -6,13 +6,13 @@ ghost use Rattle.ksql_types.specs.Names as spec;
 
 use crate::chars::Chars;
 
-/// Names that no column has.
+/// Names that no column can have.
 const RESERVED_COLUMNS: [&str; 4] = ["ROWTIME", "ROWKEY", "WINDOWSTART", "WINDOWEND"];
 
-/// The most bytes of a topic's name.
+/// The most bytes of a topic name.
 const LONGEST_TOPIC: usize = 249;
 
-/// Whether a text is one of some.
+/// Whether `name` is one of `words`.
 pub fn is_among(words: &[&str], name: &str) -> bool
     ensures { result ≡ spec.is_among (map (λ word. word.now) words.now) name.now }
 {
@@ -65,7 +65,7 @@ fn are_free(names: &[&Chars]) -> bool
     true
 }
 
-/// Whether columns can have these names: they differ, and none is reserved.
+/// Whether columns can have these names: all differ, and none is reserved.
 pub fn are_column_names(names: &[&Chars]) -> bool
     ensures { result ≡ spec.are_column_names (map (λ name. name.now) names.now) }
 {

@@ -1,15 +1,14 @@
 ghost use Rattle.std.specs.Prelude.{◌≡◌, List, ◌↔◌};
 ghost use Rattle.std.specs.Ordering.{ordering_reverse};
 ghost use Rattle.ksql_types.specs.declared.value.Value.{Value as OneValue};
-ghost use Rattle.ksql_types.specs.Order.{AreAlike, key_cmp, task_cmp, value_cmp};
+ghost use Rattle.ksql_types.specs.Order.{AreAlike, key_cmp, value_cmp};
 
 use crate::key::Key;
-use crate::relation::TaskName;
 use crate::value::Value;
 use std::cmp::Ordering;
 
-/// How two keys compare, whose values have one by one the same types: the first values that differ decide, numbers by
-/// value, texts by their bytes, false before true. Takes no memory.
+/// Compares two keys whose values have the same types in order: the first values that differ decide, numbers by value,
+/// texts by their bytes, false before true. Takes no memory.
 pub fn cmp_key(a: &Key, b: &Key) -> Ordering
     requires { AreAlike a.now b.now }
     ensures { result ≡ key_cmp a.now b.now }
@@ -23,7 +22,7 @@ pub fn cmp_key(a: &Key, b: &Key) -> Ordering
     Ordering::Equal
 }
 
-/// How two values of the same type compare.
+/// Compares two values of the same type.
 fn cmp_value(a: &Value, b: &Value) -> Ordering
     ensures { result ≡ value_cmp a.now b.now }
 {
@@ -36,15 +35,8 @@ fn cmp_value(a: &Value, b: &Value) -> Ordering
     }
 }
 
-/// How two tasks compare: by the sub-topology, and then by the partition. Takes no memory.
-pub fn cmp_task(a: &TaskName, b: &TaskName) -> Ordering
-    ensures { result ≡ task_cmp a.now b.now }
-{
-    a.cmp(b)
-}
-
-/// The order of keys is a total one: a key equals itself and no other key of its types, two keys the other way round
-/// compare the other way, and one below a second that is below a third is below the third. Does nothing.
+/// The order of keys is total: a key equals itself and no other key of its types, swapping two keys reverses their
+/// order, and the order is transitive. Does nothing.
 pub fn keys_are_ordered()
     ensures reflexive { (a : List OneValue) → key_cmp a a ≡ Ordering.Equal }
     ensures antisymmetric { (a b : List OneValue) → AreAlike a b → (key_cmp a b ≡ Ordering.Equal) ↔ (a ≡ b) }

@@ -12,17 +12,17 @@ pub struct Column {
     pub ty: SqlType,
 }
 
-/// Columns in their order.
+/// Columns, in order.
 pub type Columns = Items<Column>;
 
-/// The columns of a relation: those of its key, and then those of its value.
+/// The columns of a relation: key columns first, then value columns.
 #[derive(Debug, Drop)]
 pub struct Schema {
     pub keys: Columns,
     pub values: Columns,
 }
 
-/// What a relation is: a stream, a table, or a table whose rows have a window.
+/// The kind of a relation: a stream, a table, or a table whose rows have a window.
 #[derive(Clone, Copy, Debug, PartialEq, Eq)]
 pub enum Kind {
     Stream,
@@ -30,15 +30,15 @@ pub enum Kind {
     Windowed,
 }
 
-/// How the values of a topic are written.
+/// The format of a topic's values.
 #[derive(Clone, Copy, Debug, PartialEq, Eq)]
 pub enum Format {
     Json,
     Delimited,
 }
 
-/// A stream or a table of a script. Its number is its index among the script's relations, and its topic has the
-/// same number; `partitions` is 1 to 64; `declared` is false for the result of a query.
+/// A stream or a table of a script. Its number is its index among the script's relations, and its topic has the same
+/// number. `partitions` is 1 to 64. `declared` is false for the result of a query.
 #[derive(Debug, Drop)]
 pub struct Relation {
     pub number: u32,
@@ -58,8 +58,8 @@ pub struct Span {
     pub end: u64,
 }
 
-/// The windows of a grouped query, in milliseconds: they start at the multiples of `advance` and last `size`. A record
-/// comes too late for a window that ended `grace` before stream time.
+/// The windows of a grouped query, in milliseconds: they start at multiples of `advance` and last `size`. A record is
+/// too late for a window that ended `grace` before stream time.
 #[derive(Clone, Copy, Debug, PartialEq, Eq)]
 pub struct Window {
     pub size: u64,
@@ -67,15 +67,15 @@ pub struct Window {
     pub grace: u64,
 }
 
-/// A task: the partition `part` of the sub-topology `sub`.
+/// A task: partition `part` of sub-topology `sub`.
 #[derive(Clone, Copy, Debug, PartialEq, Eq, PartialOrd, Ord)]
 pub struct TaskName {
     pub sub: u32,
     pub part: u32,
 }
 
-/// What a commit says of one key of a state store: its value, or None where it is deleted. `store` is 0 for `left`, 1 for
-/// `right` and 2 for `aggregate`.
+/// A committed change of one key of a state store: its new value, or None if it is deleted. `store` is 0 for `left`, 1
+/// for `right` and 2 for `aggregate`.
 #[derive(Debug, Drop)]
 pub struct StoreEntry {
     pub store: u32,
@@ -83,7 +83,7 @@ pub struct StoreEntry {
     pub value: Option<Bytes>,
 }
 
-/// Entries in the order of their writing.
+/// Entries in the order in which they were written.
 pub type Changelog = Items<StoreEntry>;
 
 impl CopyOf for Column {

@@ -2,8 +2,8 @@ use crate::chars::Chars;
 use crate::copying::CopyOf;
 use std::alloc::{AllocError, Global};
 
-/// A topic of a topology, whose number is its index among the topics; `partitions` is 1 to 64. It is a source, or the tasks
-/// of one sub-topology write it.
+/// A topic of a topology, whose number is its index among the topics. `partitions` is 1 to 64. It is a source, or the
+/// tasks of one sub-topology write it.
 #[derive(Debug, Drop)]
 pub struct TopicSpec {
     pub number: u32,
@@ -12,7 +12,7 @@ pub struct TopicSpec {
     pub writer: Option<Writer>,
 }
 
-/// The tasks that write a topic: those of the sub-topology `sub`, which has so many partitions.
+/// The tasks that write a topic: those of sub-topology `sub`, which has `partitions` partitions.
 #[derive(Clone, Copy, Debug, PartialEq, Eq)]
 pub struct Writer {
     pub sub: u32,

@@ -6,7 +6,7 @@ use crate::copying::CopyOf;
 use crate::items::Items;
 use std::alloc::{AllocError, Global};
 
-/// The most bytes of a text that is a value.
+/// The most bytes of a VARCHAR value.
 pub const LONGEST_VALUE: usize = 65_536;
 
 /// The type of a column or an expression: INTEGER, BIGINT, VARCHAR or BOOLEAN.
@@ -18,7 +18,7 @@ pub enum SqlType {
     Bool,
 }
 
-/// A value of a cell. `Null` is of every type; a text that is a value has at most `LONGEST_VALUE` bytes.
+/// The value of a cell. `Null` belongs to every type; a text has at most `LONGEST_VALUE` bytes.
 #[derive(Debug, Drop)]
 pub enum Value {
     Null,

@@ -27,14 +27,14 @@ impl Model for Word {
 }
 
 impl Word {
-    /// The word. Takes no memory.
+    /// Wraps a text as a word. Takes no memory.
     pub fn of(text: String) -> Word
         ensures { result ≡ string_bytes text }
     {
         Word { text }
     }
 
-    /// The text, lent.
+    /// The text, borrowed.
     pub fn items(&self) -> &str
         ensures value { result.now ≡ self.now }
         ensures utf8 { IsUtf8 self.now }

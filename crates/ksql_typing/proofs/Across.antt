@@ -1,4 +1,4 @@
--- The trees of an expression in two scopes, in which its names stand for the same, are one.
+-- The trees of an expression in two scopes, where its names stand for the same, are equal.
 use Rattle.std.proofs.Common.{◌≡◌, ℕ, Bool, true, false, not, ◌&&◌, List, [], ◌∷◌, map, Option, Some, None, refl, ap, sym, ◌∙◌, subst}
 use Rattle.std.specs.List.{AllByRecursion as Each}
 use Rattle.std.proofs.lemmas.Option.{same_Some}
@@ -20,7 +20,7 @@ use Rattle.ksql_typing.specs.Standing.{IsTypedTree, digits_value}
 use Rattle.ksql_typing.proofs.Equations as q
 use Rattle.ksql_typing.proofs.OneTyping.{tree-made}
 
--- where a name stands for one thing in either scope, it stands for the same
+-- if a name stands for exactly one thing in both scopes, it is the same thing
 abbrev pub Agree : Scope → Scope → Type 0
 Agree s s2 = (qualifier : Option (List ℕ)) (name : List ℕ) (o p : Meaning) → meanings s qualifier name ≡ o ∷ [] → meanings s2 qualifier name ≡ p ∷ [] → o ≡ p
 
@@ -34,7 +34,7 @@ heads k = cc
 pub agree-itself : (s : Scope) → Agree s s
 agree-itself s qualifier name o p k l = heads (sym k ∙ l)
 
--- where both are there they are one
+-- if both exist they are equal
 abbrev Same : {A : Type 0} → Option A → Option A → Type 0
 Same {A} o p = (x y : A) → o ≡ Some x → p ≡ Some y → x ≡ y
 

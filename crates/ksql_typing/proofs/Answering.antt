@@ -23,7 +23,7 @@ use Rattle.ksql_typing.specs.Typed.{Answers, HasFault}
 use Rattle.ksql_typing.proofs.MadeTrees.{makes-tree}
 use Rattle.ksql_typing.proofs.OneTyping.{tree-made, not-both, one-fault}
 
--- where there is a type and each function is known, a tree is made
+-- if there is a type and each function is known, there is a tree
 tree-of : (s : Scope) (a : Expr) (t : Option SqlType) → has_unknown_function a ≡ false → (h : HasType s a t) → made a s ≡ Some h.0
 tree-of s a t known h = tree-made s a h.0 (h.1, known)
 

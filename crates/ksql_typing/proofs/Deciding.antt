@@ -1,4 +1,4 @@
--- For each type in the set of an expression a tree of that type stands for it.
+-- For each type in the set of an expression there is a tree of that type.
 use Rattle.std.proofs.Common.{◌≡◌, ℕ, Bool, true, false, not, ◌&&◌, ◌||◌, if◌then◌else◌, List, [], ◌∷◌, map, Option, Some, None, is_some, refl, ap, ap₂, sym, ◌∙◌}
 use Rattle.std.specs.Prelude.{option_map}
 use Rattle.std.specs.List.{list_all, AllByRecursion as Each}

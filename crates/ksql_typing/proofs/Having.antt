@@ -1,4 +1,4 @@
--- Where a tree stands for an expression its names are clear.
+-- If an expression has a tree, its names are unambiguous.
 use Rattle.std.proofs.Common.{◌≡◌, ℕ, Bool, true, false, ◌||◌, if◌then◌else◌, List, [], ◌∷◌, ◌++◌, map, length, is_some, refl, ap, ◌∙◌}
 use Rattle.std.specs.List.{list_any}
 use Rattle.ksql_expr.specs.declared.typed.AggFun.TheVariants.{Count}

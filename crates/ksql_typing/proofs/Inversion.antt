@@ -69,7 +69,7 @@ one-type cs (TypedNode-F.Case x ws z) t u k l = same-some k.3 l.3
 one-type cs (TypedNode-F.Call f es) t u k l = same-some k.1 l.1
 one-type cs (TypedNode-F.Aggregate f a) t u k l = same-some k.1 l.1
 
--- two trees of one form are one
+-- two trees of one form are equal
 pub whole : (cs : List (Option SqlType)) (x y : Typed) → HasTypes cs (w.one x) → HasTypes cs (w.one y) → x.node ≡ y.node → x ≡ y
 whole cs x y h k is =
     ap₂ of (one-type cs (out-TypedNode y.node) x.ty y.ty (subst (λ v. Checks cs x.ty (out-TypedNode v)) is (checks h)) (checks k)) is

@@ -1,4 +1,4 @@
--- What is found out of an expression, from what is found out of its parts: one equation for each form.
+-- The findings about an expression, given those about its parts: one equation for each form.
 use Rattle.std.proofs.lemmas.Bool.Decides.{nat_tests}
 use Rattle.std.proofs.Common.{◌≡◌, ℕ, suc, arith, Bool, true, false, not, ◌&&◌, ◌||◌, if◌then◌else◌, List, [], ◌∷◌, ◌++◌, map, length, Option, Some, None, refl, ap, ap₂, sym, ◌∙◌}
 use Rattle.std.specs.Prelude.{◌==◌, nat_lt}
@@ -38,7 +38,7 @@ lost s = counted (λ n. n == 0) s
 abbrev several : Scope → Use → Bool
 several s = counted (λ n. nat_lt 1 n) s
 
--- a test over names that stand in two or three parts
+-- a test on names in two or three parts
 two : (t : Use → Bool) (us xs ys : List Use) → us ≡ xs ++ ys → list_any t us ≡ (list_any t xs || list_any t ys)
 two t us xs ys h = ap (list_any t) h ∙ list_any-append t xs ys
 

@@ -1,4 +1,4 @@
--- Each function in an expression is known exactly where each in its parts is.
+-- Each function in an expression is known exactly if each in its parts is.
 use Rattle.std.proofs.Common.{◌≡◌, ℕ, Bool, false, ◌||◌, List, ◌++◌, map, ap, ap₂, sym, ◌∙◌}
 use Rattle.std.specs.List.{list_any}
 use Rattle.std.proofs.lemmas.Bool.{or_parts}

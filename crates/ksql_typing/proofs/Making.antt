@@ -1,5 +1,5 @@
--- What stands for an expression whose functions are known is the tree that is made of it, and has its types on a row of the
--- scope.
+-- What stands for an expression whose functions are known is the tree that is made of it, and has its types on a row of
+-- the scope.
 use Rattle.std.proofs.Common.{◌≡◌, ℕ, Bool, true, false, not, ◌&&◌, if◌then◌else◌, List, [], ◌∷◌, ◌++◌, map, Option, Some, None, is_some, refl, ap, ap₂, ◌∙◌, subst, nat_le}
 use Rattle.std.specs.Prelude.{option_map, pos}
 use Rattle.std.proofs.lemmas.Bool.{both_ways}

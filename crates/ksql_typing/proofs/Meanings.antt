@@ -25,7 +25,7 @@ typed-where : (cs : List (Option SqlType)) (b : Bool) (ms os : List Meaning) →
 typed-where cs true ms os k l = k
 typed-where cs false ms os k l = l
 
--- columns whose types stand in a row from an index on
+-- columns whose types are in a row from an index on
 abbrev StandFrom : List (Option SqlType) → ℕ → List ScopeColumn → Type 0
 StandFrom cs i [] = Unit {0}
 StandFrom cs i (p ∷ ps) = (slice_get cs i ≡ Some (Some p.column.ty)) × StandFrom cs (suc i) ps

@@ -32,7 +32,7 @@ tree-made s a x h = (gives-tree s a x h).0
 pub checked : (s : Scope) (a : Expr) (x : Typed) → IsTypedTree s a x → IsTyped (column_types s) x
 checked s a x h = (gives-tree s a x h).1
 
--- it is what is answered
+-- it is the result
 pub tree-answered : (s : Scope) (a : Expr) (x : Typed) → IsTypedTree s a x → (v : Judged) → v ≡ judged a s → j.answer v ≡ Ok x
 unfolding judged
 tree-answered s a x h v k =

@@ -1,4 +1,4 @@
--- A number that falls with each call as an expression is gone through: three for each expression in it.
+-- A number that falls with each call in a walk over an expression: three for each expression in it.
 use Rattle.std.proofs.Common.{◌≡◌, ℕ, ◌+◌, ◌<◌, ◌≤◌, Bool, List, map, length, Option, Some, None, get_or, refl, ap, ap₂, sym, ◌∙◌, subst, arith}
 use Rattle.std.specs.List.{sum, sum_by}
 use Rattle.std.proofs.lemmas.List.Sums.{sum-map, get_or-le-sum_by}

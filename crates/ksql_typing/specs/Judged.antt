@@ -1,4 +1,4 @@
--- All that is found out of an expression at once, from what is found out of its parts.
+-- The findings about an expression, computed at once from those about its parts.
 use Rattle.std.specs.Prelude.{◌≡◌, ℕ, Bool, true, false, ◌||◌, List, [], ◌∷◌, map, Option, Some, None, option_map, if◌then◌else◌, Result, Ok, Err}
 use Rattle.std.specs.List.{list_any}
 use Rattle.ksql_types.specs.declared.operator.BinaryOp.{BinaryOp}
@@ -26,12 +26,12 @@ use Rattle.ksql_typing.specs.declared.fault.TypeFault.{TypeFault}
 use Rattle.ksql_typing.specs.declared.fault.TypeFault.TheVariants.{UnknownColumn, AmbiguousColumn, TypeMismatch, Unsupported}
 use Rattle.ksql_typing.specs.Made as made
 
--- what is found out of an expression in a scope: its typed tree, the types that it can have, and whether a name in it
+-- the findings about an expression in a scope: its typed tree, the types that it can have, and whether a name in it
 -- stands for nothing or for several things
 unfoldable pub judged : Expr → Scope → Judged
 judged a s = record { tree = made.made a s; types = possible a s; unknown = has_unknown_name s a; ambiguous = has_ambiguous_name s a }
 
--- the same of a condition and its result
+-- the same for a condition and its result
 pub record JudgedWhen : Type 0 where
   pub cond : Judged
   pub result : Judged
@@ -39,7 +39,7 @@ pub record JudgedWhen : Type 0 where
 abbrev pub judged_when : Scope → WhenText → JudgedWhen
 judged_when s w = record { cond = judged w.cond s; result = judged w.result s }
 
--- what is made of a tree, where there is one
+-- what a tree gives, if any
 abbrev pub after : {A B : Type 0} → Option A → (A → Option B) → Option B
 after o f = o >>= f
 
@@ -71,14 +71,14 @@ unknown x = x.unknown
 abbrev pub ambiguous : Judged → Bool
 ambiguous x = x.ambiguous
 
--- what is kept of some parts
+-- the findings about several parts
 pub record AreOf (p : Parts) (xs : List Judged) : Type 0 where
   pub trees_are : option_map (λ v. v.items) p.trees ≡ trees xs
   pub types_are : p.types.items ≡ types_of xs
   pub unknown_is : p.unknown ≡ list_any unknown xs
   pub ambiguous_is : p.ambiguous ≡ list_any ambiguous xs
 
--- and of some WHENs
+-- the findings about several WHENs
 pub record AreOfWhens (p : WhenParts) (ws : List JudgedWhen) : Type 0 where
   pub trees_are : option_map (λ v. v.items) p.trees ≡ when_trees ws
   pub conds_are : p.conds.items ≡ cond_types ws
@@ -94,7 +94,7 @@ sure tree t = record { tree = tree; types = types.where_found true (Some t); unk
 abbrev pub null : Judged
 null = record { tree = made.literal_tree value.Null; types = types.where_found true None; unknown = false; ambiguous = false }
 
--- a name that has no one meaning
+-- a name without exactly one meaning
 abbrev pub lost : Bool → Bool → Judged
 lost unknown ambiguous = record { tree = None; types = types.no_types; unknown = unknown; ambiguous = ambiguous }
 
@@ -106,7 +106,7 @@ named (Some (Some m)) = sure (Some (of (Some m.1) m.0)) m.1
 abbrev pub when : Judged → Judged → JudgedWhen
 when cond result = record { cond = cond; result = result }
 
--- a form of one part
+-- a form with one part
 abbrev pub one : Judged → (Typed → Option Typed) → (Types → Types) → Judged
 one x tree types = record { tree = x.tree >>= tree; types = types x.types; unknown = x.unknown; ambiguous = x.ambiguous }
 
@@ -149,7 +149,7 @@ like negated pattern x = one x (made.like_tree negated pattern) (types.fitting s
 abbrev pub cast : SqlType → Judged → Judged
 cast to x = one x (made.cast_tree to) (types.cast_types to)
 
--- a part that is left out, and one that is there
+-- an optional part that is left out, and one that is present
 abbrev pub left_out : Perhaps
 left_out = record { tree = Some None; types = None; unknown = false; ambiguous = false }
 
@@ -176,7 +176,7 @@ call f star args = record {
   ambiguous = list_any ambiguous args;
 }
 
--- ---- what is answered
+-- ---- the result
 
 abbrev pub refusal : Types → Bool → Bool → TypeFault
 refusal found unknown ambiguous =

@@ -1,4 +1,4 @@
--- The typed tree of an expression, made from those of its parts; None where there is none.
+-- The typed tree of an expression, built from those of its parts; None if there is none.
 use Rattle.std.specs.Prelude.{ℕ, Bool, true, false, if◌then◌else◌, List, [], ◌∷◌, Option, Some, None}
 use Rattle.ksql_types.specs.declared.operator.BinaryOp.{BinaryOp}
 use Rattle.ksql_types.specs.declared.value.SqlType.{SqlType}
@@ -23,9 +23,9 @@ use Rattle.ksql_scopes.specs.Scope.{Meaning, meanings}
 use Rattle.ksql_typing.specs.Possible.{scope_within}
 use Rattle.ksql_typing.specs.Standing.{digits_value, type_of_case}
 
--- ---- a form, made of typed parts
+-- ---- a form built from typed parts
 
--- a form, where it has a type
+-- a form, if it has a type
 abbrev pub with_type : Option (Option SqlType) → TypedNode → Option Typed
 with_type None form = None
 with_type (Some t) form = Some (of t form)
@@ -88,7 +88,7 @@ Tree = Scope → Option Typed
 abbrev pub WhenTree : Type 0
 WhenTree = Scope → Option TypedWhen
 
--- a part that may be left out
+-- an optional part
 abbrev pub perhaps_there : Scope → Option Tree → Option (Option Typed)
 perhaps_there s None = Some None
 perhaps_there s (Some f) = f s >>= λ x. Some (Some x)
@@ -106,7 +106,7 @@ agg_call_tree f star args = None
 abbrev pub fun_call_tree : Fun → Bool → List Typed → Option Typed
 fun_call_tree f star args = if star then None else call_tree f args
 
--- a call, from the functions of its name and its arguments
+-- a call, given the functions with its name and its arguments
 abbrev pub named_tree : Option AggFun → Option Fun → Bool → List Typed → Option Typed
 named_tree (Some f) _ star args = agg_call_tree f star args
 named_tree None (Some f) star args = fun_call_tree f star args
@@ -133,6 +133,6 @@ tree_step (Expr-F.Call f star args) s = all_there (scope_within f s) args >>= na
 abbrev pub when_step : WhenText-F Tree WhenTree → WhenTree
 when_step w s = w.cond s >>= λ x. w.result s >>= λ y. Some (typed_when x y)
 
--- the typed tree that is made of an expression in a scope
+-- the typed tree of an expression in a scope
 unfoldable pub made : Expr → Tree
 made = fold-Expr Tree WhenTree tree_step when_step

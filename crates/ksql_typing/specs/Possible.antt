@@ -1,4 +1,4 @@
--- The set of types that an expression can have, made from those of its parts.
+-- The set of types that an expression can have, computed from those of its parts.
 use Rattle.std.specs.Prelude.{ℕ, true, not, ◌&&◌, List, [], ◌∷◌, map, Option, Some, None}
 use Rattle.ksql_types.specs.declared.value.SqlType.TheVariants as sql
 use Rattle.expression_trees.specs.declared.tree.Expr.{Expr, fold-Expr}
@@ -14,11 +14,11 @@ abbrev pub name_types : List Meaning → Types
 name_types (m ∷ []) = where_found true (Some m.1)
 name_types _ = no_types
 
--- the sets of a part in a scope
+-- the set of a part in a scope
 abbrev pub Sets : Type 0
 Sets = Scope → Types
 
--- the sets of the condition and of the result of a WHEN
+-- the sets of a WHEN's condition and result
 abbrev pub WhenSets : Type 0
 WhenSets = Scope → Types × Types
 

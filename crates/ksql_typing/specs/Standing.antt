@@ -1,7 +1,7 @@
--- What stands for an expression: a typed tree, by rules for each form. Digits, texts, truth values and NULL become literals,
--- names what they stand for, calls their functions, and every other form the form of the same name with the same parts,
--- with the type that the rules give of the types of these. For a call of an unknown function, whose arguments have types,
--- anything stands, of every type, that of NULL too, so an expression that holds one can have several types.
+-- The typed trees of an expression, by rules for each form. Digits, texts, truth values and NULL become literals, names
+-- what they stand for, calls their functions, and every other form the form with the same name and parts, with the type
+-- that the rules give for the types of these. A call of an unknown function, whose arguments have types, can become
+-- anything, of every type including that of NULL, so an expression with one can have several types.
 use Rattle.std.specs.Prelude.{◌≡◌, ℕ, Bool, true, false, nat_le, if◌then◌else◌, IsTrue, List, [], ◌∷◌, ◌++◌, map, Option, Some, None, option_map, pos}
 use Rattle.ksql_types.specs.declared.operator.BinaryOp.{BinaryOp}
 use Rattle.ksql_types.specs.declared.value.SqlType.{SqlType}
@@ -25,18 +25,18 @@ use Rattle.ksql_scopes.specs.Functions.{function_of, aggregate_of, is_unknown}
 use Rattle.ksql_scopes.specs.Scope.{meanings, inside}
 use Rattle.ksql_scopes.specs.Uses.{has_unknown_function}
 
--- a part of an expression and what stands for it: an expression, one that may be left out, each of some, and WHENs
+-- a part of an expression and its typed tree: an expression, an optional one, a list of them, and WHENs
 pub data Pair : Type 0 where
   one : Expr → Typed → Pair
   perhaps : Option Expr → Option Typed → Pair
   each : List Expr → List Typed → Pair
   whens : List WhenText → List TypedWhen → Pair
 
--- digits are an INTEGER up to 2147483647, and else a BIGINT
+-- digits are an INTEGER up to 2147483647, else a BIGINT
 abbrev pub digits_type : ℕ → SqlType
 digits_type number = if nat_le number 2147483647 then sql.Int else sql.Big
 
--- the value that digits write
+-- the value that digits spell
 abbrev pub digits_value : ℕ → Value
 digits_value number = if nat_le number 2147483647 then value.Int (pos number) else value.Big (pos number)
 
@@ -45,7 +45,7 @@ abbrev pub with_otherwise : List (Option SqlType) → Option (Option SqlType) �
 with_otherwise results None = results
 with_otherwise results (Some t) = results ++ t ∷ []
 
--- the type of a CASE, from the types of its parts
+-- the type of a CASE, given its parts
 abbrev pub type_of_case : Option Typed → List TypedWhen → Option Typed → Option (Option SqlType)
 type_of_case x ws z =
     case_type (option_map (λ e. e.ty) x) (map (λ w. w.cond.ty) ws) (with_otherwise (map (λ w. w.result.ty) ws) (option_map (λ e. e.ty) z))
@@ -96,7 +96,7 @@ pub data Stands : Scope → Pair → Type 0 where
   more_whens : {s : Scope} {w : WhenText} {ws : List WhenText} {y : TypedWhen} {ys : List TypedWhen}
       → Stands s (one w.cond y.cond) → Stands s (one w.result y.result) → Stands s (whens ws ys) → Stands s (whens (w ∷ ws) (y ∷ ys))
 
--- the typed tree of an expression in a scope, whose functions are all known
+-- the typed tree of an expression in a scope, all of whose functions are known
 abbrev pub IsTypedTree : Scope → Expr → Typed → Type 0
 IsTypedTree s a x = Stands s (one a x) × (has_unknown_function a ≡ false)
 
@@ -108,9 +108,9 @@ HasType s a t = (x : Typed) × Stands s (one a x) × (x.ty ≡ t)
 abbrev pub HasSomeType : Scope → Expr → Type 0
 HasSomeType s a = (t : Option SqlType) × HasType s a t
 
--- ---- what places want
+-- ---- what places require
 
--- an expression has a type other than that of NULL alone
+-- an expression has a type other than that of plain NULL
 abbrev pub HasValue : Scope → Expr → Type 0
 HasValue s a = (t : SqlType) × HasType s a (Some t)
 
@@ -118,7 +118,7 @@ HasValue s a = (t : SqlType) × HasType s a (Some t)
 abbrev pub CanBeTrue : Scope → Expr → Type 0
 CanBeTrue s a = (t : Option SqlType) × HasType s a t × IsTrue (fits sql.Bool t)
 
--- two types agree: they are one, or one of them is that of NULL
+-- two types agree: they are the same, or one of them is that of NULL
 abbrev pub Agree : Option SqlType → Option SqlType → Type 0
 Agree (Some s) (Some t) = s ≡ t
 Agree _ _ = Unit {0}

@@ -19,7 +19,7 @@ HasFault s a TypeMismatch = AreNamesClear s a × ¬ HasSomeType s a
 HasFault s a Unsupported = AreNamesClear s a × HasSomeType s a × (has_unknown_function a ≡ true)
 HasFault s a OutOfMemory = ⊥
 
--- what is answered is this, unless memory ran out
+-- the result is this, unless memory ran out
 abbrev pub Answers : Result Typed TypeFault → Result Typed TypeFault → Type 0
 Answers (Err OutOfMemory) wanted = Unit {0}
 Answers answer wanted = answer ≡ wanted

@@ -11,8 +11,8 @@ ghost use Rattle.ksql_typing.specs.Typed.{HasFault, Answers};
 use crate::fault::TypeFault;
 use crate::judge::judge;
 use crate::judged::Judged;
-use ksql_expr::Typed;
 use expression_trees::Expr;
+use ksql_expr::Typed;
 use ksql_scopes::Scope;
 use ksql_type_sets::{Types, has_some_type};
 use std::alloc::Global;
@@ -32,7 +32,7 @@ fn refusal(types: Types, unknown: bool, ambiguous: bool) -> TypeFault
     TypeFault::TypeMismatch
 }
 
-/// The tree of what was found out, or the first fault that applies.
+/// The tree in the findings, or the first fault that applies.
 fn answer(judged: Judged) -> Result<Typed, TypeFault>
     ensures { result ≡ spec.answer judged }
 {
@@ -43,10 +43,10 @@ fn answer(judged: Judged) -> Result<Typed, TypeFault>
     }
 }
 
-/// The typed tree of an expression in a scope, or the first fault that applies: a name that stands for nothing, one that
-/// stands for two columns, no type whatever the unknown functions give, or else an unknown function. The digits of the
-/// expression are at most 9223372036854775807, its texts have at most 65,536 bytes, and the scope has at most 2^32 - 2
-/// columns. `OutOfMemory` says nothing of the expression.
+/// The typed tree of an expression in a scope, or the first fault that applies: a name stands for nothing, a name
+/// stands for two columns, there is no type whatever the unknown functions return, or a function is unknown. The
+/// expression's digits are at most 9223372036854775807, its texts have at most 65,536 bytes, and the scope has at most
+/// 2^32 - 2 columns. `OutOfMemory` says nothing about the expression.
 pub fn typed(alloc: Global, expr: &Expr, scope: &Scope) -> Result<Typed, TypeFault>
     requires small { IsSmall expr.now }
     requires columns { length scope.now.columns ≤ 2 ^ 32 - 2 }

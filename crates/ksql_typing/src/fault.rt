@@ -2,14 +2,14 @@
 
 use std::alloc::{AllocError, AllocFailed};
 
-/// Why an expression has no type. The first that applies is answered.
+/// Why an expression has no type: the first reason that applies.
 #[derive(Clone, Copy, Debug, PartialEq, Eq)]
 pub enum TypeFault {
     /// A name stands for nothing.
     UnknownColumn,
     /// A name stands for two columns.
     AmbiguousColumn,
-    /// There is no type for the expression, whatever the unknown functions in it give.
+    /// The expression has no type, whatever the unknown functions in it return.
     TypeMismatch,
     /// A function is unknown.
     Unsupported,

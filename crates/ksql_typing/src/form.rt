@@ -1,4 +1,4 @@
-//! The forms of typed trees, made of their parts.
+//! The forms of typed trees, built from their parts.
 
 ghost use Rattle.std.specs.Prelude.{◌≡◌, ◌≤◌, IfOk, map, option_map};
 ghost use Rattle.ksql_expr.specs.Typing.{types};
@@ -13,10 +13,10 @@ use ksql_expr::{
 use ksql_types::{BinaryOp, Boxed, Chars, CopyOf, Items, SqlType, Value};
 use std::alloc::{AllocError, Global};
 
-/// A typed tree on the heap, where there is one.
+/// A typed tree on the heap, if any.
 pub type HeldTree = Option<Boxed<Typed>>;
 
-/// A form, where it has a type.
+/// A form with its type, if it has one.
 fn with_type(
     alloc: Global,
     ty: Option<Option<SqlType>>,
@@ -31,7 +31,7 @@ fn with_type(
     Ok(Some(Boxed::of(alloc, Typed { ty, node })?))
 }
 
-/// A truth value of a form, where its parts fit.
+/// A form whose value is a truth value, if its parts fit.
 fn truth_where(alloc: Global, holds: bool, node: TypedNode) -> Result<HeldTree, AllocError>
     ensures { IfOk result (λ made. made ≡ spec.truth_where holds node) }
 {

@@ -1,4 +1,4 @@
-//! The forms of parts that were found out, unless memory ran out.
+//! The forms of judged parts, unless memory ran out.
 
 ghost use Rattle.std.specs.Prelude.{◌≡◌, ◌++◌, ◌∷◌, [], List, IfOk};
 ghost use Rattle.ksql_typing.specs.declared.judged.Judged.{Judged as OneJudged};
@@ -10,8 +10,8 @@ use crate::judged::{self, Judged, Parts, Perhaps, WhenParts};
 use ksql_types::{BinaryOp, Chars, SqlType};
 use std::alloc::{AllocError, Global};
 
-/// What was found out, unless memory ran out. The functions of such parts aren't inlined: they keep the frames that stand
-/// on the stack once for each level of a tree small.
+/// A finding, unless memory ran out. The functions on such parts aren't inlined, which keeps small the frames that
+/// stand on the stack once per level of a tree.
 pub type Found<T> = Result<T, AllocError>;
 
 #[inline(never)]
@@ -133,7 +133,7 @@ pub fn there(part: Found<Judged>) -> Found<Perhaps>
     Ok(Perhaps::there(part))
 }
 
-/// With one more expression after them.
+/// Appends one more expression.
 #[inline(never)]
 pub fn with_part(parts: Parts, part: Found<Judged>) -> Found<Parts>
     ensures { (x : OneJudged) (xs : List OneJudged) → IfOk part (λ a. a ≡ x) → AreOf parts xs
@@ -143,7 +143,7 @@ pub fn with_part(parts: Parts, part: Found<Judged>) -> Found<Parts>
     parts.with(part)
 }
 
-/// With one more WHEN after them.
+/// Appends one more WHEN.
 #[inline(never)]
 pub fn with_when(parts: WhenParts, cond: Found<Judged>, then: Found<Judged>) -> Found<WhenParts>
     ensures { (x y : OneJudged) (ws : List JudgedWhen) → IfOk cond (λ a. a ≡ x) → IfOk then (λ a. a ≡ y)

@@ -1,4 +1,4 @@
-//! What is found out of an expression in a scope.
+//! Judging an expression in a scope.
 
 ghost use Rattle.std.specs.Prelude.{◌≡◌, ◌≤◌, ◌-◌, ◌^◌, ◌&&◌, not, IfOk, IsTrue, length, map};
 ghost use Rattle.ksql_scopes.specs.Functions.{is_aggregate};
@@ -14,7 +14,7 @@ use ksql_scopes::{Scope, aggregate_of};
 use ksql_types::{BinaryOp, Boxed};
 use std::alloc::{AllocError, Global};
 
-/// What is found out of an expression in a scope, in which the bounds of windows can be named where `windowed` is true.
+/// The findings about an expression in a scope. If `windowed` is true, it can name the bounds of windows.
 #[cycle(judge)]
 pub fn judge(
     alloc: Global,
@@ -184,7 +184,7 @@ fn judge_case(
     )
 }
 
-/// Whether the bounds of windows can be named in the arguments of a function.
+/// Whether the arguments of a function can name the bounds of windows.
 fn within(name: &str, windowed: bool) -> bool
     ensures { result ≡ (not (is_aggregate name.now) && windowed) }
 {

@@ -1,4 +1,4 @@
-//! All that is found out of an expression at once, from what is found out of its parts.
+//! The findings about an expression, computed at once from those about its parts.
 
 ghost use Rattle.std.specs.Prelude.{◌≡◌, ◌≤◌, ◌-◌, ◌^◌, ◌++◌, ◌∷◌, [], ◌||◌, List, length, option_map, Some, IfOk};
 ghost use Rattle.ksql_types.specs.declared.value.Value.TheVariants as value;
@@ -20,8 +20,8 @@ use ksql_type_sets::{Types, has_some_type, possible};
 use ksql_types::{BinaryOp, Boxed, Chars, SqlType};
 use std::alloc::{AllocError, Global};
 
-/// What is found out of an expression: its typed tree, where it has one, the types that it can have, and whether a name
-/// in it stands for nothing or for several things.
+/// The findings about an expression: its typed tree, if any, the types that it can have, and whether a name in it
+/// stands for nothing or for several things.
 #[derive(Drop)]
 pub struct Judged {
     pub tree: HeldTree,
@@ -30,7 +30,7 @@ pub struct Judged {
     pub ambiguous: bool,
 }
 
-/// What is found out of some expressions: their trees, where each has one, and the rest.
+/// The findings about several expressions: their trees, if each has one, and the rest.
 #[derive(Drop)]
 pub struct Parts {
     pub trees: Option<Vec<Typed>>,
@@ -39,7 +39,7 @@ pub struct Parts {
     pub ambiguous: bool,
 }
 
-/// What is found out of some WHENs.
+/// The findings about several WHENs.
 #[derive(Drop)]
 pub struct WhenParts {
     pub trees: Option<Vec<TypedWhen>>,
@@ -49,7 +49,7 @@ pub struct WhenParts {
     pub ambiguous: bool,
 }
 
-/// What is found out of a part that may be left out: its tree, or that it is left out, where it is so or has a tree.
+/// The findings about an optional part: `tree` is known if the part is left out or has a tree.
 #[derive(Drop)]
 pub struct Perhaps {
     pub tree: Option<HeldTree>,
@@ -104,7 +104,7 @@ impl Parts {
         }
     }
 
-    /// With one more expression after them.
+    /// Appends one more expression.
     pub fn with(self, part: Judged) -> Result<Parts, AllocError>
         ensures { IfOk result (λ all. (xs : List OneJudged) → AreOf self xs → AreOf all (xs ++ part ∷ [])) }
     {
@@ -132,7 +132,7 @@ impl WhenParts {
         }
     }
 
-    /// With one more WHEN after them.
+    /// Appends one more WHEN.
     pub fn with(self, cond: Judged, then: Judged) -> Result<WhenParts, AllocError>
         ensures { IfOk result (λ all. (ws : List JudgedWhen) → AreOfWhens self ws
             → AreOfWhens all (ws ++ spec.when cond then ∷ [])) }
@@ -233,7 +233,7 @@ pub fn null(alloc: Global) -> Result<Judged, AllocError>
     })
 }
 
-/// A name in a scope, in which the bounds of windows can be named where `windowed` is true.
+/// A name in a scope. If `windowed` is true, it can be a bound of windows.
 #[inline(never)]
 pub fn name(
     alloc: Global,

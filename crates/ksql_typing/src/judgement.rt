@@ -1,4 +1,4 @@
-//! What is found out of an expression in a scope, for callers that decide by it.
+//! Judging an expression in a scope, for callers that need the findings.
 
 pub use crate::judge::judge;
 pub use crate::judged::Judged;

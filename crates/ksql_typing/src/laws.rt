@@ -1,4 +1,4 @@
-//! Laws of types and typed trees. None of these functions does anything.
+//! Laws of types and typed trees. These functions do nothing.
 
 ghost use Rattle.std.specs.Prelude.{◌≡◌, ◌↔◌, false, IsTrue, Option, Some};
 ghost use Rattle.ksql_types.specs.declared.value.SqlType.{SqlType as OneType};
@@ -14,10 +14,10 @@ ghost use Rattle.ksql_typing.specs.Judged.{judged};
 ghost use Rattle.ksql_typing.specs.Standing.{HasType, HasSomeType, HasValue, CanBeTrue, CanAgree, IsTypedTree};
 ghost use Rattle.ksql_typing.specs.Typed.{AreNamesClear};
 
-/// What is found out of an expression is exact: its types are those that it can have, and its tree is the one typed tree
-/// of the expression. There is a tree of each type of an expression whose functions are all known. The tree's type is
-/// one of the expression's types, its functions are known, it and its parts have their types on a row of the scope, and the
-/// names of an expression with a type are clear.
+/// The findings about an expression are exact: its types are those that it can have, and its tree is its only typed
+/// tree. If all its functions are known, it has a tree of each of its types. The tree's type is one of the expression's
+/// types, its functions are known, it and its parts have their types on a row of the scope, and the names of an
+/// expression with a type are unambiguous.
 pub fn types_are_decided()
     ensures types { (s : OneScope) (a : OneExpr) (t : Option OneType) → IsTrue (has (judged a s).types t) ↔ HasType s a t }
     ensures tree { (s : OneScope) (a : OneExpr) (x : OneTyped) → ((judged a s).tree ≡ Some x) ↔ IsTypedTree s a x }
@@ -30,7 +30,7 @@ pub fn types_are_decided()
     ensures clear { (s : OneScope) (a : OneExpr) (t : Option OneType) → HasType s a t → AreNamesClear s a }
 {}
 
-/// What is decided by sets of types holds of the expressions.
+/// What sets of types decide holds of the expressions.
 pub fn types_decide()
     ensures some_type { (s : OneScope) (a : OneExpr) → IsTrue (is_some_in (judged a s).types) ↔ HasSomeType s a }
     ensures value { (s : OneScope) (a : OneExpr) → IsTrue (decided.has_value (judged a s).types) ↔ HasValue s a }

@@ -1,4 +1,4 @@
-//! The typed tree of an expression, or its first fault, and all that is found out of it at once.
+//! The typed tree of an expression, or its first fault, and all other findings about it.
 #![tactic(auto)]
 
 mod elaboration;

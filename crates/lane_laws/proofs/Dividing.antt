@@ -1,4 +1,4 @@
--- The results on some entries are those that pass a test, where each result passes just where its entry is one of them.
+-- The results on some entries are those that pass a test, if a result passes exactly if its entry does.
 use Rattle.std.proofs.Common.{◌≡◌, ◌∙◌, ap, ap₂, refl, sym, List, [], ◌∷◌, ◌++◌, Bool, true, false, cond}
 use Rattle.std.proofs.lemmas.List.{append-nil}
 use Rattle.std.proofs.lemmas.List.Elements.{filter-append}
@@ -15,7 +15,7 @@ filter-evenly to false [] same = refl
 filter-evenly to true (c ∷ cs) same = ap₂ (λ b rest. cond b (c ∷ rest) rest) same.0 (filter-evenly to true cs same.1)
 filter-evenly to false (c ∷ cs) same = ap₂ (λ b rest. cond b (c ∷ rest) rest) same.0 (filter-evenly to false cs same.1)
 
--- own is the step of the entries that pass, and whole that of all of them
+-- `own` is the step of the entries that pass, and `whole` that of all entries
 pub divided : (Good : Entry → Type 0) (p : Entry → Bool) (to : Change → Bool) (own whole : Step) →
     ((before : List Entry) (e : Entry) → Good e → AllByRecursion (λ c. to c ≡ p e) (whole before e)) →
     ((before : List Entry) (e : Entry) → AllByRecursion Good before → Good e → p e ≡ true → own (filter p before) e ≡ whole before e) →

@@ -28,7 +28,7 @@ Pairwise-split R (x ∷ xs) ys h =
 
 -- ---- members that go first
 
--- the first stands before the second
+-- the first is before the second
 abbrev pub IsBelow : {A : Type 0} → (A → A → Ordering) → A → A → Type 0
 IsBelow cmp a b = cmp a b ≡ Less
 
@@ -59,7 +59,7 @@ not-same : (m k : ℕ) → (m ≡ k → ⊥) → (m == k) ≡ false
 not-same m k differ = grind (arith, nat_tests)
 
 module _ {A B : Type 0} (at : A → ℕ) (f : A → List B) where
-  -- what the members of one number make, and those of some numbers, one number after another
+  -- what the members with one number make, and those with several numbers, number by number
   abbrev of_one : ℕ → List A → List B
   of_one k xs = flat_map f (filter (λ x. at x == k) xs)
 
@@ -74,7 +74,7 @@ module _ {A B : Type 0} (at : A → ℕ) (f : A → List B) where
   of_some-none s (suc n) x xs low =
       ap₂ (λ us vs. us ++ vs) (of_one-not s x xs (not-same (at x) s (λ same. omega (arith, same, low)))) (of_some-none (s + 1) n x xs (omega (arith, low)))
 
-  -- what a member makes stands somewhere in what all the others make
+  -- what a member makes is somewhere in what all the others make
   IsIn : List B → List B → List B → Type 0
   IsIn bs ys zs = (us : List B) × ((vs : List B) × ((ys ≡ us ++ vs) × (zs ≡ us ++ (bs ++ vs))))
 

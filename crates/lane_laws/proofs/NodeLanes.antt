@@ -32,7 +32,7 @@ use Rattle.lane_laws.proofs.Dividing.{divided}
 use Rattle.lane_laws.proofs.KeptKeys.{HasGroups, Key, KeepsKey, gives-key, grouped-keys, kept-keyed, results-keyed, stream-join-keys}
 use Rattle.lane_laws.proofs.OneTime.{LooksByKey, gives-one, key_lane, keyed-lane, keyed-lanes, lane-covers}
 
--- changes of the key and the stamp of an entry go where it stands
+-- changes with the key and the stamp of an entry go to its partition
 going : (n part : ℕ) (e : Entry) (cs : List Change) → Key e.change.key cs → AllByRecursion (λ c. c.place.stamp ≡ e.change.place.stamp) cs →
     AllByRecursion (λ c. is_to n part c ≡ in_part n part e) cs
 going n part e [] keys stamps = tt
@@ -92,7 +92,7 @@ laned-group n keys es own =
     node-laned n (Group keys) (λ e. IsInOwnGroup keys e.change)
     (λ before e h. grouped-keys (λ k. k ≡ e.change.key) keys e.change (own-groups keys e.change h)) (λ part before e seen h is. refl) es own
 
--- the rows of a key stand in the partition of an entry that has that key
+-- the rows of a key are in the partition of an entry with that key
 join-covers : (n part : ℕ) (e : Entry) (key : List Value) → (IsKeyed key → key ≡ e.change.key) → in_part n part e ≡ true →
     (earlier : Entry) → is_of_key key earlier ≡ true → in_part n part earlier ≡ true
 join-covers n part e [] keyed is earlier h = absurd (true≢false (sym h))

@@ -1,4 +1,5 @@
--- Within one lane the entries have one stream time, and a lane holds all entries that a node looks at by the key of a change.
+-- Within one lane the entries have one stream time, and a lane holds all entries that a node looks at by the key of a
+-- change.
 use Rattle.std.proofs.Common.{◌≡◌, ◌∙◌, ap, ap₂, refl, sym, ℕ, List, [], ◌∷◌, ◌++◌, Bool, true, cond, true≢false, arith}
 use Rattle.std.specs.Prelude.{◌==◌, filter, Some, None}
 use Rattle.std.specs.List.{AllByRecursion}
@@ -19,7 +20,7 @@ use Rattle.lane_laws.specs.Lanes.{HasKey, IsKeyed, in_part}
 abbrev pub key_lane : ℕ → ℕ → Entry → Bool
 key_lane n q e = lane e.change.key n 0 == q
 
--- an entry with a key stands in the lane of its key
+-- an entry with a key is in the lane of its key
 pub keyed-lane : (n q : ℕ) (e : Entry) → HasKey e → in_part n q e ≡ key_lane n q e
 keyed-lane n q e keyed = by e.change.key e.change.place.stamp.part keyed
   where

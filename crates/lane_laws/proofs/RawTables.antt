@@ -1,5 +1,5 @@
--- Joins of tables as their records say them give what they give of the tables' changes: those from absent to absent are left out, and
--- the others have their old rows put in.
+-- Joins of tables as their records say them give what they give of the tables' changes: those from absent to absent are
+-- left out, and the others have their old rows put in.
 use Rattle.std.proofs.Common.{◌≡◌, ◌∙◌, ap, ap₂, refl, sym, ℕ, List, [], ◌∷◌, ◌++◌, Bool, true, false, cond}
 use Rattle.std.proofs.lemmas.List.{append-nil, map-append}
 use Rattle.std.proofs.lemmas.List.Elements.{filter-append}

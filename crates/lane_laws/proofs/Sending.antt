@@ -15,7 +15,7 @@ use Rattle.ksql_nodes.specs.declared.node.Node.{Node}
 use Rattle.ksql_nodes.specs.declared.node.Node.TheVariants.{Rekey, Table, JoinStreamTable, JoinTables, Filter, Group, Aggregate, Having, Select}
 use Rattle.ksql_nodes.specs.Entries.{Entry, from_side, results, through}
 use Rattle.ksql_nodes.specs.Nodes.{gives}
-use Rattle.query_meaning.proofs.ChangeByChange.{changed-from-side}
+use Rattle.query_meaning.proofs.QuerySteps.{changed-from-side}
 use Rattle.meaning_laws.proofs.Forks.{IsBefore, Rise, before-less}
 use Rattle.meaning_laws.proofs.Lists.{Pairwise, Pairwise-filter, Pairwise-weaker, filter-map}
 use Rattle.ksql_place.specs.Routing.{change_cmp, is_to}

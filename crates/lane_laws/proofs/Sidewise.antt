@@ -1,5 +1,5 @@
--- Steps that give for an entry one at its place or none, and look at its own side alone: they may be taken on each side, before the
--- sides are merged.
+-- Steps that give for an entry one at its place or none, and look at its own side alone: they may be taken on each
+-- side, before the sides are merged.
 use Rattle.std.proofs.Common.{◌≡◌, ◌∙◌, ap, ap₂, refl, sym, subst, ℕ, List, [], ◌∷◌, ◌++◌, Bool, true, false, cond, append_assoc}
 use Rattle.std.proofs.lemmas.Bool.{false≢true}
 use Rattle.std.proofs.lemmas.Cmp.{nat_cmp_total, tied_itself, upto}
@@ -32,7 +32,7 @@ Remade = List Entry → Entry → Option Entry
 abbrev pub made : Remade → List Entry → Entry → List Entry
 made step before e = option_to_list (step before e)
 
--- an entry stands on the side and at the place of another
+-- an entry has the side and the place of another
 abbrev pub IsAt : Entry → Entry → Type 0
 IsAt e f = (f.side ≡ e.side) × (f.change.place ≡ e.change.place)
 
@@ -40,7 +40,7 @@ pub record IsSidewise (step : Remade) : Type 0 where
   pub stays : (before : List Entry) (e : Entry) → IfSome (step before e) (IsAt e)
   pub own : (these those : List Entry) (e : Entry) → of_side e.side these ≡ of_side e.side those → step these e ≡ step those e
 
--- a step gives for what is made of entries what it gives for them, where it does so for each of them
+-- a step gives for mapped entries what it gives for the entries, if it does so for each of them
 pub results-on-made : (Same : List Entry → List Entry → Type 0) (g : Step) (step : Remade) →
     ((seen before : List Entry) (e : Entry) → Same seen before → Same (seen ++ made step before e) (before ++ e ∷ [])) →
     ((seen before : List Entry) (e : Entry) → Same seen before → results g seen (made step before e) ≡ g before e) →
@@ -62,7 +62,7 @@ module _ (a b : ℕ) where
       sym (ascending-again (entries_total a b) (e ∷ []) es)
       ∙ ascending-kept (entries_total a b) (e ∷ ascending cmp es) (All-ascending (λ x. is_gt (cmp e x) ≡ false) cmp es none, Ascends-ascending (entries_total a b) es)
 
-  -- a member that stands before those in front of it goes first
+  -- a member that is before those in front of it goes first
   least-first : (e : Entry) (us vs : List Entry) → AllByRecursion (λ u. is_gt (cmp u e) ≡ true) us → NoneBefore cmp e vs →
       ascending cmp (us ++ e ∷ vs) ≡ e ∷ ascending cmp (us ++ vs)
   least-first e [] vs after none = first-placed e vs none
@@ -104,10 +104,10 @@ module _ (a b : ℕ) where
           (ap (λ o. ordering_then (stamp_cmp p.stamp q.stamp) (ordering_then o (slice_cmp nat_cmp p.path q.path))) (tied_itself nat_cmp_total number)
           ∙ before-less p q before)
 
-  -- ---- what a step makes of them
+  -- ---- steps on mapped entries
 
   module _ (step : Remade) (sidewise : IsSidewise step) where
-    -- what holds of entries holds of what stands in their places
+    -- a property of entries holds of their images
     all-made : (P : Entry → Type 0) → ((e f : Entry) → IsAt e f → P e → P f) → (before es : List Entry) → AllByRecursion P es → AllByRecursion P (results (made step) before es)
     all-made P moves before [] h = tt
     all-made P moves before (e ∷ es) h = by (step before e) (sidewise.stays before e) (all-made P moves (before ++ e ∷ []) es h.1)
@@ -164,7 +164,7 @@ module _ (a b : ℕ) where
         results-apart side (before ++ e ∷ []) before es
         (filter-append (λ x. x.side == side) before (e ∷ []) ∙ ap (λ d. of_side side before ++ cond d (e ∷ []) []) apart ∙ append-nil (of_side side before)) on
 
-    -- what is made of two sides that ascend, merged, is what is made of each, merged
+    -- merging two mapped sides that ascend is mapping and then merging
     made-merged : (before xs ys : List Entry) → AllByRecursion (λ e. e.side ≡ 0) xs → AllByRecursion (λ e. e.side ≡ 1) ys → Ascends cmp xs → Ascends cmp ys →
         results (made step) before (ascending cmp (xs ++ ys)) ≡ ascending cmp (results (made step) before xs ++ results (made step) before ys)
     made-merged before [] ys left right xs-up ys-up = kept-made before ys ys-up

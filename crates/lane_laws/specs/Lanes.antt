@@ -25,11 +25,11 @@ IsKeyed (k ∷ ks) = Unit {0}
 abbrev pub HasKey : Entry → Type 0
 HasKey e = IsKeyed e.change.key
 
--- an entry of a stream whose join key, where it has one, is its own key
+-- an entry of a stream whose join key, if it has one, is its own key
 abbrev pub IsJoinedByKey : Typed → Entry → Type 0
 IsJoinedByKey on e = e.side ≡ 0 → IsKeyed (join_key on e.change) → join_key on e.change ≡ e.change.key
 
--- a change whose rows are in the group of its own key: a stream's that has no key is in none
+-- a change whose rows are in the group of its own key; a stream's change without a key is in none
 abbrev pub IsInOwnGroup : List Typed → Change → Type 0
 IsInOwnGroup keys c = by c.body
   where
@@ -39,15 +39,16 @@ IsInOwnGroup keys c = by c.body
 
 -- ---- partitions
 
--- whether an entry stands in a partition among n
+-- whether an entry is in a partition among n
 abbrev pub in_part : ℕ → ℕ → Entry → Bool
 in_part n part e = is_to n part e.change
 
--- what a node gives for the entries of a partition, with one stream time, is the partition's part of what it gives for all
+-- what a node gives for the entries of a partition, with one stream time, is the partition's part of what it gives for
+-- all entries
 abbrev pub IsLaned : ℕ → Node → List Entry → Type 0
 IsLaned n node es = (part : ℕ) → results (gives 1 node) [] (filter (in_part n part) es) ≡ filter (is_to n part) (results (gives n node) [] es)
 
--- so it is of each of some nodes in a row
+-- this holds of each node in a row
 abbrev pub AreLaned : ℕ → List Node → List Entry → Type 0
 AreLaned n [] es = Unit {0}
 AreLaned n (node ∷ nodes) es = IsLaned n node es × AreLaned n nodes (from_side 0 (results (gives n node) [] es))
@@ -60,7 +61,7 @@ LooksAtNone (JoinTables kind l r) = ⊥
 LooksAtNone (Aggregate over aggs w) = ⊥
 LooksAtNone _ = Unit {0}
 
--- ---- what is read
+-- ---- reading
 
 -- the changes of two relations in the order of their places
 abbrev pub merged : ℕ → ℕ → List Change → List Change → List Entry

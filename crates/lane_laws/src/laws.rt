@@ -1,4 +1,4 @@
-//! Laws of nodes and partitions. None of these functions does anything.
+//! Laws of nodes and partitions. These functions do nothing.
 ghost use Rattle.std.specs.Prelude.{◌≡◌, ℕ, List, Option, filter, map};
 ghost use Rattle.std.specs.List.{AllByRecursion};
 ghost use Rattle.ksql_types.specs.declared.relation.Kind.{Kind as OneKind};
@@ -14,9 +14,9 @@ ghost use Rattle.ksql_nodes.specs.Nodes.{gives};
 ghost use Rattle.ksql_place.specs.Routing.{is_to};
 ghost use Rattle.lane_laws.specs.Lanes.{AreLaned, HasKey, IsInOwnGroup, IsJoinedByKey, IsLaned, in_part};
 
-/// What a node gives for the entries of one partition, with one stream time, is the partition's part of what it gives for
-/// all entries: for conditions always, for tables and aggregates where entries have keys, for groups by the own key, and for
-/// joins by the own key.
+/// What a node gives for the entries of one partition, with one stream time, is that partition's part of what it gives
+/// for all entries: always for conditions, for tables and aggregates if all entries have keys, for groups if they are
+/// by the own key, and for joins by the own key.
 pub fn nodes_are_laned()
     ensures conditions { (n : ℕ) (on : OneTyped) (es : List OneEntry) → IsLaned n (node.Filter on) es × IsLaned n (node.Having on) es }
     ensures tables { (n number : ℕ) (es : List OneEntry) → AllByRecursion HasKey es → IsLaned n (node.Table number) es }

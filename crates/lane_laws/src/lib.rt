@@ -1,4 +1,4 @@
-//! Laws of partitions: what the tasks of a sub-topology give is what its nodes give, partition by partition.
+//! Laws of partitions: the tasks of a sub-topology give what its nodes give, partition by partition.
 #![tactic(auto)]
 
 mod laws;

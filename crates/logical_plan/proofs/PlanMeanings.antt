@@ -19,10 +19,9 @@ use Rattle.ksql_nodes.specs.declared.node.Node.{Node}
 use Rattle.ksql_nodes.specs.declared.node.Node.TheVariants as node
 use Rattle.ksql_nodes.specs.Entries.{Entry, from_side, results, through}
 use Rattle.ksql_nodes.specs.Nodes.{gives}
-use Rattle.query_meaning.specs.Plain.{joined_changes}
 use Rattle.query_meaning.specs.Queries.{after_aggregate, entry_cmp, filter_of, join_over, kind_at, leftmost, partitions_at, query_changes, read_entries, shape_steps, side_at, whole_changes}
-use Rattle.query_meaning.proofs.ChangeByChange.{changed-from-side}
-use Rattle.query_meaning.proofs.QuerySteps.{query-steps}
+use Rattle.query_meaning.specs.Parts.{joined_changes}
+use Rattle.query_meaning.proofs.QuerySteps.{changed-from-side, query-steps}
 use Rattle.topology.specs.Stages.{is_rekeyed}
 use Rattle.lane_laws.proofs.Rekeying.{rekeyed-join}
 use Rattle.logical_plan.specs.Plans.{Meant, after_join, after_node, aggregate_plan, aggregated, filter_plan, having_plan, join_plan, left_plan, meaning_step, plan_changes, plan_meaning, plan_of, read_plan, shape_plan}
@@ -122,7 +121,7 @@ module _ (items : List Item) (lists : List (List Change)) where
         fold-Select Meant (meaning_step items lists) keys values out p ∙ ap (after_node items (node.Select keys values)) is
         ∙ ap (made number) (sym (changed-from-side (results (gives (lanes number) (node.Select keys values)) [] (from_side 0 changes))))
 
-    -- HAVING, where there is one, and the items
+    -- HAVING, if any, and the items
     items-meant : (having : Option Typed) (values : List Typed) (out : ℕ) (p : Plan) (changes : List Change) → meant p ≡ made number changes →
         meant (tree.Select [] values out (having_plan having p)) ≡ made number (after (after_aggregate having values) changes)
     unfolding plan_meaning

@@ -1,4 +1,4 @@
--- The plan of a query, and what a plan means.
+-- The plan of a query, and the meaning of a plan.
 use Rattle.std.specs.Prelude.{ℕ, if◌then◌else◌, List, [], ◌++◌, Option, Some, None}
 use Rattle.ksql_types.specs.declared.relation.Kind.{Kind}
 use Rattle.ksql_types.specs.declared.relation.Kind.TheVariants as kind
@@ -27,11 +27,11 @@ use Rattle.logical_plan.specs.declared.tree.Plan.TheVariants as tree
 
 -- ---- the plan of a query
 
--- the left side of a join: the relation, rekeyed where it has to be
+-- the left side of a join: the relation, rekeyed if needed
 abbrev pub left_plan : List Item → JoinKind → ℕ → ℕ → Typed → Plan
 left_plan items k left right on = if is_rekeyed items (Join k left right on) then tree.Rekey on (tree.Source left) else tree.Source left
 
--- the join of two relations, the left of which is of a kind: of a stream and a table, or of two tables
+-- the join of two relations, by the kind of the left one: of a stream and a table, or of two tables
 abbrev pub join_plan : List Item → JoinKind → ℕ → ℕ → Typed → Kind → Plan
 join_plan items k left right on kind.Stream = tree.JoinStreamTable k on (left_plan items k left right on) (tree.Source right)
 join_plan items k left right on _ = tree.JoinTables k (tree.Source left) (tree.Source right)
@@ -41,21 +41,21 @@ abbrev pub read_plan : List Item → From → Plan
 read_plan items (One number) = tree.Source number
 read_plan items (Join k left right on) = join_plan items k left right on (kind_at items left)
 
--- WHERE, where there is one, over a plan
+-- a plan with WHERE on top, if any
 abbrev pub filter_plan : Option Typed → Plan → Plan
 filter_plan None arg = arg
 filter_plan (Some on) arg = tree.Filter on arg
 
--- HAVING, where there is one, over a plan
+-- a plan with HAVING on top, if any
 abbrev pub having_plan : Option Typed → Plan → Plan
 having_plan None arg = arg
 having_plan (Some on) arg = tree.Having on arg
 
--- the groups and their aggregates over a plan that begins with a relation of a kind
+-- a plan with the groups and their aggregates on top, over a relation of a kind
 abbrev pub aggregate_plan : Kind → List Typed → List Agg → Option Window → Plan → Plan
 aggregate_plan over keys aggs window arg = tree.Aggregate over aggs window (tree.Group keys arg)
 
--- the shape of a query over a plan that begins with a relation of a kind, where the result is the relation `out`
+-- a plan with the shape of a query on top, over a relation of a kind; the result is the relation `out`
 abbrev pub shape_plan : Kind → ℕ → Shape → Plan → Plan
 shape_plan over out (shape.Plain keys values) arg = tree.Select keys values out arg
 shape_plan over out (shape.Group keys window aggs having values) arg = tree.Select [] values out (having_plan having (aggregate_plan over keys aggs window arg))
@@ -64,10 +64,10 @@ shape_plan over out (shape.Group keys window aggs having values) arg = tree.Sele
 unfoldable pub plan_of : List Item → Query → Plan
 plan_of items q = shape_plan (kind_at items (leftmost q.from)) q.out.number q.shape (filter_plan q.filter (read_plan items q.from))
 
--- ---- what a plan means
+-- ---- the meaning of a plan
 
--- what a part of a plan means: its changes, the leftmost relation that it reads, and the expressions of a grouping whose
--- aggregate is still to come
+-- the meaning of a part of a plan: its changes, the leftmost relation that it reads, and the expressions of a grouping
+-- whose aggregate is still to come
 pub record Meant : Type 0 where
   pub changes : List Change
   pub leftmost : ℕ
@@ -85,13 +85,13 @@ after_join items x l r = record {
   groups = [];
 }
 
--- an aggregate of what began as a relation of a kind: of a stream a grouping and then the aggregate, of a table one step
+-- an aggregate over a relation of a kind: for a stream a grouping and then the aggregate, for a table one step
 abbrev pub aggregated : ℕ → Kind → List Agg → Option Window → Meant → List Change
 aggregated n kind.Stream aggs window m =
     results (gives n (node.Aggregate kind.Stream aggs window)) [] (from_side 0 (results (gives n (node.Group m.groups)) [] (from_side 0 m.changes)))
 aggregated n _ aggs window m = results (aggregate_of_table m.groups aggs) [] (from_side 0 m.changes)
 
--- what a step of a plan means, from what the parts before it mean
+-- the meaning of a step of a plan, given the meanings of its parts
 abbrev pub meaning_step : List Item → List (List Change) → Plan-F Meant → Meant
 meaning_step items lists (Plan-F.Source number) = record { changes = whole_changes items lists number; leftmost = number; groups = [] }
 meaning_step items lists (Plan-F.Filter on m) = after_node items (node.Filter on) m
@@ -104,10 +104,10 @@ meaning_step items lists (Plan-F.Aggregate over aggs window m) =
 meaning_step items lists (Plan-F.Having on m) = after_node items (node.Having on) m
 meaning_step items lists (Plan-F.Select keys values out m) = after_node items (node.Select keys values) m
 
--- what a plan means, from the changes of the relations
+-- the meaning of a plan, given the changes of the relations
 unfoldable pub plan_meaning : List Item → List (List Change) → Plan → Meant
 plan_meaning items lists = fold-Plan Meant (meaning_step items lists)
 
--- the changes that a plan makes
+-- the changes of a plan's result
 abbrev pub plan_changes : List Item → List (List Change) → Plan → List Change
 plan_changes items lists p = (plan_meaning items lists p).changes

@@ -65,8 +65,8 @@ fn copy_boxed(alloc: Global, plan: &Boxed<Plan>) -> Result<Boxed<Plan>, AllocErr
     Boxed::of(alloc, copy_plan(alloc, plan.get())?)
 }
 
-// What was copied, unless memory ran out. A function for each form keeps the frame of `copy_plan`, which stands on the
-// stack once for each level of a tree, small.
+// The copy, unless memory ran out. A function of its own for each form keeps the stack frame of `copy_plan` small,
+// which stands on the stack once per level of a tree.
 type Copied<T> = Result<T, AllocError>;
 
 fn filter_of(on: Copied<Typed>, arg: Copied<Boxed<Plan>>) -> Copied<Plan>

@@ -1,4 +1,4 @@
-//! The plan of a query: the tree of what it reads and of its steps, which means what the query means.
+//! The plan of a query: the tree of what it reads and of its steps. It means what the query means.
 #![tactic(auto)]
 
 mod copies;
@@ -7,8 +7,8 @@ mod relations;
 mod tree;
 
 pub use ksql_expr::{Exprs, Typed, TypedNode};
+pub use ksql_program::{Agg, Aggs, From, Item, JoinKind, Program, Query, Shape, relation_of};
 pub use ksql_types::{Boxed, CopyOf, Items, Kind, Window};
 pub use planning::plan;
-pub use query_meaning::{Agg, Aggs, From, Item, JoinKind, Program, Query, Shape, relation_of};
 pub use relations::{key_columns, kind_of};
 pub use tree::Plan;

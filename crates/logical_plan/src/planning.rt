@@ -10,9 +10,9 @@ ghost use Rattle.logical_plan.specs.Plans.{aggregate_plan, filter_plan, having_p
 
 use crate::relations::{key_columns, kind_of};
 use crate::tree::Plan;
+use grouped_expressions::same_node;
 use ksql_expr::{Exprs, Typed, TypedNode};
 use ksql_program::{Aggs, From, JoinKind, Program, Query, Shape};
-use grouped_expressions::same_node;
 use ksql_types::{Boxed, CopyOf, Items, Kind, Window};
 use std::alloc::{AllocError, Global};
 
@@ -37,14 +37,14 @@ fn leftmost(from: &From) -> u32
     }
 }
 
-/// A relation that is read.
+/// A plan that reads a relation.
 fn source(alloc: Global, relation: u32) -> Result<Boxed<Plan>, AllocError>
     ensures { IfOk result (λ p. p ≡ tree.Source relation) }
 {
     Boxed::of(alloc, Plan::Source { relation })
 }
 
-/// What a query reads: one relation, or the join of two.
+/// The plan of what a query reads: one relation, or a join of two.
 fn read_plan(alloc: Global, program: &Program, from: &From) -> Result<Boxed<Plan>, AllocError>
     ensures { IfOk result (λ p. p ≡ read_plan program.now.items from.now) }
 {
@@ -76,7 +76,7 @@ fn join_plan(
     }
 }
 
-/// The join of a stream and a table. The stream gets the join key as its key where it has another.
+/// The join of a stream and a table. The stream is rekeyed by the join key if it has another key.
 fn stream_join(
     alloc: Global,
     program: &Program,
@@ -118,7 +118,7 @@ fn left_plan(
     source(alloc, left)
 }
 
-/// Whether a relation has to be rekeyed to be the left side of a join with this key.
+/// Whether a relation must be rekeyed to be the left side of a join with this key.
 fn is_rekeyed(program: &Program, left: u32, on: &Typed) -> bool
     ensures { (kind : OneKind) (right : ℕ) → result ≡ is_rekeyed program.now.items (from.Join kind left right on.now) }
 {
@@ -149,7 +149,7 @@ fn table_join(
     Boxed::of(alloc, Plan::JoinTables { kind, left, right })
 }
 
-/// WHERE, where there is one, over a plan.
+/// A plan with WHERE on top, if any.
 fn filter_plan(
     alloc: Global,
     filter: &Option<Typed>,
@@ -166,7 +166,7 @@ fn filter_plan(
     }
 }
 
-/// HAVING, where there is one, over a plan.
+/// A plan with HAVING on top, if any.
 fn having_plan(
     alloc: Global,
     having: &Option<Typed>,
@@ -183,7 +183,7 @@ fn having_plan(
     }
 }
 
-/// The groups and their aggregates, over a plan that begins with a relation of a kind.
+/// A plan with the groups and their aggregates on top, over a relation of this kind.
 fn aggregate_plan(
     alloc: Global,
     over: Kind,
@@ -209,7 +209,7 @@ fn aggregate_plan(
     )
 }
 
-/// The shape of a query over a plan that begins with a relation of a kind. `out` is the number of the result.
+/// A plan with the shape of a query on top, over a relation of this kind. `out` is the number of the result.
 fn shape_plan(
     alloc: Global,
     over: Kind,
@@ -239,7 +239,7 @@ fn shape_plan(
     }
 }
 
-/// The select list over a plan.
+/// A plan with the select list on top.
 fn select_plan(
     alloc: Global,
     keys: Exprs,

@@ -1,4 +1,4 @@
-//! What a plan has to know of the relations of a program.
+//! What a plan needs to know about the relations of a program.
 ghost use Rattle.std.specs.Prelude.{◌≡◌};
 ghost use Rattle.query_meaning.specs.Queries.{key_columns, kind_at};
 
@@ -15,7 +15,7 @@ pub fn kind_of(program: &Program, number: u32) -> Kind
     }
 }
 
-/// How many key columns a relation has.
+/// The number of key columns of a relation.
 pub fn key_columns(program: &Program, number: u32) -> usize
     ensures { result ≡ key_columns program.now.items number }
 {

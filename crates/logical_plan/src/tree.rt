@@ -2,8 +2,8 @@ use ksql_expr::{Exprs, Typed};
 use ksql_program::{Aggs, JoinKind};
 use ksql_types::{Boxed as Box, Kind, Window};
 
-/// A query as a tree: a relation that it reads, or a step over the plans before it. `on` of a join and the key of a `Rekey`
-/// are over the left side's rows, and `out` is the number of the query's own relation.
+/// A query as a tree: a relation that it reads, or a step on the plans below it. `on` of a join and the key of a
+/// `Rekey` are over the left side's rows, and `out` is the number of the query's own relation.
 #[cycle(plan)]
 #[derive(Debug, Drop)]
 pub enum Plan {

@@ -1,4 +1,4 @@
--- What is meant of the records that pass a test of stamps, where these stand first.
+-- The meaning of the records that pass a test of stamps, if these come first.
 use Rattle.std.proofs.Common.{◌≡◌, ◌∙◌, ap, ap₂, sym, refl, ℕ, List, [], ◌∷◌, ◌++◌, map, Bool, true, false, cond, arith}
 use Rattle.std.specs.Prelude.{filter, flat_map, Option, Some, None, option_map, unwrap_or, slice_get, nat_le}
 use Rattle.std.specs.List.{AllByRecursion}

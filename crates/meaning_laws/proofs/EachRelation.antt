@@ -1,4 +1,4 @@
--- What holds of the list of each relation, where each step adds it: by induction on the items of a sound program.
+-- A property of the changes of each relation, if each step keeps it: by induction on the items of a sound program.
 use Rattle.std.proofs.Common.{◌≡◌, ◌∙◌, sym, subst, refl, ℕ, zero, suc, List, [], ◌∷◌, ◌++◌, length, append_assoc}
 use Rattle.std.proofs.lemmas.List.{append-nil}
 use Rattle.std.proofs.lemmas.Option.{none-some, same_Some}

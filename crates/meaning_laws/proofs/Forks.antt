@@ -1,4 +1,4 @@
--- Places that rise, of which under one stamp the paths fork.
+-- Places that rise, whose paths fork under one stamp.
 use Rattle.std.proofs.Common.{◌≡◌, ◌∙◌, ap, ap₂, refl, sym, subst, ℕ, ◌<◌, List, [], ◌∷◌, ◌++◌, inl, inr, arith}
 use Rattle.std.specs.Prelude.{◌⊎◌}
 use Rattle.std.specs.Cmp.Lexicographic.{slice_cmp}
@@ -14,12 +14,12 @@ use Rattle.ksql_place.proofs.Orders.{stamp_total}
 use Rattle.meaning_laws.specs.Places.{ArePlaced, IsProperPrefix}
 use Rattle.meaning_laws.proofs.Lists.{Pairwise, Pairwise-weaker, all-from_pairwise}
 
--- the first numbers that differ stand in both paths, and the first is less
+-- both paths have first numbers that differ, and the first path's is less
 abbrev pub Forks : List ℕ → List ℕ → Type 0
 Forks (x ∷ xs) (y ∷ ys) = (x < y) ⊎ ((x ≡ y) × Forks xs ys)
 Forks _ _ = ⊥
 
--- a place stands before another, and under one stamp no path is the beginning of the other
+-- a place is before another, and under one stamp no path is a prefix of the other
 abbrev pub IsBefore : Place → Place → Type 0
 IsBefore a b = (stamp_cmp a.stamp b.stamp ≡ Less) ⊎ ((a.stamp ≡ b.stamp) × Forks a.path b.path)
 
@@ -33,7 +33,7 @@ pub forks-after : (ps xs ys : List ℕ) → Forks xs ys → Forks (ps ++ xs) (ps
 forks-after [] xs ys h = h
 forks-after (p ∷ ps) xs ys h = inr (refl, forks-after ps xs ys h)
 
--- each place stands before all later ones
+-- each place is before all later ones
 abbrev pub Rise : List Change → Type 0
 Rise changes = Pairwise (λ c d. IsBefore c.place d.place) changes
 

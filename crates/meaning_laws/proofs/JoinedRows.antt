@@ -1,4 +1,4 @@
--- What joins make of rows and keys that hold values of some types.
+-- What joins make of rows and keys with values of given types.
 use Rattle.std.proofs.Common.{◌≡◌, ◌∙◌, ap, ap₂, refl, sym, subst, ℕ, ◌+◌, List, [], ◌∷◌, ◌++◌, length, length-append, Bool, true, false, inl, inr, true≢false, arith}
 use Rattle.std.proofs.lemmas.List.{append-nil, length-map}
 use Rattle.std.specs.Prelude.{◌==◌, ◌⊎◌, max, flat_map, take, if◌then◌else◌, Option, Some, None, option_map, option_and_then, IfSome}
@@ -30,7 +30,7 @@ use Rattle.meaning_laws.proofs.Sizes.{All-flat_map, GivesFor}
 
 -- ---- the entries of two sides
 
--- what is known of the changes of each side
+-- the facts about the changes of each side
 abbrev pub IsOfSides : (A B : Change → Type 0) → Entry → Type 0
 IsOfSides A B e = ((e.side ≡ 0) × A e.change) ⊎ ((e.side ≡ 1) × B e.change)
 
@@ -83,7 +83,7 @@ module _ (left : Relation) (l r : Side) (lts rts : List (Option SqlType)) (wide_
 
   -- ---- a stream and a table
 
-  -- nothing is said of the key of what is joined: what comes after takes one from the row
+  -- the key of a joined change may be anything: later steps take one from the row
   module _ (k : JoinKind) (partial : k ≡ Full → ⊥) (on : Typed) (K L : List Value → Type 0) where
     abbrev IsInStream : Entry → Type 0
     IsInStream = IsOfSides (Holds kind.Stream K lts) (Holds kind.Table L rts)
@@ -131,7 +131,7 @@ module _ (left : Relation) (l r : Side) (lts rts : List (Option SqlType)) (wide_
     abbrev IsJoinedTurned : Change → Type 0
     IsJoinedTurned = Holds kind.Table (WholeKey (row_key left)) (both_types k)
 
-    -- where each of the rows of a side gives a joined row
+    -- each of the rows of a side gives a joined row
     turned-joined : (own : List (Option SqlType)) (f : Option Row → Option Row) → ((o : Option Row) → IfSome o (RowHas own) → IfSome (f o) (RowHas (both_types k))) →
         (old new : Option Row) → IfSome old (RowHas own) → IfSome new (RowHas own) →
         IfSome (option_and_then (λ body. turned (f (row_out body)) (f (row_in body))) (turned old new)) (BodyHas kind.Table (both_types k))

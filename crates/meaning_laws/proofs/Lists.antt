@@ -142,7 +142,7 @@ All-from_filter {A} P p (x ∷ xs) h = by (p x) refl h (All-from_filter P p xs)
     by true is h rest = (λ _. h.0, rest h.1)
     by false is h rest = (λ e. absurd (true≢false (sym e ∙ is)), rest h)
 
--- a relation of those that pass holds where both do
+-- a relation on the members that pass, if both do
 pub Pairwise-from_filter : {A : Type 0} (R : A → A → Type 0) (p : A → Bool) (xs : List A) → Pairwise R (filter p xs) → Pairwise (λ x y. p x ≡ true → p y ≡ true → R x y) xs
 Pairwise-from_filter R p [] pairs = tt
 Pairwise-from_filter {A} R p (x ∷ xs) pairs = by (p x) refl pairs (Pairwise-from_filter R p xs)

@@ -90,7 +90,7 @@ module _ (n : ℕ) (over : Kind) (apart : over ≡ kind.Stream → ⊥) (gk type
           last-give (IsChangeOf over gk types) (IsChangeOf over gk (column_types cs)) (gives n (node.Select [] values)) select (results (gives n (node.Having e)) [] (from_side 0 changes))
           (step-give (IsChangeOf over gk types) (IsChangeOf over gk types) (gives n (node.Having e)) (having-fits n e over (KeyOf over gk) types) changes h)
 
--- a key of which K holds is a whole one of the key columns of a plain query over a table
+-- a key with property K is a whole key of a plain query over a table
 abbrev KeepsKey : (List Value → Type 0) → List (Option SqlType) → Shape → Type 0
 KeepsKey K types (Plain ks vs) = (cs : List Column) → AreColumns kind.Table types ks cs → (key : List Value) → K key → WholeKey (column_types cs) key
 KeepsKey K types (Group ks window aggs having values) = Unit {0}
@@ -100,7 +100,7 @@ after-columns : (over result : Kind) (types : List (Option SqlType)) (ks : List 
     AreColumns result (map (λ k. k.ty) ks ++ ats ++ ws) vs vcs → AreColumns result (column_types kcs ++ ats ++ ws) vs vcs
 after-columns over result types ks kcs ats ws vs vcs keys sound = subst (λ ts. AreColumns result (ts ++ ats ++ ws) vs vcs) (columns-types over types ks kcs keys) sound
 
--- what a shape makes of rows of some types
+-- what a shape makes of rows with given types
 module _ (n : ℕ) (l : Relation) (types : List (Option SqlType)) (K : List Value → Type 0) where
   shape-filled : (over : Kind) → l.kind ≡ over → (over ≡ kind.Windowed → ⊥) → {shape : Shape} {out : Relation} → Makes l types shape out → (over ≡ kind.Table → KeepsKey K types shape) →
       (changes : List Change) → AllByRecursion (Holds over K types) changes → AreChangesOf out (through (shape_steps n over shape) (from_side 0 changes))
@@ -161,7 +161,7 @@ tables-keeps before k left right on l r at_left at_right table tables (Plain ks 
         (subst₂ (λ x y. IsTablesKey k x y e) (same_Some s l (sym at_s ∙ at_left)) (same_Some t r (sym at_t ∙ at_right)) key)
 tables-keeps before k left right on l r at_left at_right table tables (Group ks window aggs having values) keyed = tt
 
--- a FULL join is one of tables
+-- a FULL join is a join of tables
 pub stream-partial : (k : JoinKind) (on : Typed) (l r : Relation) → IsJoined k on l r → l.kind ≡ kind.Stream → k ≡ Full → ⊥
 stream-partial Inner on l r j stream is = cc
 stream-partial Left on l r j stream is = cc
@@ -172,7 +172,7 @@ joins-table Inner on l r j is = let same : l ≡ record l { kind = kind.Table } 
 joins-table Left on l r j is = let same : l ≡ record l { kind = kind.Table } = λ i. record l { kind = is i } in subst (λ x. JoinsTable on x r) (sym same) (subst (λ x. IsJoined Left on x r) same j)
 joins-table Full on l r j is = j
 
--- as many columns as a side has
+-- the number of a side's columns
 pub wide-at : (items before : List Item) → AreAmong before items → (number : ℕ) (r : Relation) → relation_at before number ≡ Some r → (side_at items number).columns ≡ length (column_types (columns r))
 wide-at items before among number r at = ap (λ o. unwrap_or (option_map (λ r. length (columns r)) o) 0) (among number r at) ∙ sym (length-map (columns r) (λ c. Some c.ty))
 

@@ -30,7 +30,7 @@ use Rattle.ksql_nodes.proofs.Lists.{All-append}
 use Rattle.meaning_laws.proofs.Lists.{All-map, All-weaker, Pairwise, Pairwise-map, Pairwise-weaker}
 use Rattle.meaning_laws.proofs.Forks.{Forks, IsBefore, Rise, forks-after, forks-more}
 
--- a change springs from a place: it has its stamp, and a path that goes on from its path
+-- a place causes a change: the change has its stamp, and a path that extends its path
 abbrev pub SpringsFrom : Place → Change → Type 0
 SpringsFrom p c = (c.place.stamp ≡ p.stamp) × ((more : List ℕ) × (c.place.path ≡ p.path ++ more))
 
@@ -39,11 +39,12 @@ springs-before a b c d (s, (us, p)) (t, (vs, q)) (inl h) = inl (ap₂ stamp_cmp 
 springs-before a b c d (s, (us, p)) (t, (vs, q)) (inr (same, h)) =
     inr (s ∙ same ∙ sym t, subst₂ Forks (sym p) (sym q) (forks-more a.path b.path us vs h))
 
--- entries whose results spring from places that rise, where they give any
+-- entries whose results are caused at places that rise, if they give any
 abbrev pub RiseAt : (Entry → Place) → (Entry → Bool) → List Entry → Type 0
 RiseAt at t es = Pairwise (λ e f. t e ≡ true → t f ≡ true → IsBefore (at e) (at f)) es
 
--- a step whose results spring from a place of their entry and rise, and which gives nothing for an entry that doesn't trigger it
+-- a step whose results spring from a place of their entry and rise, and which gives nothing for an entry that doesn't
+-- trigger it
 pub record IsRising (at : Entry → Place) (t : Entry → Bool) (step : Step) : Type 0 where
   pub springs : (before : List Entry) (e : Entry) → AllByRecursion (SpringsFrom (at e)) (step before e)
   pub rises : (before : List Entry) (e : Entry) → Rise (step before e)
@@ -53,7 +54,7 @@ rise-append : (xs ys : List Change) → Rise xs → Rise ys → AllByRecursion (
 rise-append [] ys hx hy cross = hy
 rise-append (x ∷ xs) ys hx hy cross = (All-append (λ d. IsBefore x.place d.place) xs ys hx.0 cross.0, rise-append xs ys hx.1 hy cross.1)
 
--- a change that springs from a place stands before what later entries give
+-- a change caused at a place comes before what later entries give
 results-later : (at : Entry → Place) (t : Entry → Bool) (step : Step) → IsRising at t step → (p : Place) (c : Change) → SpringsFrom p c → (before es : List Entry) →
     AllByRecursion (λ f. t f ≡ true → IsBefore p (at f)) es → AllByRecursion (λ d. IsBefore c.place d.place) (results step before es)
 results-later at t step rising p c springs before [] later = tt
@@ -193,7 +194,7 @@ gives-rising n node = record {
 
 -- ---- steps in a row
 
--- a step with one input, each entry of which stands at its own place
+-- a step with one input, whose entries have their own places
 abbrev pub IsPlain : Step → Type 0
 IsPlain step = IsRising (λ e. e.change.place) (λ e. true) step
 

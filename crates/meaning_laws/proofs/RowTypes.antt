@@ -1,4 +1,4 @@
--- Rows and keys that hold values of some types, and what steps make of them.
+-- Rows and keys with values of given types, and what steps make of them.
 use Rattle.std.proofs.Common.{◌≡◌, ◌∙◌, ap, ap₂, refl, sym, subst, ℕ, List, [], ◌∷◌, ◌++◌, map, length, length-append, append_assoc, replicate, Bool, true, false}
 use Rattle.std.specs.Prelude.{filter, if◌then◌else◌, Option, Some, None, option_map, option_and_then, unwrap_or, IfSome}
 use Rattle.std.specs.List.{enumerate_from, fold, last_or, list_any, AllByRecursion, AllZip}
@@ -72,7 +72,7 @@ BodyHas kind.Stream ts (Turned old new) = ⊥
 BodyHas _ ts (Said row) = ⊥
 BodyHas _ ts (Turned old new) = IfSome old (RowHas ts) × IfSome new (RowHas ts)
 
--- a change of a kind has a key of which K holds, and rows of these types
+-- a change of a kind has a key with property K, and rows of these types
 abbrev pub Holds : Kind → (List Value → Type 0) → List (Option SqlType) → Change → Type 0
 Holds over K ts c = K c.key × BodyHas over ts c.body
 
@@ -547,7 +547,7 @@ pub grouped-apart : (w : Option Window) → grouped_kind w ≡ kind.Stream → �
 grouped-apart None is = table-apart is
 grouped-apart (Some w) is = windowed-apart is
 
--- the entries that stand are among all
+-- the latest entries are among all
 standing-rows : (over : Kind) (ts : List (Option SqlType)) (es : List Entry) → BringRows over ts es → BringRows over ts (standing es)
 standing-rows over ts [] h = tt
 standing-rows over ts (e ∷ es) h = by (list_any (λ later. is_same_key e.change.key later.change.key) es) (standing-rows over ts es h.1)

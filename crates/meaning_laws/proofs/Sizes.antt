@@ -27,7 +27,7 @@ use Rattle.ksql_nodes.specs.Windows.{Timed, added, is_added, timed, window_chang
 use Rattle.ksql_nodes.proofs.Lists.{All-append}
 use Rattle.meaning_laws.proofs.Lists.{All-filter, All-map, All-weaker}
 
--- a step gives changes of which B holds for entries of which P holds
+-- a step gives changes with property B for entries with property P
 abbrev pub GivesFor : (P : Entry → Type 0) (B : Change → Type 0) → Step → Type 0
 GivesFor P B step = (before : List Entry) → AllByRecursion P before → (e : Entry) → P e → AllByRecursion B (step before e)
 
@@ -53,7 +53,7 @@ pub last-holds : (P : Entry → Type 0) (o : Option Entry) (es : List Entry) →
 last-holds P o [] h hs = h
 last-holds P o (e ∷ es) h hs = last-holds P (Some e) es hs.0 hs.1
 
--- the entries of which times are kept
+-- the entries whose times are bounded
 pub timed-hold : (P : Entry → Type 0) (n : ℕ) (before es : List Entry) → AllByRecursion P es → AllByRecursion (λ t. P t.entry) (results (λ before e. timed n before e ∷ []) before es)
 timed-hold P n before [] h = tt
 timed-hold P n before (e ∷ es) h = (h.0, timed-hold P n (before ++ e ∷ []) es h.1)

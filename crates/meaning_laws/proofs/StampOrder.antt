@@ -1,4 +1,4 @@
--- Changes that pass a test of stamps stand first, where the entries do.
+-- Changes that pass a test of stamps come first if the entries do.
 use Rattle.std.proofs.Common.{◌≡◌, ◌∙◌, ap, sym, List, [], ◌∷◌, ◌++◌, Bool, true}
 use Rattle.std.specs.List.{AllByRecursion}
 use Rattle.ksql_place.specs.Ascending.{PassesFirst}

@@ -1,4 +1,4 @@
--- Lists of changes in which old is the latest new.
+-- Lists of changes where old is the latest new.
 use Rattle.std.proofs.Common.{◌≡◌, ◌∙◌, ap, refl, sym, subst, ℕ, List, [], ◌∷◌, ◌++◌, map, Bool, true, false, cond, append_assoc}
 use Rattle.std.proofs.lemmas.List.{append-nil, map-append}
 use Rattle.std.proofs.lemmas.List.Elements.{filter-append}
@@ -98,7 +98,7 @@ changed-from-side (c ∷ cs) = ap (λ (rest : List Change). c ∷ rest) (changed
 abbrev pub AreTurned : List Change → Type 0
 AreTurned changes = IsTableFrom [] (from_side 0 changes)
 
--- a step by which a table stays one
+-- a step that turns a table into a table
 abbrev pub KeepsTable : Step → Type 0
 KeepsTable step = (es : List Entry) → IsTableFrom [] es → AreTurned (results step [] es)
 
@@ -106,7 +106,7 @@ pub through-turned : (steps : List Step) → AllByRecursion KeepsTable steps →
 through-turned [] keep changes table = subst AreTurned (sym (changed-from-side changes)) table
 through-turned (step ∷ steps) keep changes table = through-turned steps keep.1 (results step [] (from_side 0 changes)) (keep.0 (from_side 0 changes) table)
 
--- steps of which the last make a table of whatever comes
+-- steps whose last ones make a table of whatever comes
 pub through-ends : (first last : List Step) → ((es : List Entry) → AreTurned (through last es)) → (es : List Entry) → AreTurned (through (first ++ last) es)
 through-ends [] last makes es = makes es
 through-ends (step ∷ first) last makes es = through-ends first last makes (from_side 0 (results step [] es))

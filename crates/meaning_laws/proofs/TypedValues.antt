@@ -277,7 +277,7 @@ module _ (worth : Typed → Value) where
   abbrev IsWorth : Typed → Type 0
   IsWorth e = Has e.ty (worth e)
 
-  -- each of some results goes into their joint type
+  -- each of some results widens to their joint type
   joint-into : (es : List Typed) (t : Option SqlType) → joint_type (types es) ≡ Some t → AllByRecursion IsWorth es → AllByRecursion (λ e. Into t (worth e)) es
   joint-into [] t is h = tt
   joint-into (e ∷ es) t is h = by (joint_type (types es)) refl is (λ u at. joint-into es u at h.1)
@@ -360,7 +360,7 @@ unfolding value_of
 when_value row time w =
     ap (λ p. p.1) (fold-roll-TypedWhen (Option SqlType → Value) Value (Value × Value) (node_value row time) (λ e. e.node e.ty) (λ x. (x.cond, x.result)) (record { cond = w.cond; result = w.result }))
 
--- what is known of the values of parts that have their types
+-- the facts about the values of parts that have their types
 abbrev Worth : List Value → ℕ → Part → Type 0
 Worth row time (one e) = Has e.ty (value_of row time e)
 Worth row time (perhaps None) = Unit {0}

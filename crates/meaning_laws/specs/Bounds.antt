@@ -1,4 +1,4 @@
--- How large times and paths are, and what keys and rows hold.
+-- Bounds on times and paths, and the content of keys and rows.
 use Rattle.std.specs.Prelude.{◌≡◌, ℕ, ◌≤◌, ◌^◌, IsTrue, List, [], ◌∷◌, length, All, Some, IfSome}
 use Rattle.std.specs.List.{AllZip}
 use Rattle.ksql_types.specs.Key.{IsKey}
@@ -43,7 +43,7 @@ abbrev pub IsKeyOf : List Column → List Value → Type 0
 IsKeyOf cs [] = Unit {0}
 IsKeyOf cs (v ∷ vs) = IsRowOf cs (v ∷ vs) × IsKey (v ∷ vs)
 
--- each row that a change holds is one of these columns
+-- each row of a change is one of these columns
 abbrev pub IsBodyOf : List Column → Body → Type 0
 IsBodyOf cs (Said row) = IsRowOf cs row
 IsBodyOf cs (Turned old new) = IfSome old (IsRowOf cs) × IfSome new (IsRowOf cs)
@@ -53,7 +53,7 @@ pub record HasColumnsOf (r : Relation) (c : Change) : Type 0 where
   pub key : IsKeyOf r.schema.keys c.key
   pub rows : IsBodyOf r.schema.values c.body
 
--- the row of a record, where it has a good one, is one of these columns
+-- the row of a record, if it has a good one, is one of these columns
 abbrev pub IsDecodedOf : List Column → Decoded → Type 0
 IsDecodedOf cs (Good row) = IsRowOf cs row
 IsDecodedOf cs _ = Unit {0}

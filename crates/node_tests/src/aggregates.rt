@@ -2,8 +2,7 @@ ghost use Rattle.std.specs.Prelude.{◌≤◌, ◌^◌, IfOk, IsTrue};
 ghost use Rattle.node_tests.specs.Counting.{CountsRows};
 ghost use Rattle.agg_ops.specs.Totals.{is_sound_window};
 
-use crate::changes::crosses_threads;
-use agg_ops::{AggOp, TableAggOp, WindowAggOp};
+use agg_ops::WindowAggOp;
 use ksql_expr::AggFun;
 use ksql_nodes::Node;
 use ksql_place::{Body, Change, Path, Place, Stamp};
@@ -11,15 +10,6 @@ use ksql_program::Agg;
 use ksql_types::{Items, Key, Kind, Value, Window};
 use operator::Operator;
 use std::alloc::{AllocError, Global};
-use std::test::Fail;
-
-#[test]
-fn operators_cross_threads(_rt: HostRuntime) -> Result<(), Fail> {
-    crosses_threads::<AggOp>();
-    crosses_threads::<TableAggOp>();
-    crosses_threads::<WindowAggOp>();
-    Ok(())
-}
 
 /// COUNT of the rows of a stream in windows.
 fn counting(alloc: Global, window: Window) -> Result<WindowAggOp, AllocError>
@@ -87,40 +77,31 @@ fn put_numbers(numbers: &mut Vec<i64>, values: &[Value]) -> Result<(), AllocErro
     Ok(())
 }
 
-#[test]
-fn a_row_counts_in_each_of_its_windows(rt: HostRuntime) -> Result<(), Fail> {
-    let alloc = rt.alloc();
-    let hopping = Window {
+/// What rows at the times 12, 3 and 14 give in windows that overlap.
+pub fn hopping(alloc: Global) -> Result<String, AllocError> {
+    let window = Window {
         size: 10,
         advance: 5,
         grace: 5,
     };
-    let mut op = counting(alloc, hopping)?;
+    let mut op = counting(alloc, window)?;
     let first = given(alloc, &mut op, 12)?;
     let second = given(alloc, &mut op, 3)?;
     let third = given(alloc, &mut op, 14)?;
-    assert_eq!(rt; first.as_slice(), [1, 5, 15, 1, 10, 20].as_slice());
-    assert_eq!(rt; second.as_slice(), [1, 0, 10].as_slice());
-    assert_eq!(rt; third.as_slice(), [2, 5, 15, 2, 10, 20].as_slice());
-    Ok(())
+    format!(in alloc; "{first:?} {second:?} {third:?}")
 }
 
-#[test]
-fn a_late_row_counts_no_more(rt: HostRuntime) -> Result<(), Fail> {
-    let alloc = rt.alloc();
-    let tumbling = Window {
+/// What rows at the times 24, 12, 25 and 12 give in windows one after another.
+pub fn tumbling(alloc: Global) -> Result<String, AllocError> {
+    let window = Window {
         size: 10,
         advance: 10,
         grace: 5,
     };
-    let mut op = counting(alloc, tumbling)?;
+    let mut op = counting(alloc, window)?;
     let first = given(alloc, &mut op, 24)?;
     let second = given(alloc, &mut op, 12)?;
     let third = given(alloc, &mut op, 25)?;
     let late = given(alloc, &mut op, 12)?;
-    assert_eq!(rt; first.as_slice(), [1, 20, 30].as_slice());
-    assert_eq!(rt; second.as_slice(), [1, 10, 20].as_slice());
-    assert_eq!(rt; third.as_slice(), [2, 20, 30].as_slice());
-    assert_eq!(rt; late.len(), 0);
-    Ok(())
+    format!(in alloc; "{first:?} {second:?} {third:?} {late:?}")
 }

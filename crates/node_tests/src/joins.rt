@@ -1,12 +1,10 @@
-use crate::changes::{change, int_column};
+use crate::changes::{change, int_column, rows, times};
 use ksql_nodes::{Node, Side};
 use ksql_place::{Body, Change};
 use ksql_program::JoinKind;
 use ksql_types::{Items, Row, Value};
-use node_steps::EntryRef;
+use reference::{EntryRef, join_results};
 use std::alloc::{AllocError, Global};
-use std::test::Fail;
-use table_steps::join_results;
 
 /// A row of two numbers.
 fn pair(alloc: Global, first: i32, second: i32) -> Result<Row, AllocError> {
@@ -75,72 +73,35 @@ fn left(alloc: Global, entries: &[EntryRef]) -> Result<Vec<Change>, AllocError> 
     join_results(alloc, &nodes[0], entries)
 }
 
-/// The numbers of the row that a change brings, and -1 for NULL.
-fn numbers(alloc: Global, change: &Change) -> Result<Vec<i32>, AllocError> {
-    let row = match &change.body {
-        Body::Said(row) => Some(row),
-        Body::Turned { new, .. } => new.as_ref(),
-    };
-    let mut numbers = Vec::new(alloc);
-    if let Some(row) = row {
-        for cell in row.items() {
-            numbers.push(match cell {
-                Value::Int(number) => *number,
-                _ => -1,
-            })?;
-        }
-    }
-    Ok(numbers)
-}
-
-/// The time of each change, and the first number of its path.
-fn places(alloc: Global, changes: &[Change]) -> Result<Vec<(u64, u32)>, AllocError> {
-    let mut places = Vec::new(alloc);
+/// The first number of the path of each change.
+fn steps(alloc: Global, changes: &[Change]) -> Result<String, AllocError> {
+    let mut steps = String::from_str(alloc, "steps")?;
     for change in changes {
         if let [step, ..] = change.place.path.items() {
-            places.push((change.time, *step))?;
+            write!(steps, " {step}")?;
         }
     }
-    Ok(places)
+    Ok(steps)
 }
 
-#[test]
-fn full_joins_follow_both_tables(rt: HostRuntime) -> Result<(), Fail> {
-    let alloc = rt.alloc();
+/// What a FULL join gives where each table is set, and then each row is taken away.
+pub fn full_join(alloc: Global) -> Result<String, AllocError> {
     let mut changes = Vec::new(alloc);
     for (time, number) in [(5, Some(10)), (9, Some(20)), (7, None), (8, None)] {
         changes.push(set(alloc, time, 1, number)?)?;
     }
     let entries = entries(alloc, &[0, 1, 0, 1], changes.as_slice())?;
     let given = full(alloc, entries.as_slice())?;
-    let expected = [(5, 1), (9, 0), (9, 1), (8, 0)];
-    assert_eq!(rt;
-        places(alloc, given.as_slice())?.as_slice(),
-        expected.as_slice()
-    );
-    let rows = [[1, 10, -1, -1, 1], [1, 10, 1, 20, 1], [-1, -1, 1, 20, 1]];
-    for (change, row) in given.iter().zip(&rows) {
-        assert_eq!(rt; numbers(alloc, change)?.as_slice(), row.as_slice());
-    }
-    let Some(last) = given.last() else {
-        return Err(Fail::from("a last change"));
-    };
-    assert!(rt; numbers(alloc, last)?.is_empty());
-    Ok(())
+    let times = times(alloc, &given)?;
+    let steps = steps(alloc, &given)?;
+    format!(in alloc; "{times} {steps} {}", rows(alloc, &given)?)
 }
 
-#[test]
-fn a_left_join_sees_the_table_as_it_stands(rt: HostRuntime) -> Result<(), Fail> {
-    let alloc = rt.alloc();
+/// What a LEFT join gives of a record before the table has its row, and of one after that.
+pub fn left_join(alloc: Global) -> Result<String, AllocError> {
     let mut changes = vec![in alloc; said(alloc, 5, 1, 7)?]?;
     changes.push(set(alloc, 9, 7, Some(70))?)?;
     changes.push(said(alloc, 6, 2, 7)?)?;
     let entries = entries(alloc, &[0, 1, 0], changes.as_slice())?;
-    let given = left(alloc, entries.as_slice())?;
-    assert!(rt; given.len() == 2);
-    let rows = [[1, 7, -1, -1], [2, 7, 7, 70]];
-    for (change, row) in given.iter().zip(&rows) {
-        assert_eq!(rt; numbers(alloc, change)?.as_slice(), row.as_slice());
-    }
-    Ok(())
+    rows(alloc, &left(alloc, entries.as_slice())?)
 }

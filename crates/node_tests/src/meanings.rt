@@ -5,9 +5,8 @@ use ksql_program::{From, Item, Program, ProgramItems, Query, Shape, relation_of}
 use ksql_types::{
     BinaryOp, Boxed, Chars, Column, Format, Items, Key, Kind, Relation, Schema, SqlType, Value,
 };
-use query_meaning::{Listed, have_no_window, partition_of, slow_meaning};
+use reference::{Listed, have_no_window, partition_of, slow_meaning};
 use std::alloc::{AllocError, Global};
-use std::test::Fail;
 
 #[tactic(auto, unfolding(ksql_types::specs::Text::longest_text))]
 fn chars(alloc: Global, text: &str) -> Result<Chars, AllocError> {
@@ -125,91 +124,72 @@ fn order(alloc: Global) -> Result<Vec<SourceRecord>, AllocError> {
     Ok(order)
 }
 
-fn push_cells(alloc: Global, line: &mut String, cells: &[Value]) -> Result<(), AllocError> {
+fn push_cells(line: &mut String, cells: &[Value]) -> Result<(), AllocError> {
     for cell in cells {
-        let shown = match cell {
-            Value::Txt(text) => format!(in alloc; " {}", text.items())?,
-            Value::Int(number) => format!(in alloc; " {number}")?,
-            _ => String::from_str(alloc, " ?")?,
-        };
-        line.push_str(shown.as_str())?;
+        match cell {
+            Value::Txt(text) => write!(line, " {}", text.items())?,
+            Value::Int(number) => write!(line, " {number}")?,
+            _ => line.push_str(" ?")?,
+        }
     }
     Ok(())
 }
 
-/// A line of the partition, the time, the key and the row of a change.
-fn push_line(
-    alloc: Global,
-    lines: &mut String,
-    relation: &Relation,
-    change: &Change,
-) -> Result<(), Fail> {
+/// Appends the partition, the time, the key and the row of a change.
+fn push_line(lines: &mut String, relation: &Relation, change: &Change) -> Result<(), AllocError> {
     let Body::Said(row) = &change.body else {
-        return Err(Fail::from("a change of a stream"));
+        return lines.push_str("; a change of a table");
     };
     if relation.partitions != 2 {
-        return Err(Fail::from("two partitions"));
+        return Err(AllocError);
     }
     let part = partition_of(relation, change);
-    let head = format!(in alloc; "{part} {}", change.time)?;
-    lines.push_str(head.as_str())?;
-    push_cells(alloc, lines, change.key.items())?;
-    lines.push_str(" |")?;
-    push_cells(alloc, lines, row.items())?;
-    Ok(lines.push_str("\n")?)
+    write!(lines, "; {part} {}", change.time)?;
+    push_cells(lines, change.key.items())?;
+    lines.push_str(":")?;
+    push_cells(lines, row.items())
 }
 
-/// A line of what is lent, or one for each change.
-fn push_listed(
-    alloc: Global,
-    lines: &mut String,
-    relation: &Relation,
-    listed: &Listed,
-) -> Result<(), Fail> {
+/// Appends what is lent, or each change.
+fn push_listed(lines: &mut String, relation: &Relation, listed: &Listed) -> Result<(), AllocError> {
     match listed {
         Listed::Lent { number, order } => {
-            let head = format!(in alloc; "{number} in {} records\n", order.len())?;
-            lines.push_str(head.as_str())?;
+            write!(lines, "{number} in {} records", order.len())?;
         }
         Listed::Made(changes) => {
             for change in changes.items() {
-                push_line(alloc, lines, relation, change)?;
+                push_line(lines, relation, change)?;
             }
         }
     }
     Ok(())
 }
 
-fn lines(alloc: Global, program: &Program, order: &[SourceRecord]) -> Result<String, Fail> {
+fn lines(alloc: Global, program: &Program, order: &[SourceRecord]) -> Result<String, AllocError> {
     if !have_no_window(program) {
-        return Err(Fail::from("a meaning"));
+        return Err(AllocError);
     }
     let lists = slow_meaning(alloc, program, order)?;
     let mut lines = String::new(alloc);
     for (item, listed) in program.items.items().iter().zip(lists.as_slice()) {
-        push_listed(alloc, &mut lines, relation_of(item), listed)?;
+        push_listed(&mut lines, relation_of(item), listed)?;
     }
     Ok(lines)
 }
 
-#[test]
-fn a_row_without_a_key_stays_in_its_records_partition(rt: HostRuntime) -> Result<(), Fail> {
-    let alloc = rt.alloc();
+/// What a query means of records of which one gets no key, one is of another topic and one is left out by the query.
+pub fn meaning(alloc: Global) -> Result<String, AllocError> {
     let order = order(alloc)?;
-    let lines = lines(alloc, &program(alloc)?, order.as_slice())?;
-    let expected = "0 in 4 records\n1 7 a | -2147483648\n1 9 | 6\n";
-    assert_eq!(rt; lines.as_str(), expected);
-    Ok(())
+    lines(alloc, &program(alloc)?, order.as_slice())
 }
 
-#[test]
-fn a_windowed_table_has_no_plain_meaning(rt: HostRuntime) -> Result<(), Fail> {
-    let alloc = rt.alloc();
+/// Whether a stream, a table and a windowed table are all without windows.
+pub fn windowless(alloc: Global) -> Result<String, AllocError> {
     let mut items = Vec::new(alloc);
     for (number, kind) in [(0, Kind::Stream), (1, Kind::Table), (2, Kind::Windowed)] {
         items.push(Item::Declared(relation(alloc, number, kind)?))?;
     }
     let items = Items::of(items);
-    assert!(rt; !have_no_window(&Program { items }));
-    Ok(())
+    let plain = have_no_window(&Program { items });
+    format!(in alloc; "{plain}")
 }

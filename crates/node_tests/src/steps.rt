@@ -1,12 +1,11 @@
-use crate::changes::{change, int_column};
+use crate::changes::{change, int_column, rows, times};
 use ksql_expr::AggFun;
 use ksql_nodes::Node;
 use ksql_place::{Body, Change};
 use ksql_program::{Agg, Aggs};
 use ksql_types::{Items, Kind, Value};
-use node_steps::{EntryRef, results};
+use reference::{EntryRef, results};
 use std::alloc::{AllocError, Global};
-use std::test::Fail;
 
 /// A change of a stream, in the group 1, with a number or NULL.
 fn said(alloc: Global, time: u64, number: Option<i32>) -> Result<Change, AllocError> {
@@ -56,38 +55,12 @@ fn aggregated(alloc: Global, changes: &[Change]) -> Result<Vec<Change>, AllocErr
     results(alloc, 1, &nodes[0], entries.as_slice())
 }
 
-/// The numbers of the row that a change brings; None for NULL.
-fn numbers(alloc: Global, change: &Change) -> Result<Vec<Option<i64>>, AllocError> {
-    let mut numbers = Vec::new(alloc);
-    if let Body::Turned { new: Some(row), .. } = &change.body {
-        for value in row.items() {
-            numbers.push(match value {
-                Value::Int(number) => Some(i64::from(*number)),
-                Value::Big(number) => Some(*number),
-                _ => None,
-            })?;
-        }
-    }
-    Ok(numbers)
-}
-
-#[test]
-fn aggregates_pass_over_null_and_wrap(rt: HostRuntime) -> Result<(), Fail> {
-    let alloc = rt.alloc();
+/// What the aggregates give of two NULLs and two numbers whose sum wraps.
+pub fn aggregates(alloc: Global) -> Result<String, AllocError> {
     let mut changes = Vec::new(alloc);
     for (time, number) in [(5, None), (9, Some(i32::MAX)), (7, Some(3)), (8, None)] {
         changes.push(said(alloc, time, number)?)?;
     }
     let given = aggregated(alloc, changes.as_slice())?;
-    assert!(rt; given.len() == 4);
-    let Some(last) = given.last() else {
-        return Err(Fail::from("a last change"));
-    };
-    assert!(rt; last.time == 9);
-    let (greatest, wrapped) = (i64::from(i32::MAX), -2_147_483_646);
-    let expected = [1, 4, 2, wrapped, 3, greatest, 3, greatest].map(Some);
-    assert!(rt; numbers(alloc, last)?.as_slice() == expected.as_slice());
-    let first = [Some(1), Some(1), Some(0), Some(0), None, None, None, None];
-    assert!(rt; numbers(alloc, &given[0])?.as_slice() == first.as_slice());
-    Ok(())
+    format!(in alloc; "{} {}", times(alloc, &given)?, rows(alloc, &given)?)
 }

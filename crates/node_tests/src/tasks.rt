@@ -15,7 +15,6 @@ use ksql_nodes::Node;
 use ksql_place::{Body, Decoded, SourceRecord, Stamp};
 use ksql_types::{Chars, Items, Key, SqlType, TaskName, TopicSpec, Value, Writer};
 use std::alloc::{AllocError, Global};
-use std::test::Fail;
 use task_core::{Moved, Task};
 use topic_log::Broker;
 use topology::{Sub, SubInput};
@@ -150,36 +149,46 @@ fn stepped(alloc: Global, broker: &Broker) -> Result<Moved, AllocError>
     task.advance(alloc, broker)
 }
 
-/// The numbers of rows of one number.
-fn numbers(alloc: Global, proposal: &Proposal) -> Result<Vec<i32>, AllocError> {
-    let mut numbers = Vec::new(alloc);
+/// A task that has gone over a feed of two records.
+fn moved(alloc: Global) -> Result<Moved, AllocError> {
+    let topics = two_topics(alloc)?;
+    let mut broker = Broker::new(alloc, topics.as_slice())?;
+    if broker.partitions(0) != 1 {
+        return Err(AllocError);
+    }
+    feed_two(alloc, &mut broker)?;
+    if broker.partitions(0) != 1 {
+        return Err(AllocError);
+    }
+    stepped(alloc, &broker)
+}
+
+/// What a proposal is of, and its rows of one number.
+fn shown(alloc: Global, proposal: &Proposal) -> Result<String, AllocError> {
+    let Proposal {
+        from,
+        to,
+        generation,
+        ..
+    } = proposal;
+    let entries = proposal.entries.items().len();
+    let mut shown = format!(in alloc; "from {from} to {to} of {generation} with {entries}")?;
     for output in proposal.outputs.items() {
         if let Body::Said(row) = &output.body
             && let [Value::Int(number)] = row.items()
         {
-            numbers.push(*number)?;
+            write!(shown, ", {number}")?;
         }
     }
-    Ok(numbers)
+    Ok(shown)
 }
 
-#[test]
-fn a_task_goes_over_a_feed(rt: HostRuntime) -> Result<(), Fail> {
-    let alloc = rt.alloc();
-    let topics = two_topics(alloc)?;
-    let mut broker = Broker::new(alloc, topics.as_slice())?;
-    assert_eq!(rt; broker.partitions(0), 1);
-    feed_two(alloc, &mut broker)?;
-    assert_eq!(rt; broker.partitions(0), 1);
-    let moved = stepped(alloc, &broker)?;
-    assert_eq!(rt; moved.task.done(), 1);
-    assert_eq!(rt; moved.task.generation(), 3);
-    assert!(rt; moved.task.name() == TaskName { sub: 0, part: 0 });
+/// How far a task goes over a feed of two records, and what it proposes.
+pub fn gone(alloc: Global) -> Result<String, AllocError> {
+    let moved = moved(alloc)?;
+    let TaskName { sub, part } = moved.task.name();
+    let (done, generation) = (moved.task.done(), moved.task.generation());
     let proposal = moved.proposal.ok_or(AllocError)?;
-    assert_eq!(rt; proposal.from, 0);
-    assert_eq!(rt; proposal.to, 1);
-    assert_eq!(rt; proposal.generation, 3);
-    assert!(rt; numbers(alloc, &proposal)?.as_slice() == [6].as_slice());
-    assert!(rt; proposal.entries.items().is_empty());
-    Ok(())
+    let shown = shown(alloc, &proposal)?;
+    format!(in alloc; "{sub}_{part} done {done} of {generation}: {shown}")
 }

@@ -1,4 +1,4 @@
--- What nodes in a row give for entries and then for more, and what a log and then more of it make of their stores.
+-- What a row of nodes gives for entries and then for more, and the replay of a log and then more of it.
 use Rattle.std.proofs.Common.{◌≡◌, ◌∙◌, ap, ap₂, refl, sym, subst, ℕ, Bool, List, [], ◌∷◌, ◌++◌, map, filter, None, Some, All, arith}
 use Rattle.std.specs.Int.{w64, from_be_bytes}
 use Rattle.std.specs.Prelude.{◌==◌, option_map, unwrap_or, not, IsTrue}
@@ -55,13 +55,13 @@ storable-append (n ∷ ns) earlier us vs h =
     let rest = storable-append ns (passed n [] earlier) (passed n earlier us) later (subst (AreStorable ns (passed n [] earlier)) (passed-append n earlier us vs) h.1) in
     ((here.0, rest.0), (here.1, subst (λ (b : List Entry). AreStorable ns b later) (sym (passed-append n [] earlier us)) rest.1))
 
--- from the beginning they give what comes of the entries after the nodes' steps
+-- from the beginning they give what the nodes' steps give for the entries
 pub given-through : (nodes : List Node) (es : List Entry) → given nodes [] es ≡ through (map (gives 1) nodes) es
 unfolding given
 given-through [] es = refl
 given-through (n ∷ ns) es = given-through ns (passed n [] es)
 
--- ---- what a log makes of their stores
+-- ---- the replay of a log
 
 replay-both : (number : ℕ) (m : Values) (us vs : List StoreEntry) → replay m (numbered number (us ++ vs)) ≡ replay (replay m (numbered number us)) (numbered number vs)
 replay-both number m us vs =
@@ -93,12 +93,12 @@ replayed-append (Aggregate over aggs (Some w)) m us vs =
 replayed-append (Having on) m us vs = refl
 replayed-append (Select keys values) m us vs = refl
 
--- a replay goes on from what a log made of empty stores
+-- a replay continues from the stores after a log
 pub replayed-after : (nodes : List Node) (us vs : List StoreEntry) → replayed_along nodes (maps_after nodes us) vs ≡ maps_after nodes (us ++ vs)
 replayed-after [] us vs = refl
 replayed-after (n ∷ ns) us vs = ap₂ (λ (m : Maps) (ms : List Maps). m ∷ ms) (sym (replayed-append n no_maps us vs)) (replayed-after ns us vs)
 
--- the maps at the last commit are those of which nothing was written since
+-- the maps at the last commit are those without writes since
 pub bases-committed : (maps : List Maps) → AllZip IsBaseOf maps (map committed maps)
 bases-committed [] = tt
 bases-committed (m ∷ maps) = (record { left = refl; right = refl; aggregate = refl; windows = refl; time = omega arith }, bases-committed maps)

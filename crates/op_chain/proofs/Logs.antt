@@ -78,7 +78,7 @@ none-along : (ns : List Node) (number : ℕ) → AllByRecursion (λ (m : Node). 
 none-along [] number all = refl
 none-along (m ∷ ns) number all = ap₂ (λ (b c : Bool). b || c) all.0 (none-along ns number all.1)
 
--- a number of the later nodes' stores is none of the first one's
+-- a number of the later nodes' stores is not one of the first node's
 apart-along : (n : Node) (ns : List Node) (number : ℕ) → AllByRecursion (AreApart n) ns → IsTrue (is_store_along ns number) → is_store_of n number ≡ false
 apart-along n ns number apart among = by (is_store_of n number) refl
   where

@@ -13,7 +13,7 @@ use Rattle.op_chain.specs.Along.{StepAlong, Steps}
 use Rattle.op_chain.specs.Chain.{StandAlong, given, passed}
 use Rattle.op_chain.proofs.Laws.{passed-append}
 
--- an operator stands for entries by its maps alone
+-- whether an operator stands for entries depends only on its maps
 pub stands-committed : (n : Node) (h : Held) (es : List Entry) → StandsFor n h es → StandsFor n (committed (maps_of h)) es
 stands-committed n h es s = record { spelled = s.spelled; exact = s.exact }
 
@@ -81,7 +81,7 @@ pub bases-more : (bases : List Maps) (h next : Held) (hs nexts : List Held) → 
 bases-more [] h next hs nexts first later all = absurd all
 bases-more (base ∷ bases) h next hs nexts first later all = (first base all.0, later bases all.1)
 
--- what is in stores of which nothing was written since the last commit
+-- the content of stores without writes since the last commit
 pub maps-committed : (maps : List Maps) → map maps_of (map committed maps) ≡ maps
 maps-committed [] = refl
 maps-committed (m ∷ maps) = ap (λ (ms : List Maps). m ∷ ms) (maps-committed maps)

@@ -1,4 +1,4 @@
--- What the steps of one operator after another come to.
+-- The steps of several operators, one after another.
 use Rattle.std.specs.Prelude.{◌≡◌, IsTrue, List, ◌++◌, map, All}
 use Rattle.std.specs.List.{AllZip, list_any}
 use Rattle.ksql_types.specs.declared.relation.StoreEntry.{StoreEntry}
@@ -15,17 +15,19 @@ use Rattle.op_chain.specs.Chain.{AreStorable, MayLoad, StandAlong, given, replay
 abbrev pub CanStore : Node → List Entry → Type 0
 CanStore node entries = All (λ e. IsStorable node e.side e.change) entries
 
--- operators can take these entries: their stores stand for some earlier ones, after which what comes of them can be stored
+-- operators can take these entries: their stores stand for earlier ones, after which they can store what the entries
+-- bring
 abbrev pub CanTake : List Node → List Held → List Entry → Type 0
 CanTake nodes held entries = (earlier : List Entry) × StandAlong nodes (map maps_of held) earlier × AreStorable nodes earlier entries
 
--- whatever an operator stood for, it added to the old outputs what these entries give after it, and stands for the longer list
+-- whatever an operator stood for, it appended to the old outputs what these entries give after it, and stands for the
+-- longer list
 abbrev pub Steps : Node → Held → Held → List Entry → List Change → List Change → Type 0
 Steps node held next entries old new =
     (earlier : List Entry) → StandsFor node held earlier →
     (new ≡ old ++ results (gives 1 node) earlier entries) × StandsFor node next (earlier ++ entries)
 
--- the same of operators in a row, which added what they gave to the old outputs
+-- the same for a row of operators, which appended what they gave to the old outputs
 abbrev pub StepAlong : List Node → List Held → List Held → List Entry → List Change → List Change → Type 0
 StepAlong nodes held next entries old new =
     (earlier : List Entry) → StandAlong nodes (map maps_of held) earlier →

@@ -1,4 +1,4 @@
--- The codes by which proofs tell the parts of operators apart.
+-- Codes that let proofs tell the parts of operators apart.
 use Rattle.std.specs.Prelude.{ℕ, Bool, List, refl}
 use Rattle.std.specs.Coded.{Coded, code_by, coded×, coded_bool, coded_list, coded_ℕ}
 use Rattle.std.specs.FinMap as finite
@@ -8,7 +8,7 @@ use Rattle.state_store.specs.Store.{Content, Values, content_code}
 use Rattle.operator.specs.Holding.{Held, Maps}
 use Rattle.op_chain.specs.Chain.{ChainView}
 
--- each is stored as its fields
+-- each is coded as its fields
 abbrev pub held_code : Coded Held
 held_code =
     let four = coded× content_code (coded× content_code (coded× content_code (coded× content_code coded_ℕ))) in

@@ -1,4 +1,4 @@
-//! The steps of one operator after another.
+//! The steps of several operators, one after another.
 ghost use Rattle.std.specs.Prelude.{◌≡◌, ◌++◌, List, map, All, IfOk, OnOk};
 ghost use Rattle.std.specs.List.{AllZip};
 ghost use Rattle.ksql_nodes.specs.Entries.{from_side};
@@ -13,7 +13,7 @@ use ksql_types::StoreEntry;
 use operator::{Operator, StoredOperator};
 use std::alloc::{AllocError, Global};
 
-/// Takes entries through operators in a row, and adds what the last one gives to `out`.
+/// Runs entries through a row of operators, and appends what the last one gives to `out`.
 pub(crate) fn run_along(
     ops: &mut [Op],
     alloc: Global,
@@ -37,7 +37,7 @@ pub(crate) fn run_along(
     run_on(later, alloc, given, out)
 }
 
-/// Takes changes that come in on the left through operators in a row, and adds what the last one gives to `out`.
+/// Runs changes that come in on the left through a row of operators, and appends what the last one gives to `out`.
 fn run_on(
     ops: &mut [Op],
     alloc: Global,
@@ -62,7 +62,7 @@ fn run_on(
     run_on(later, alloc, given, out)
 }
 
-/// Takes entries through one operator, and adds what it gives.
+/// Runs entries through one operator, and appends what it gives.
 fn step_each(
     op: &mut Op,
     alloc: Global,
@@ -80,7 +80,7 @@ fn step_each(
     Ok(())
 }
 
-/// Takes changes that come in on the left through one operator, and adds what it gives.
+/// Runs changes that come in on the left through one operator, and appends what it gives.
 fn step_left(
     op: &mut Op,
     alloc: Global,
@@ -98,7 +98,7 @@ fn step_left(
     Ok(())
 }
 
-/// Adds what comes in after the last operator.
+/// Appends what the last operator gave.
 fn give(entries: Vec<Entry>, out: &mut Vec<Change>) -> Result<(), AllocError>
     ensures { OnOk result (out.new.items ≡ out.old.items ++ map (λ e. e.change) (entries_of entries.items)) }
 {
@@ -108,7 +108,7 @@ fn give(entries: Vec<Entry>, out: &mut Vec<Change>) -> Result<(), AllocError>
     Ok(())
 }
 
-/// Commits operators in a row, and answers what changed in their stores since the last commit.
+/// Commits a row of operators, and returns what changed in their stores since the last commit.
 pub(crate) fn changes_along(ops: &mut [Op], alloc: Global) -> Result<Vec<StoreEntry>, AllocError>
     requires { HaveOwnStores (map ⟦<Op as Operator>⟧.node ops.old) }
     ensures nodes { OnOk result (map ⟦<Op as Operator>⟧.node ops.new ≡ map ⟦<Op as Operator>⟧.node ops.old) }
@@ -124,7 +124,7 @@ pub(crate) fn changes_along(ops: &mut [Op], alloc: Global) -> Result<Vec<StoreEn
     Ok(log)
 }
 
-/// Puts what a log makes of empty stores in place of the stores of operators in a row.
+/// Replaces the stores of a row of operators by the replay of a log on empty stores.
 pub(crate) fn load_along(
     ops: &mut [Op],
     alloc: Global,

@@ -1,4 +1,4 @@
-//! Operators in a row.
+//! A row of operators.
 ghost use Rattle.std.specs.Prelude.{◌≡◌, ◌++◌, false, true, List, [], map, All, IfOk, IsTrue, OnErr, OnOk};
 ghost use Rattle.ksql_nodes.specs.Entries.{Entry as OneEntry};
 ghost use Rattle.operator.specs.Holding.{Maps, committed};
@@ -20,7 +20,7 @@ pub struct Entry {
     pub change: Change,
 }
 
-/// An operator for each of some nodes; what one gives comes in at the next.
+/// An operator for each of some nodes; what one gives is the next one's input.
 #[derive(Drop)]
 pub struct Chain {
     ops: Vec<Op>,
@@ -44,7 +44,8 @@ impl Model for Chain {
 }
 
 impl Chain {
-    /// The operators of some nodes, before any entry. Each node has an operator: a window is sound, and over a stream.
+    /// The operators of some nodes, before any entry. Each node must have an operator: a window is valid, and over a
+    /// stream.
     pub fn new(alloc: Global, nodes: &[Node]) -> Result<Chain, AllocError>
         requires { All (λ n. IsTrue (has_operator n)) nodes.now }
         ensures fresh { IfOk result (λ chain. chain ≡ at_rest nodes.now (maps_after nodes.now [])) }
@@ -56,8 +57,8 @@ impl Chain {
         })
     }
 
-    /// Takes further entries through all nodes, and adds what comes of them to `out`. Once memory ran out the chain gives no
-    /// more.
+    /// Runs further entries through all nodes, and appends what the last one gives to `out`. Once memory ran out, the
+    /// chain gives nothing more.
     pub fn run(
         &mut self,
         alloc: Global,
@@ -81,8 +82,8 @@ impl Chain {
         ran
     }
 
-    /// Commits, and answers what changed in all stores since the last commit. After an error the chain may have committed in
-    /// part, and is to be given up.
+    /// Commits, and returns what changed in all stores since the last commit. After an error the chain may have
+    /// committed in part, and must be dropped.
     pub fn changes(&mut self, alloc: Global) -> Result<Vec<StoreEntry>, AllocError>
         requires { HaveOwnStores self.old.nodes }
         ensures rest { OnOk result (self.new ≡ record (at_rest self.old.nodes (maps_in self.old)) { failed = self.old.failed }) }
@@ -93,8 +94,8 @@ impl Chain {
         changes_along(self.ops.as_mut_slice(), alloc)
     }
 
-    /// Puts what a log makes of empty stores in place of all stores. After an error the chain may have loaded in part, and
-    /// is to be given up.
+    /// Replaces all stores by the replay of a log on empty stores. After an error the chain may have loaded in part,
+    /// and must be dropped.
     pub fn load(&mut self, alloc: Global, log: &[StoreEntry]) -> Result<(), AllocError>
         requires { All (MayLoad self.old.nodes) log.now }
         ensures { OnOk result (self.new ≡ at_rest self.old.nodes (maps_after self.old.nodes log.now)) }

@@ -1,4 +1,4 @@
-//! The operators of a sub-topology's nodes, in a row.
+//! The operators of a sub-topology's nodes in a row.
 #![tactic(auto)]
 
 mod along;

@@ -1,11 +1,11 @@
-//! The operator of any node.
+//! An operator of any kind.
 ghost use Rattle.std.specs.Prelude.{◌≡◌, false, [], IfOk, IsTrue};
 ghost use Rattle.operator.specs.Holding.{nothing};
 ghost use Rattle.operator.specs.StandsFor.{StandsFor};
 ghost use Rattle.op_chain.specs.Chain.{has_operator};
 ghost use Rattle.op_chain.specs.declared.op.Op.TheVariants as ops;
 
-use agg_ops::{AggOp, TableAggOp, WindowAggOp};
+use agg_ops::{AggOp, WindowAggOp};
 use join_ops::{StreamTableOp, TableTableOp};
 use ksql_nodes::Node;
 use ksql_place::Change;
@@ -23,13 +23,12 @@ pub enum Op {
     TableTable(TableTableOp),
     Filter(FilterOp),
     Agg(AggOp),
-    TableAgg(TableAggOp),
     WindowAgg(WindowAggOp),
     Select(SelectOp),
 }
 
 impl Op {
-    /// The operator of a node, before any entry: nothing is in its stores.
+    /// The operator of a node, before any entry, with empty stores.
     pub fn new(alloc: Global, node: &Node) -> Result<Op, AllocError>
         requires { IsTrue (has_operator node.now) }
         ensures node { IfOk result (λ op. ⟦<Op as Operator>⟧.node op ≡ node.now) }
@@ -51,7 +50,6 @@ impl Operator for Op {
       | ops.TableTable op ↦ ⟦<TableTableOp as Operator>⟧.node op
       | ops.Filter op ↦ ⟦<FilterOp as Operator>⟧.node op
       | ops.Agg op ↦ ⟦<AggOp as Operator>⟧.node op
-      | ops.TableAgg op ↦ ⟦<TableAggOp as Operator>⟧.node op
       | ops.WindowAgg op ↦ ⟦<WindowAggOp as Operator>⟧.node op
       | ops.Select op ↦ ⟦<SelectOp as Operator>⟧.node op
     ] };
@@ -63,7 +61,6 @@ impl Operator for Op {
       | ops.TableTable op ↦ ⟦<TableTableOp as Operator>⟧.held op
       | ops.Filter op ↦ ⟦<FilterOp as Operator>⟧.held op
       | ops.Agg op ↦ ⟦<AggOp as Operator>⟧.held op
-      | ops.TableAgg op ↦ ⟦<TableAggOp as Operator>⟧.held op
       | ops.WindowAgg op ↦ ⟦<WindowAggOp as Operator>⟧.held op
       | ops.Select op ↦ ⟦<SelectOp as Operator>⟧.held op
     ] };
@@ -75,7 +72,6 @@ impl Operator for Op {
       | ops.TableTable op ↦ ⟦<TableTableOp as Operator>⟧.failed op
       | ops.Filter op ↦ ⟦<FilterOp as Operator>⟧.failed op
       | ops.Agg op ↦ ⟦<AggOp as Operator>⟧.failed op
-      | ops.TableAgg op ↦ ⟦<TableAggOp as Operator>⟧.failed op
       | ops.WindowAgg op ↦ ⟦<WindowAggOp as Operator>⟧.failed op
       | ops.Select op ↦ ⟦<SelectOp as Operator>⟧.failed op
     ] };
@@ -94,7 +90,6 @@ impl Operator for Op {
             Op::TableTable(op) => op.step(alloc, side, change, out),
             Op::Filter(op) => op.step(alloc, side, change, out),
             Op::Agg(op) => op.step(alloc, side, change, out),
-            Op::TableAgg(op) => op.step(alloc, side, change, out),
             Op::WindowAgg(op) => op.step(alloc, side, change, out),
             Op::Select(op) => op.step(alloc, side, change, out),
         }
@@ -108,7 +103,6 @@ impl StoredOperator for Op {
             Op::StreamTable(op) => op.changes(alloc),
             Op::TableTable(op) => op.changes(alloc),
             Op::Agg(op) => op.changes(alloc),
-            Op::TableAgg(op) => op.changes(alloc),
             Op::WindowAgg(op) => op.changes(alloc),
             // These have no stores.
             Op::Rekey(_) | Op::Filter(_) | Op::Select(_) => Ok(Changelog::of(Vec::new(alloc))),
@@ -121,14 +115,13 @@ impl StoredOperator for Op {
             Op::StreamTable(op) => op.load(alloc, log),
             Op::TableTable(op) => op.load(alloc, log),
             Op::Agg(op) => op.load(alloc, log),
-            Op::TableAgg(op) => op.load(alloc, log),
             Op::WindowAgg(op) => op.load(alloc, log),
             Op::Rekey(_) | Op::Filter(_) | Op::Select(_) => Ok(()),
         }
     }
 }
 
-/// The operator that a node's kind asks for.
+/// The operator for a node's kind.
 fn operator_of(alloc: Global, node: &Node) -> Result<Op, AllocError>
     requires { IsTrue (has_operator node.now) }
     ensures node { IfOk result (λ op. ⟦<Op as Operator>⟧.node op ≡ node.now) }
@@ -140,23 +133,14 @@ fn operator_of(alloc: Global, node: &Node) -> Result<Op, AllocError>
         Node::JoinStreamTable { .. } => Ok(Op::StreamTable(StreamTableOp::new(alloc, node)?)),
         Node::JoinTables { .. } => Ok(Op::TableTable(TableTableOp::new(alloc, node)?)),
         Node::Filter { .. } | Node::Having { .. } => Ok(Op::Filter(FilterOp::new(alloc, node)?)),
-        Node::Aggregate {
-            over: Kind::Stream,
-            window: None,
-            ..
-        } => Ok(Op::Agg(AggOp::new(alloc, node)?)),
-        Node::Aggregate {
-            over: Kind::Table,
-            window: None,
-            ..
-        } => Ok(Op::TableAgg(TableAggOp::new(alloc, node)?)),
+        Node::Aggregate { window: None, .. } => Ok(Op::Agg(AggOp::new(alloc, node)?)),
         Node::Aggregate {
             over: Kind::Stream,
             window: Some(_),
             ..
         } => Ok(Op::WindowAgg(WindowAggOp::new(alloc, node)?)),
         Node::Select { .. } => Ok(Op::Select(SelectOp::new(alloc, node)?)),
-        // Windows are over streams alone.
+        // Only streams have windows.
         Node::Aggregate { .. } => unreachable!(),
     }
 }

@@ -17,7 +17,7 @@ use Rattle.record_codec.proofs.Parts.{reads-row}
 use Rattle.operator.specs.Kept.{at_bytes}
 use Rattle.operator.specs.StandsFor.{HasSpelledKey}
 
--- keys with the same bytes are one
+-- keys with the same bytes are equal
 values-apart : (a b : List Value) → IsSpellableRow a → IsSpellableRow b → values a ≡ values b → a ≡ b
 values-apart a b ha hb e = (spelled-apart values IsSpellableRow row_at reads-row a b [] ha hb (append-nil (values a) ∙ e)).0
 

@@ -8,7 +8,8 @@ use Rattle.ksql_nodes.specs.declared.node.Node.TheVariants.{Table, JoinStreamTab
 use Rattle.state_store.specs.Store.{Values, Content, replay, numbered, IsBase}
 use Rattle.record_codec.specs.Spelling.{eight}
 
--- what an operator holds: the rows of its tables, its groups, its windows and its stream time; a part that it hasn't is empty
+-- what an operator holds: the rows of its tables, its groups, its windows and its stream time; a part that it doesn't
+-- have is empty
 pub record Held : Type 0 where
   pub left : Content
   pub right : Content
@@ -16,7 +17,7 @@ pub record Held : Type 0 where
   pub windows : Content
   pub time : ℕ
 
--- the same without the keys that were written since the last commit
+-- the same without the keys written since the last commit
 pub record Maps : Type 0 where
   pub left : Values
   pub right : Values
@@ -27,7 +28,7 @@ pub record Maps : Type 0 where
 abbrev pub maps_of : Held → Maps
 maps_of h = record { left = h.left.map; right = h.right.map; aggregate = h.aggregate.map; windows = h.windows.map; time = h.time }
 
--- a map of which nothing was written since the last commit
+-- a map without writes since the last commit
 abbrev pub unwritten : Values → Content
 unwritten m = record { map = m; written = [] }
 
@@ -48,7 +49,7 @@ no_maps = record { left = finite.empty; right = finite.empty; aggregate = finite
 abbrev pub nothing : Held
 nothing = committed no_maps
 
--- ---- changelogs: 0 is the number of the left table, 1 that of the right one, 2 that of the groups or the windows
+-- ---- changelogs: store 0 is the left table, 1 the right one, 2 the groups or the windows
 
 -- an entry under the number of a store
 abbrev pub in_store : ℕ → StoreEntry → StoreEntry
@@ -66,11 +67,11 @@ is_store_of node number = false
 abbrev pub IsOwnLog : Node → List StoreEntry → Type 0
 IsOwnLog node log = All (λ entry. IsTrue (is_store_of node entry.store)) log
 
--- the stream time stands under the key without bytes
+-- the stream time is stored under the empty key
 abbrev pub is_of_time : StoreEntry → Bool
 is_of_time entry = length entry.key == 0
 
--- the stream time after the entries of a log that say it
+-- the stream time after the entries of a log that have it
 abbrev pub time_after : ℕ → List StoreEntry → ℕ
 time_after time [] = time
 time_after time (entry ∷ log) = time_after (unwrap_or (option_map (from_be_bytes w64) entry.value) time) log
@@ -87,18 +88,18 @@ replayed (Aggregate over aggs (Some w)) m log = record m {
 }
 replayed node m log = m
 
--- an entry of the windows: of a key and a start, or of the stream time
+-- an entry of a window store: of a key and a start, or of the stream time
 abbrev pub IsWindowEntry : StoreEntry → Type 0
 IsWindowEntry entry =
     ((key : List ℕ) × (start : ℕ) × (entry.key ≡ key ++ eight start) × (start ≤ 2 ^ 56))
     ⊎ ((time : ℕ) × (entry.key ≡ []) × (entry.value ≡ Some (eight time)))
 
--- a log that a node's operator can load: any where it has no windows
+-- a log that a node's operator can load: any log, if it has no windows
 abbrev pub IsLoadable : Node → List StoreEntry → Type 0
 IsLoadable (Aggregate over aggs (Some w)) log = All IsWindowEntry (numbered 2 log)
 IsLoadable node log = Unit {0}
 
--- maps that the changes since the last commit turn into those now, as the ones at the last commit
+-- maps that the changes since the last commit turn into the current ones, such as those at the last commit
 pub record IsBaseOf (base : Maps) (held : Held) : Type 0 where
   pub left : IsBase base.left held.left
   pub right : IsBase base.right held.right

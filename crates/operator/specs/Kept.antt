@@ -1,5 +1,5 @@
--- What is kept of the entries of a key, and under which bytes. A key is spelled with the types of its values, so keys of different
--- types have different bytes.
+-- What is kept of the entries of a key, and under which bytes. A key is spelled with the types of its values, so keys
+-- of different types have different bytes.
 use Rattle.std.specs.Prelude.{ℕ, ◌+◌, Bool, ◌&&◌, nat_lt, List, ◌∷◌, ◌++◌, map, filter, flat_map, bytes_eq, Option, Some, None, option_map, option_and_then, pos}
 use Rattle.std.specs.List.{last_or}
 use Rattle.ksql_types.specs.declared.relation.Kind.{Kind}
@@ -16,15 +16,16 @@ use Rattle.ksql_nodes.specs.Aggregates.{unless_none, worth}
 use Rattle.ksql_nodes.specs.Windows.{Timed, windows_of, is_added, with_times}
 use Rattle.record_codec.specs.Spelling.{eight, values, spelling}
 
--- the entries whose key is spelled so
+-- the entries whose key has this spelling
 abbrev pub at_bytes : List ℕ → List Entry → List Entry
 at_bytes b es = filter (λ e. bytes_eq b (values e.change.key)) es
 
--- what a table keeps of a change: the change that sets its row, with the row before left out; nothing of one that brings no row
+-- what a table keeps of a change: the change that sets its row, without the row before; nothing of a change without a
+-- row
 abbrev pub kept : Change → Option Change
 kept c = option_map (λ row. record c { body = Turned None (Some row) }) (row_in c.body)
 
--- what is kept after some entries of a key: that of the last of them
+-- what is kept after some entries of a key: that of the last one
 abbrev pub kept_after : List Entry → Option Change
 kept_after es = option_and_then (λ e. kept e.change) (last_or None es)
 
@@ -32,7 +33,7 @@ kept_after es = option_and_then (λ e. kept e.change) (last_or None es)
 abbrev pub rows_at : List Entry → List ℕ → Option (List ℕ)
 rows_at es b = option_map spelling (kept_after (at_bytes b es))
 
--- what a group keeps of its entries: their greatest time, and the aggregates over them; nothing where there are none
+-- what a group keeps of its entries: their greatest time, and the aggregates over them; nothing if there are none
 abbrev pub totals : Kind → List Agg → List Entry → Option (List Value)
 totals over aggs es = unless_none es (Big (pos (latest_time es)) ∷ map (worth over es) aggs)
 
@@ -40,7 +41,7 @@ totals over aggs es = unless_none es (Big (pos (latest_time es)) ∷ map (worth 
 abbrev pub groups_at : Kind → List Agg → List Entry → List ℕ → Option (List ℕ)
 groups_at over aggs es b = option_map values (totals over aggs (at_bytes b es))
 
--- whether a window that a stream time leaves open, and an entry that was added to it, are under these bytes: the key, and then the start
+-- whether an entry that was added to a window still open at a stream time is under these bytes: its key, then the start
 abbrev pub is_under : Window → ℕ → List ℕ → Timed → Span → Bool
 is_under w time b t s =
     is_added w s t && (nat_lt time (s.end + w.grace) && bytes_eq b (values t.entry.change.key ++ eight s.start))

@@ -1,4 +1,4 @@
--- What an operator stands for: the entries after which its stores hold exactly what they hold.
+-- What an operator stands for: entries after which its stores hold exactly their content.
 use Rattle.std.specs.Prelude.{◌≡◌, ℕ, List, Option, None, Some, IfSome}
 use Rattle.std.specs.FinMap.{get}
 use Rattle.std.specs.List.{AllByRecursion}
@@ -9,7 +9,7 @@ use Rattle.record_codec.specs.Spelling.{IsSpellable, IsSpellableRow, AreSpellabl
 use Rattle.operator.specs.Kept.{at_bytes, kept, rows_at, totals, groups_at, added_at, windows_at}
 use Rattle.operator.specs.Holding.{Maps, Held, maps_of}
 
--- what each part is to hold: a value for some keys, by their bytes
+-- what each part must hold: a value for some keys, by their bytes
 pub record Parts : Type 0 where
   pub left : List ℕ → Option (List ℕ)
   pub right : List ℕ → Option (List ℕ)
@@ -23,9 +23,9 @@ absent b = None
 abbrev pub no_parts : Parts
 no_parts = record { left = absent; right = absent; aggregate = absent; windows = absent; time = 0 }
 
--- What the operator of a node holds after entries: for each table that it reads the latest row of each key, with its time and its
--- place; for each group, and for each open window, the aggregates and the time; with windows the stream time too. Every other
--- operator holds nothing.
+-- What the operator of a node holds after entries: for each table that it reads, the latest row of each key, with its
+-- time and place; for each group, and for each open window, the aggregates and the time; with windows, the stream time
+-- too. Every other operator holds nothing.
 abbrev pub parts : Node → List Entry → Parts
 parts (Table relation) es = record no_parts { left = rows_at es }
 parts (JoinStreamTable kind on left right) es = record no_parts { right = rows_at (of_side 1 es) }
@@ -50,7 +50,7 @@ HasSpelledKey e = IsSpellableRow e.change.key
 abbrev pub HasSpelledRow : Entry → Type 0
 HasSpelledRow e = HasSpelledKey e × IfSome (kept e.change) IsSpellable
 
--- the entries by which an operator's parts are read again: what they stand under and what is kept of them has a spelling
+-- the entries that an operator reads its parts from have spellings: their keys, and what is kept of them
 abbrev pub AreSpelled : Node → List Entry → Type 0
 AreSpelled (Table relation) es = AllByRecursion HasSpelledRow es
 AreSpelled (JoinStreamTable kind on left right) es = AllByRecursion HasSpelledRow (of_side 1 es)
@@ -59,7 +59,7 @@ AreSpelled (Aggregate over aggs None) es = AllByRecursion HasSpelledKey es × ((
 AreSpelled (Aggregate over aggs (Some w)) es = AllByRecursion HasSpelledKey es × ((b : List ℕ) → IfSome (totals over aggs (added_at w es b)) AreSpellable)
 AreSpelled node es = Unit {0}
 
--- an operator of a node that holds this stands for these entries
+-- an operator of a node with this content stands for these entries
 pub record StandsFor (node : Node) (held : Held) (es : List Entry) : Type 0 where
   pub spelled : AreSpelled node es
   pub exact : AreParts (maps_of held) (parts node es)

@@ -13,7 +13,7 @@ use Rattle.operator.specs.Kept.{kept}
 abbrev pub HasShortRow : Change → Type 0
 HasShortRow c = IfSome (kept c) IsWithinLimits
 
--- the arguments of some aggregates are short on the row that a change brings
+-- the arguments of some aggregates are short for the row that a change brings
 abbrev pub HasShortArguments : List Agg → Change → Type 0
 HasShortArguments aggs c = IfSome (row_in c.body) (λ row. All (λ a. IsShort (argument a.arg (record { row = row; time = c.time }))) aggs)
 

@@ -5,7 +5,7 @@ use ksql_types::{Bytes, Key, LONGEST_VALUE, Value};
 use record_codec::encode_values;
 use std::alloc::{AllocError, Global};
 
-/// The bytes of a key in the stores. They say the types of its values too.
+/// The bytes of a key in the stores. They tell the types of its values too.
 pub fn spelled_key(alloc: Global, key: &Key) -> Result<Bytes, AllocError>
     requires { All IsShort key.now }
     ensures bytes { IfOk result (λ bytes. bytes ≡ values key.now) }
@@ -14,7 +14,7 @@ pub fn spelled_key(alloc: Global, key: &Key) -> Result<Bytes, AllocError>
     encode_values(alloc, key.items())
 }
 
-/// Whether each value of a key is short enough for the key to be spelled.
+/// Whether each value of a key is short enough to be spelled in a store.
 pub fn is_short(key: &Key) -> bool
     ensures { IsTrue result ↔ All IsShort key.now }
 {
@@ -26,7 +26,7 @@ pub fn is_short(key: &Key) -> bool
     true
 }
 
-/// Whether a value is no text of more than `LONGEST_VALUE` bytes.
+/// Whether a value is no text longer than `LONGEST_VALUE` bytes.
 fn is_short_value(value: &Value) -> bool
     ensures { IsTrue result ↔ IsShort value.now }
 {

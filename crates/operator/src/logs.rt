@@ -3,7 +3,7 @@ ghost use Rattle.operator.specs.Holding.{in_store};
 
 use ksql_types::{Changelog, StoreEntry};
 
-/// The entries of a store's changelog under the number of the store. Takes no memory.
+/// The entries of a store's changelog under the store's number. Takes no memory.
 pub fn with_number(log: Changelog, number: u32) -> Changelog
     ensures { result ≡ map (in_store number) log }
 {

@@ -11,8 +11,8 @@ use ksql_place::Change;
 use ksql_types::{Changelog, StoreEntry};
 use std::alloc::{AllocError, Global};
 
-/// What a node gives, entry by entry. `node` is the node, `held` what the operator holds in its stores, and `failed`
-/// whether memory ran out in a step.
+/// An operator gives what its node gives, entry by entry. `node` is the node, `held` the content of the operator's
+/// stores, and `failed` whether memory ran out in a step.
 pub trait Operator {
     ghost node: { Self → Node };
 
@@ -20,9 +20,9 @@ pub trait Operator {
 
     ghost failed: { Self → Bool };
 
-    /// Adds to `out` what the node gives for a change that comes in on a side, after all those before it: whichever
-    /// entries the operator stood for, it then stands for these and the new one. Once memory ran out in a step, every
-    /// later one answers so, and `out` has what it had, perhaps followed by some of the changes.
+    /// Appends to `out` what the node gives for a change that comes in on a side, after all earlier ones: whichever
+    /// entries the operator stood for, it then stands for these and the new one. After a step ran out of memory, every
+    /// later step fails in the same way, and `out` keeps its content, perhaps followed by some of the changes.
     fn step(
         &mut self,
         alloc: Global,
@@ -42,8 +42,8 @@ pub trait Operator {
 
 /// An operator with stores, which are committed and restored by their changelogs.
 pub trait StoredOperator: Operator {
-    /// Commits, and answers what changed in the stores since the last commit: 0 is the number of the left table's
-    /// store, 1 that of the right one's, 2 that of the groups' or the windows'. After an error the operator is as before.
+    /// Commits, and returns the changes of the stores since the last commit: store 0 is the left table's, 1 the right
+    /// table's, 2 that of groups or windows. After an error the operator is unchanged.
     fn changes(&mut self, alloc: Global) -> Result<Changelog, AllocError>
         ensures same_node { Self.node self.new ≡ Self.node self.old }
         ensures same_failed { Self.failed self.new ≡ Self.failed self.old }
@@ -54,8 +54,7 @@ pub trait StoredOperator: Operator {
         ensures committed { OnOk result (Self.held self.new ≡ committed (maps_of (Self.held self.old))) }
         ensures kept { OnErr result (Self.held self.new ≡ Self.held self.old) };
 
-    /// Puts what the entries of a log make of empty stores in place of the stores. After an error the operator is as
-    /// before.
+    /// Replaces the stores by the replay of a log on empty stores. After an error the operator is unchanged.
     fn load(&mut self, alloc: Global, log: &[StoreEntry]) -> Result<(), AllocError>
         requires { IsLoadable (Self.node self.old) log.now }
         ensures same_node { Self.node self.new ≡ Self.node self.old }

@@ -1,4 +1,4 @@
-//! Operators, each driven over the entries.
+//! Driving one operator over the entries.
 ghost use Rattle.std.specs.Prelude.{◌<◌};
 ghost use Rattle.operator_bench.specs.Plain.{TakesPlain};
 
@@ -7,7 +7,7 @@ use crate::operators;
 use operator::{Operator, StoredOperator};
 use std::alloc::{AllocError, Global};
 
-/// The sides on which entries come in: one, or two in turn; and on which of them they are a table's.
+/// The sides where entries come in: one, or two in turn; and which of them are a table's.
 #[derive(Clone, Copy)]
 struct Sides {
     are_two: bool,
@@ -16,7 +16,7 @@ struct Sides {
 }
 
 impl Sides {
-    /// The side on which the entry of a number comes in, and whether that is a table's.
+    /// The side where entry `number` comes in, and whether that is a table's.
     fn of_entry(self, number: u32) -> (u32, bool)
         ensures { result.0 < 2 }
     {
@@ -52,14 +52,15 @@ const TABLES: Sides = Sides {
     right_table: true,
 };
 
-/// How many changes an operator gave, and how many entries its changelog has: 0 of an operator without stores.
+/// The number of changes that an operator gave, and of entries in its changelog, which is 0 for an operator without
+/// stores.
 #[derive(Clone, Copy)]
 pub struct Counts {
     pub given: u64,
     pub logged: u64,
 }
 
-/// What the operator of a name gives for so many entries; None where no operator has the name.
+/// The counts for the operator with this name and this many entries; None if no operator has the name.
 pub fn counts_of(
     alloc: Global,
     operator: &str,
@@ -107,7 +108,7 @@ fn restored<O: StoredOperator + Drop>(
     Ok(Some(Counts { given, logged }))
 }
 
-/// How many changes an operator gives for so many entries, on its sides in turn.
+/// The number of changes that an operator gives for `entries` entries, on its sides in turn.
 fn driven<O: Operator>(
     alloc: Global,
     op: &mut O,

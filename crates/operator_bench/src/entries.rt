@@ -1,4 +1,4 @@
-//! The entries of the benchmark: of each of 1,000 keys two in turn, each with a row of its key and its number.
+//! The entries of the benchmark: two for each of 1,000 keys in turn, each with a row of its key and its number.
 ghost use Rattle.std.specs.Prelude.{IfOk};
 ghost use Rattle.record_codec.specs.Spelling.{IsShortRow};
 ghost use Rattle.operator_bench.specs.Plain.{IsPlain};
@@ -7,7 +7,7 @@ use ksql_place::{Body, Change, Path, Place, Stamp};
 use ksql_types::{Items, Key, Row, Value};
 use std::alloc::{AllocError, Global};
 
-/// The entry of a number: a stream's row, or a table's.
+/// Entry `number`: a stream's row, or a table's.
 pub fn entry(alloc: Global, number: u32, of_table: bool) -> Result<Change, AllocError>
     ensures { IfOk result IsPlain }
 {

@@ -1,5 +1,6 @@
-//! Steps one operator over so many entries, to see what an entry costs: `operator_bench OPERATOR ENTRIES`, or each of
-//! them with `each` for the operator. It prints how many changes the operator gave, and how many entries its changelog had.
+//! Steps one operator over ENTRIES entries to see what an entry costs: `operator_bench OPERATOR ENTRIES`, or all
+//! operators with `each` for OPERATOR. It prints how many changes the operator gave, and how many entries its changelog
+//! had.
 #![tactic(auto)]
 
 mod drive;
@@ -29,7 +30,7 @@ fn main(rt: HostRuntime) -> ExitCode {
     }
 }
 
-/// Runs the command that the process was started with; None where its words name no operator and number, or memory ran out.
+/// Runs the command line of the process; None if it names no operator and number, or memory ran out.
 fn run<R: AllocGlobal + Env + Print>(rt: &R) -> Option<()> {
     let mut words = env::args(rt).ok()?;
     let _program = words.next()?;

@@ -1,8 +1,8 @@
-//! One operator of each kind, before any entry. Each takes the entries of the benchmark.
+//! One operator of each kind, before any entry. Each accepts the entries of the benchmark.
 ghost use Rattle.std.specs.Prelude.{◌≡◌, IfOk};
 ghost use Rattle.operator_bench.specs.Plain.{count_all, TakesPlain};
 
-use agg_ops::{AggOp, TableAggOp};
+use agg_ops::AggOp;
 use join_ops::{StreamTableOp, TableTableOp};
 use ksql_expr::{AggFun, Exprs, Typed, TypedNode};
 use ksql_nodes::{Node, Side};
@@ -70,8 +70,8 @@ pub fn count(alloc: Global) -> Result<AggOp, AllocError>
     AggOp::new(alloc, &nodes[0])
 }
 
-pub fn table_count(alloc: Global) -> Result<TableAggOp, AllocError>
-    ensures { IfOk result (λ op. TakesPlain (⟦<TableAggOp as Operator>⟧.node op)) }
+pub fn table_count(alloc: Global) -> Result<AggOp, AllocError>
+    ensures { IfOk result (λ op. TakesPlain (⟦<AggOp as Operator>⟧.node op)) }
 {
     let aggs = count_all(alloc)?;
     let node = Node::Aggregate {
@@ -80,7 +80,7 @@ pub fn table_count(alloc: Global) -> Result<TableAggOp, AllocError>
         window: None,
     };
     let nodes = vec![in alloc; node]?;
-    TableAggOp::new(alloc, &nodes[0])
+    AggOp::new(alloc, &nodes[0])
 }
 
 pub fn stream_table(alloc: Global) -> Result<StreamTableOp, AllocError>

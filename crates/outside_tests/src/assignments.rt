@@ -3,7 +3,7 @@ use ksql_types::{CopyOf, Items, TaskName};
 use std::alloc::Global;
 use std::test::Fail;
 
-/// The first tasks of the sub-topology 0, each with its worker.
+/// The first tasks of sub-topology 0, each with its worker.
 fn pairs(alloc: Global, workers: &[u32]) -> Result<Assignment, Fail> {
     let mut pairs = Vec::new(alloc);
     for (part, worker) in workers.iter().enumerate() {
@@ -19,7 +19,7 @@ fn pairs(alloc: Global, workers: &[u32]) -> Result<Assignment, Fail> {
     Ok(Items::of(pairs))
 }
 
-/// The workers that the first `count` tasks of the sub-topology 0 get.
+/// The workers that get the first `count` tasks of sub-topology 0.
 fn workers(
     alloc: Global,
     previous: &Assignment,
@@ -65,11 +65,11 @@ fn all_tasks_go_from_the_worker_that_is_gone(rt: HostRuntime) -> Result<(), Fail
 #[test]
 fn a_worker_keeps_its_share_and_no_more(rt: HostRuntime) -> Result<(), Fail> {
     let alloc = rt.alloc();
-    // Six tasks over two workers are three each.
+    // Six tasks on two workers are three each.
     let six = pairs(alloc, &[1, 1, 1, 1, 1, 1])?;
     let even = workers(alloc, &six, &[1, 2], 6)?;
     assert_eq!(rt; even.as_slice(), [1, 1, 1, 2, 2, 2].as_slice());
-    // Of seven tasks one worker may keep four.
+    // Of seven tasks, one worker may keep four.
     let seven = pairs(alloc, &[4, 4, 4, 4, 4, 4, 5])?;
     let odd = workers(alloc, &seven, &[4, 5], 7)?;
     assert_eq!(rt; odd.as_slice(), [4, 4, 4, 4, 5, 5, 5].as_slice());
@@ -79,7 +79,7 @@ fn a_worker_keeps_its_share_and_no_more(rt: HostRuntime) -> Result<(), Fail> {
 #[test]
 fn the_fewest_come_first_and_then_the_smallest_number(rt: HostRuntime) -> Result<(), Fail> {
     let alloc = rt.alloc();
-    // Worker 2 is gone. Worker 3 has one task, and then two, as worker 1 has.
+    // Worker 2 is gone. Worker 3 has one task and gets a second, so that it has as many as worker 1.
     let five = pairs(alloc, &[1, 2, 3, 2, 1])?;
     let moved = workers(alloc, &five, &[1, 3], 5)?;
     assert_eq!(rt; moved.as_slice(), [1, 3, 3, 1, 1].as_slice());

@@ -1,4 +1,4 @@
-//! Tests of what lies outside the core, of the words of a command line, and of which worker a task goes to.
+//! Tests of the command line, of files and output, and of the assignment of tasks to workers.
 #![tactic(auto)]
 
 #[cfg(test)]

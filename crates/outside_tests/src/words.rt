@@ -1,9 +1,9 @@
-use ksql_types::{Items, Word, Words};
 use command_line::{Command, WordsFault, read_words};
+use ksql_types::{Items, Word, Words};
 use std::alloc::{AllocError, Global};
 use std::test::Fail;
 
-/// The words of a line, which spaces part.
+/// The words of a line, separated by spaces.
 fn words_of(alloc: Global, line: &str) -> Result<Words, AllocError> {
     let mut words = Vec::new(alloc);
     for word in line.split(' ') {
@@ -12,7 +12,7 @@ fn words_of(alloc: Global, line: &str) -> Result<Words, AllocError> {
     Ok(Items::of(words))
 }
 
-/// What words ask for, as a text.
+/// What the words ask for, as text.
 fn told(alloc: Global, words: &Words) -> Result<String, AllocError> {
     match read_words(alloc, words) {
         Ok(
@@ -41,7 +41,7 @@ fn told(alloc: Global, words: &Words) -> Result<String, AllocError> {
     }
 }
 
-/// The first line `WORDS => COMMAND` of a table whose words ask for something else.
+/// The first line `WORDS => COMMAND` of a table whose words don't ask for that command.
 fn wrong(alloc: Global, table: &str) -> Result<String, AllocError> {
     for line in table.split('\n') {
         let Some((words, wanted)) = line.split_once(" => ") else {
@@ -124,7 +124,7 @@ fn no_words_are_no_command(rt: HostRuntime) -> Result<(), Fail> {
     Ok(())
 }
 
-/// What a run of a script whose name has so many letters asks for.
+/// What a run of a script asks for whose name has `letters` letters.
 fn told_of_long(alloc: Global, letters: usize) -> Result<String, AllocError> {
     let mut line = String::from_str(alloc, "ksql run --script ")?;
     for _ in 0..letters {

@@ -4,8 +4,6 @@ use ksql_program::{Agg, From, Item, JoinKind, Program, Query, Shape};
 use ksql_types::{Column, CopyOf, Format, Items, Kind, Relation, Schema, SqlType};
 use logical_plan::{Plan, plan};
 use std::alloc::{AllocError, Global};
-use std::fmt::Debug;
-use std::test::Fail;
 
 fn columns(alloc: Global, name: &str) -> Result<Items<Column>, AllocError> {
     let column = Column {
@@ -95,112 +93,71 @@ fn joined(alloc: Global, left: u32, on: u32) -> Result<Query, AllocError> {
     })
 }
 
-fn queries(alloc: Global) -> Result<Vec<Query>, AllocError> {
-    let mut queries = Vec::new(alloc);
-    queries.push(grouped(alloc, 0)?)?;
-    queries.push(grouped(alloc, 1)?)?;
-    queries.push(joined(alloc, 0, 1)?)?;
-    queries.push(joined(alloc, 0, 0)?)?;
-    queries.push(joined(alloc, 1, 0)?)?;
-    Ok(queries)
-}
-
-fn plans(alloc: Global) -> Result<Vec<Plan>, AllocError> {
-    let program = program(alloc)?;
-    let queries = queries(alloc)?;
-    let mut plans = Vec::new(alloc);
-    for query in queries.as_slice() {
-        plans.push(plan(alloc, query, &program)?)?;
-    }
-    Ok(plans)
-}
-
-fn written<T: Debug>(alloc: Global, value: &T) -> Result<String, Fail> {
-    Ok(format!(in alloc; "{value:?}")?)
-}
-
-// Whether a value is copied, and its copy is written as it is.
-fn is_copied<T: CopyOf + Debug>(alloc: Global, value: &T) -> Result<bool, Fail> {
-    let copied = written(alloc, &value.copy(alloc)?)?;
-    Ok(copied.as_str() == written(alloc, value)?.as_str())
-}
-
-fn is_source(plan: &Plan, number: u32) -> bool {
-    matches!(plan, Plan::Source { relation } if *relation == number)
-}
-
-// Whether a plan is a grouping of the filtered relation with this number and of this kind.
-fn is_grouped(plan: &Plan, number: u32, kind: Kind) -> bool {
-    let Plan::Select {
-        keys,
-        out: 2,
-        arg,
-        ..
-    } = plan
-    else {
-        return false;
-    };
-    let Plan::Having { arg, .. } = arg.get() else {
-        return false;
-    };
-    let Plan::Aggregate {
-        over,
-        window: None,
-        arg,
-        ..
-    } = arg.get()
-    else {
-        return false;
-    };
-    let Plan::Group { arg, .. } = arg.get() else {
-        return false;
-    };
-    let Plan::Filter { arg, .. } = arg.get() else {
-        return false;
-    };
-    keys.items().is_empty() && *over == kind && is_source(arg.get(), number)
-}
-
-// Whether a plan joins the stream, rekeyed or not, with the table.
-fn is_stream_join(plan: &Plan, rekeyed: bool) -> bool {
-    let Plan::Select { arg, .. } = plan else {
-        return false;
-    };
-    let Plan::JoinStreamTable { left, right, .. } = arg.get() else {
-        return false;
-    };
-    let first = match left.get() {
-        Plan::Rekey { arg, .. } => rekeyed && is_source(arg.get(), 0),
-        side => !rekeyed && is_source(side, 0),
-    };
-    first && is_source(right.get(), 1)
-}
-
-fn is_table_join(plan: &Plan) -> bool {
-    let Plan::Select { arg, .. } = plan else {
-        return false;
-    };
-    match arg.get() {
-        Plan::JoinTables { left, right, .. } => is_source(left.get(), 1)
-            && is_source(right.get(), 1),
-        _ => false,
+/// The query of a text: a grouping, or a join of the stream by another key or by its own, or of the table.
+fn query(alloc: Global, text: &str) -> Result<Query, AllocError> {
+    match text {
+        "a grouping of the stream" => grouped(alloc, 0),
+        "a grouping of the table" => grouped(alloc, 1),
+        "a join of the stream by another key" => joined(alloc, 0, 1),
+        "a join of the stream by its key" => joined(alloc, 0, 0),
+        _ => joined(alloc, 1, 0),
     }
 }
 
-#[test]
-fn queries_have_plans(rt: HostRuntime) -> Result<(), Fail> {
-    let alloc = rt.alloc();
-    let plans = plans(alloc)?;
-    let [of_stream, of_table, rekeyed, keyed, tables] = plans.as_slice() else {
-        return Ok(assert!(rt; false));
-    };
-    assert!(rt; is_grouped(of_stream, 0, Kind::Stream));
-    assert!(rt; is_grouped(of_table, 1, Kind::Table));
-    assert!(rt; is_stream_join(rekeyed, true));
-    assert!(rt; is_stream_join(keyed, false));
-    assert!(rt; is_table_join(tables));
-    for plan in plans.as_slice() {
-        assert!(rt; is_copied(alloc, plan)?);
+fn shown(alloc: Global, plan: &Plan) -> Result<String, AllocError> {
+    match plan {
+        Plan::Source { relation } => format!(in alloc; "{relation}"),
+        Plan::Filter { arg, .. } => around(alloc, "filter", shown(alloc, arg.get())),
+        Plan::Rekey { arg, .. } => around(alloc, "rekey", shown(alloc, arg.get())),
+        Plan::JoinStreamTable { left, right, .. } => {
+            let left = shown(alloc, left.get())?;
+            around_two(alloc, "join stream", left, shown(alloc, right.get()))
+        }
+        Plan::JoinTables { left, right, .. } => {
+            let left = shown(alloc, left.get())?;
+            around_two(alloc, "join tables", left, shown(alloc, right.get()))
+        }
+        Plan::Group { arg, .. } => around(alloc, "group", shown(alloc, arg.get())),
+        Plan::Aggregate {
+            over,
+            window,
+            arg,
+            ..
+        } => {
+            let arg = shown(alloc, arg.get())?;
+            format!(in alloc; "aggregate {over:?} {window:?} ({arg})")
+        }
+        Plan::Having { arg, .. } => around(alloc, "having", shown(alloc, arg.get())),
+        Plan::Select { keys, out, arg, .. } => {
+            let arg = shown(alloc, arg.get())?;
+            format!(in alloc; "select {} for {out} ({arg})", keys.items().len())
+        }
     }
-    Ok(())
+}
+
+/// A word before what stands in it.
+fn around(
+    alloc: Global,
+    word: &str,
+    arg: Result<String, AllocError>,
+) -> Result<String, AllocError> {
+    let arg = arg?;
+    format!(in alloc; "{word} ({arg})")
+}
+
+/// A word before the two that stand in it.
+fn around_two(
+    alloc: Global,
+    word: &str,
+    left: String,
+    right: Result<String, AllocError>,
+) -> Result<String, AllocError> {
+    let right = right?;
+    format!(in alloc; "{word} ({left}) ({right})")
+}
+
+/// The plan of a query, as its copy shows it.
+pub fn planned(alloc: Global, text: &str) -> Result<String, AllocError> {
+    let plan = plan(alloc, &query(alloc, text)?, &program(alloc)?)?;
+    shown(alloc, &plan.copy(alloc)?)
 }

@@ -1,124 +1,205 @@
 use crate::texts::chars;
-use ksql_types::{CopyOf, Items, TopicSpec, Writer};
+use ksql_expr::{Typed, TypedNode};
+use ksql_nodes::{Node, Side};
+use ksql_program::{From, Item, JoinKind, Program, Query, Shape};
+use ksql_types::{Chars, Format, Items, Kind, Relation, Schema, SqlType, TopicSpec, Window};
 use std::alloc::{AllocError, Global};
-use std::test::Fail;
-use topology::{
-    Count, CutName, Lined, Link, Schedule, Stage, Step, Sub, SubInput, Topology, chain_of, tasks_of,
-};
+use std::str;
+use topology::{Sub, SubInput, Topology, chain_of, tasks_of};
+use topology_build::describe;
 
-/// A sub-topology of two partitions that reads these topics.
-fn sub(alloc: Global, number: u32, inputs: &[u32], output: u32) -> Result<Sub, AllocError> {
-    let mut read = Vec::new(alloc);
-    for topic in inputs {
-        read.push(SubInput {
-            topic: *topic,
-            relation: *topic,
-            keys: 1,
+/// A query of this name over the first relation.
+fn query(alloc: Global, name: &str) -> Result<Item, AllocError> {
+    let out = Relation {
+        number: 0,
+        name: chars(alloc, name)?,
+        kind: Kind::Table,
+        schema: Schema {
+            keys: Items::of(Vec::new(alloc)),
+            values: Items::of(Vec::new(alloc)),
+        },
+        topic: Chars::of(String::new(alloc))?,
+        partitions: 1,
+        format: Format::Json,
+        declared: false,
+    };
+    Ok(Item::Started(Query {
+        from: From::One { relation: 0 },
+        filter: None,
+        shape: Shape::Plain {
+            keys: Items::of(Vec::new(alloc)),
+            values: Items::of(Vec::new(alloc)),
+        },
+        out,
+    }))
+}
+
+/// A program of queries of the names of a text, with commas between them.
+fn program(alloc: Global, names: &str) -> Result<Program, AllocError> {
+    let mut items = Vec::new(alloc);
+    for name in names.split(',') {
+        items.push(query(alloc, name)?)?;
+    }
+    Ok(Program {
+        items: Items::of(items),
+    })
+}
+
+/// Topics of the names of a text, with commas between them.
+fn topics(alloc: Global, names: &str) -> Result<Items<TopicSpec>, AllocError> {
+    let mut topics = Vec::new(alloc);
+    for name in names.split(',') {
+        topics.push(TopicSpec {
+            number: 0,
+            name: chars(alloc, name)?,
+            partitions: 1,
+            writer: None,
         })?;
     }
-    Ok(Sub {
-        number,
-        query: output,
-        partitions: 2,
-        inputs: Items::of(read),
-        nodes: Items::of(Vec::new(alloc)),
-        output,
-    })
+    Ok(Items::of(topics))
 }
 
-/// A join, and a count by another column, which is cut: the join is written to topic 2 and what is to be counted to 4.
-fn topology(alloc: Global) -> Result<Topology, AllocError> {
-    let topic = TopicSpec {
-        number: 2,
-        name: chars(alloc, "ENRICHED")?,
-        partitions: 2,
-        writer: Some(Writer {
-            sub: 0,
-            partitions: 2,
-        }),
-    };
-    let subs = vec![in alloc;
-        sub(alloc, 0, &[0, 1], 2)?,
-        sub(alloc, 1, &[2], 4)?,
-        sub(alloc, 2, &[4], 3)?,
-    ]?;
-    Ok(Topology {
-        topics: Items::of(vec![in alloc; topic]?),
-        subs: Items::of(subs),
-    })
-}
-
-#[test]
-fn a_chain_is_the_longest_path(rt: HostRuntime) -> Result<(), Fail> {
-    let alloc = rt.alloc();
-    assert_eq!(rt; chain_of(alloc, &topology(alloc)?)?, 3);
-    let apart = Topology {
-        topics: Items::of(Vec::new(alloc)),
-        subs: Items::of(vec![in alloc; sub(alloc, 0, &[0], 2)?, sub(alloc, 1, &[1], 3)?]?),
-    };
-    assert_eq!(rt; chain_of(alloc, &apart)?, 1);
-    Ok(())
-}
-
-#[test]
-fn tasks_stand_by_their_sub_topologies(rt: HostRuntime) -> Result<(), Fail> {
-    let alloc = rt.alloc();
-    let tasks = tasks_of(alloc, &topology(alloc)?)?;
-    let mut names = String::new(alloc);
-    for task in tasks.as_slice() {
-        let (sub, part) = (task.sub, task.part);
-        write!(names, "{sub}_{part} ")?;
+fn column() -> Typed {
+    Typed {
+        ty: Some(SqlType::Int),
+        node: TypedNode::Column(0),
     }
-    assert_eq!(rt; names.as_str(), "0_0 0_1 1_0 1_1 2_0 2_1 ");
-    Ok(())
 }
 
-#[test]
-fn a_topology_is_copied_whole(rt: HostRuntime) -> Result<(), Fail> {
-    let alloc = rt.alloc();
-    let copied = topology(alloc)?.copy(alloc)?;
-    assert_eq!(rt; copied.topics.items().len(), 1);
-    assert_eq!(rt; copied.subs.items().len(), 3);
-    assert!(rt;
-        copied
-            .subs
-            .items()
-            .first()
-            .is_some_and(|sub| sub.inputs.items().len() == 2)
-    );
-    let stage = Stage {
-        inputs: Items::of(vec![in alloc; Link::Relation(0)]?),
-        nodes: Items::of(Vec::new(alloc)),
-        partitions: 2,
-        output: Link::Cut {
-            name: CutName::Group,
-            relation: 0,
+const SIDE: Side = Side {
+    relation: 0,
+    columns: 1,
+};
+
+const MINUTE: Window = Window {
+    size: 60000,
+    advance: 60000,
+    grace: 0,
+};
+
+fn joined(word: &str) -> Node {
+    match word {
+        "join-tables" => Node::JoinTables {
+            kind: JoinKind::Full,
+            left: SIDE,
+            right: SIDE,
         },
-    };
-    let copied = stage.copy(alloc)?;
-    assert_eq!(rt; copied.inputs.items().len(), 1);
-    assert!(rt; copied.output == stage.output);
-    Ok(())
+        _ => Node::JoinStreamTable {
+            kind: JoinKind::Inner,
+            on: column(),
+            left: SIDE,
+            right: SIDE,
+        },
+    }
 }
 
-#[test]
-fn a_schedule_is_copied_whole(rt: HostRuntime) -> Result<(), Fail> {
-    let alloc = rt.alloc();
-    let counts = vec![in alloc; Count { topic: 0, n: 2 }]?;
-    let feed = Lined {
-        line: 1,
-        step: Step::Feed(Items::of(counts)),
-    };
-    let schedule = Schedule {
-        steps: Items::of(vec![in alloc; feed]?),
-    };
-    let copied = schedule.copy(alloc)?;
-    assert_eq!(rt; copied.steps.items().len(), 1);
-    for lined in copied.steps.items() {
-        let Step::Feed(counts) = &lined.step else {
-            return Err(Fail::from("no feed"));
-        };
-        assert_eq!(rt; counts.items().len(), 1);
+fn aggregate(alloc: Global, window: Option<Window>) -> Node {
+    Node::Aggregate {
+        over: Kind::Stream,
+        aggs: Items::of(Vec::new(alloc)),
+        window,
     }
-    Ok(())
+}
+
+/// The node of a word; that of a number is of the table with this number.
+fn node(alloc: Global, word: &str) -> Node {
+    match word {
+        "filter" => Node::Filter { on: column() },
+        "rekey" => Node::Rekey { key: column() },
+        "having" => Node::Having { on: column() },
+        "group" => Node::Group {
+            keys: Items::of(Vec::new(alloc)),
+        },
+        "aggregate" => aggregate(alloc, None),
+        "window" => aggregate(alloc, Some(MINUTE)),
+        "select" => Node::Select {
+            keys: Items::of(Vec::new(alloc)),
+            values: Items::of(Vec::new(alloc)),
+        },
+        _ => match word.parse::<u32>() {
+            Ok(relation) => Node::Table { relation },
+            Err(_) => joined(word),
+        },
+    }
+}
+
+fn nodes(alloc: Global, text: &str) -> Result<Vec<Node>, AllocError> {
+    let mut nodes = Vec::new(alloc);
+    for word in text.split_whitespace() {
+        nodes.push(node(alloc, word))?;
+    }
+    Ok(nodes)
+}
+
+/// The numbers of a text with blanks between them.
+fn numbers(alloc: Global, text: &str) -> Result<Vec<u32>, AllocError> {
+    let mut numbers = Vec::new(alloc);
+    for word in text.split_whitespace() {
+        numbers.push(word.parse::<u32>().unwrap_or(0))?;
+    }
+    Ok(numbers)
+}
+
+fn inputs(alloc: Global, topics: &[u32]) -> Result<Vec<SubInput>, AllocError> {
+    let mut inputs = Vec::new(alloc);
+    for topic in topics {
+        inputs.push(SubInput {
+            topic: *topic,
+            relation: 0,
+            keys: 0,
+        })?;
+    }
+    Ok(inputs)
+}
+
+/// The sub-topology of a text `NUMBER QUERY PARTITIONS OUTPUT INPUT ..: NODE ..`.
+fn sub(alloc: Global, text: &str) -> Result<Sub, AllocError> {
+    let (front, words) = text.split_once(':').unwrap_or((text, ""));
+    let numbers = numbers(alloc, front)?;
+    let [number, query, partitions, output, topics @ ..] = numbers.as_slice() else {
+        return Err(AllocError);
+    };
+    Ok(Sub {
+        number: *number,
+        query: *query,
+        partitions: *partitions,
+        inputs: Items::of(inputs(alloc, topics)?),
+        nodes: Items::of(nodes(alloc, words)?),
+        output: *output,
+    })
+}
+
+/// The sub-topologies of a text, with `;` between each two.
+fn subs(alloc: Global, text: &str) -> Result<Vec<Sub>, AllocError> {
+    let mut subs = Vec::new(alloc);
+    for text in text.split(';') {
+        subs.push(sub(alloc, text)?)?;
+    }
+    Ok(subs)
+}
+
+/// The length of the longest chain of some sub-topologies, and their tasks.
+pub fn tasks(alloc: Global, text: &str) -> Result<String, AllocError> {
+    let topology = Topology {
+        topics: Items::of(Vec::new(alloc)),
+        subs: Items::of(subs(alloc, text)?),
+    };
+    let mut tasks = format!(in alloc; "chain {}", chain_of(alloc, &topology)?)?;
+    for task in tasks_of(alloc, &topology)?.as_slice() {
+        write!(tasks, " {}_{}", task.sub, task.part)?;
+    }
+    Ok(tasks)
+}
+
+/// The text that explains a topology, from a text `QUERIES | TOPICS | SUBS`.
+pub fn explained(alloc: Global, text: &str) -> Result<String, AllocError> {
+    let (queries, rest) = text.split_once(" | ").unwrap_or((text, ""));
+    let (names, text) = rest.split_once(" | ").unwrap_or((rest, ""));
+    let program = program(alloc, queries)?;
+    let topology = Topology {
+        topics: topics(alloc, names)?,
+        subs: Items::of(subs(alloc, text)?),
+    };
+    let bytes = describe(alloc, &program, &topology)?;
+    String::from_str(alloc, str::from_utf8(bytes.items()).unwrap_or("no text"))
 }

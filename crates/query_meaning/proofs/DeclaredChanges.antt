@@ -5,7 +5,7 @@ use Rattle.ksql_types.specs.declared.relation.Relation.{Relation}
 use Rattle.ksql_place.specs.Said.{said}
 use Rattle.ksql_place.specs.declared.change.SourceRecord.{SourceRecord}
 use Rattle.query_meaning.specs.Meaning.{declared_changes}
-use Rattle.query_meaning.specs.Plain.{changes_by}
+use Rattle.query_meaning.specs.Parts.{changes_by}
 
 -- the changes of a declared relation by its kind
 pub declared_changes-by : (relation : Relation) (kind : Kind) (order : List SourceRecord) → relation.kind ≡ kind →

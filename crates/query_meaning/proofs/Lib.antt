@@ -1,4 +1,2 @@
-pub mod ChangeByChange
 pub mod DeclaredChanges
-pub mod EachWindowless
 pub mod QuerySteps

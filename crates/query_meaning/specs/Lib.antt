@@ -1,4 +1,3 @@
 pub mod Meaning
-pub mod Plain
+pub mod Parts
 pub mod Queries
-pub mod Windowless

@@ -1,4 +1,5 @@
--- The meaning of a program: one list of changes for each of its relations (Sax, Wang, Weidlich and Freytag, BIRTE 2018).
+-- The meaning of a program: one list of changes for each of its relations (Sax, Wang, Weidlich and Freytag, BIRTE
+-- 2018).
 use Rattle.std.specs.Prelude.{ℕ, List, [], ◌∷◌, ◌++◌, filter, nat_le}
 use Rattle.ksql_types.specs.Lane.{lane}
 use Rattle.ksql_types.specs.declared.relation.Kind.{Kind}
@@ -28,7 +29,7 @@ abbrev pub item_changes : List Item → List SourceRecord → List (List Change)
 item_changes items order lists (Declared relation) = declared_changes relation order
 item_changes items order lists (Started query) = query_changes items lists query
 
--- one list of changes for each item, in their order, after those of the items before
+-- one list of changes for each item, in order, after those of the earlier items
 unfoldable pub meaning_from : List Item → List SourceRecord → List (List Change) → List Item → List (List Change)
 meaning_from items order lists [] = lists
 meaning_from items order lists (i ∷ is) = meaning_from items order (lists ++ item_changes items order lists i ∷ []) is
@@ -41,6 +42,6 @@ meaning items order = meaning_from items order [] items
 abbrev pub up_to : ℕ → List SourceRecord → List SourceRecord
 up_to feed order = filter (λ r. nat_le r.stamp.feed feed) order
 
--- the partition of a relation's topic in which a change stands: the lane of its key, and of no key that of its record
+-- the partition of a change in a relation's topic: the lane of its key, or for no key that of its record
 abbrev pub partition_of : Relation → Change → ℕ
 partition_of relation c = lane c.key relation.partitions c.place.stamp.part

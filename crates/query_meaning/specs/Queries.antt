@@ -30,7 +30,7 @@ use Rattle.ksql_nodes.specs.TableAggregates.{aggregate_of_table}
 
 -- ---- what a query reads
 
--- the cells of the key columns: NULL where a change has no key
+-- the cells of the key columns: NULL if a change has no key
 abbrev pub key_cells : ℕ → List Value → List Value
 key_cells columns [] = replicate columns Null
 key_cells columns (x ∷ xs) = x ∷ xs
@@ -43,7 +43,7 @@ with_key_cells columns c = record c { body = by_body c.body }
     by_body (Said row) = Said (key_cells columns c.key ++ row)
     by_body (Turned old new) = Turned (option_map (λ row. key_cells columns c.key ++ row) old) (option_map (λ row. key_cells columns c.key ++ row) new)
 
--- how many key columns a relation has
+-- the number of key columns of a relation
 abbrev pub key_columns : List Item → ℕ → ℕ
 key_columns items number = unwrap_or (option_map (λ r. length r.schema.keys) (relation_at items number)) 0
 
@@ -55,7 +55,7 @@ changes_at lists number = unwrap_or (slice_get lists number) []
 abbrev pub whole_changes : List Item → List (List Change) → ℕ → List Change
 whole_changes items lists number = map (with_key_cells (key_columns items number)) (changes_at lists number)
 
--- the entries of two relations are compared by their places
+-- the entries of two relations compare by their places
 abbrev pub entry_cmp : ℕ → ℕ → Entry → Entry → Ordering
 entry_cmp left right a b = between_cmp a.change.place (relation a) b.change.place (relation b)
   where
@@ -86,29 +86,29 @@ partitions_at items number = unwrap_or (option_map (λ r. r.partitions) (relatio
 abbrev pub lanes_of : List Item → Query → ℕ
 lanes_of items q = partitions_at items (leftmost q.from)
 
--- a side of a join: its relation, and how many columns that has
+-- a side of a join: its relation, and the number of its columns
 abbrev pub side_at : List Item → ℕ → Side
 side_at items number = record { relation = number; columns = unwrap_or (option_map (λ r. length (columns r)) (relation_at items number)) 0 }
 
--- the join of two relations, the left of which is of a kind: of a stream and a table, or of two tables
+-- the join of two relations, by the kind of the left one: of a stream and a table, or of two tables
 abbrev pub join_over : List Item → JoinKind → ℕ → ℕ → Typed → Kind → List Node
 join_over items k left right on kind.Stream = node.JoinStreamTable k on (side_at items left) (side_at items right) ∷ []
 join_over items k left right on _ = node.JoinTables k (side_at items left) (side_at items right) ∷ []
 
--- the join, where there is one
+-- the join, if any
 abbrev pub join_of : List Item → From → List Node
 join_of items (One number) = []
 join_of items (Join k left right on) = join_over items k left right on (kind_at items left)
 
--- WHERE, where there is one
+-- WHERE, if any
 abbrev pub filter_of : Option Typed → List Node
 filter_of on = map (λ e. node.Filter e) (option_to_list on)
 
--- HAVING, where there is one, and the items of a grouped query
+-- HAVING, if any, and the items of a grouped query
 abbrev pub after_aggregate : Option Typed → List Typed → List Node
 after_aggregate having values = map (λ e. node.Having e) (option_to_list having) ++ node.Select [] values ∷ []
 
--- the steps of a shape over a relation of a kind, with so many lanes; an aggregate of a table is one step
+-- the steps of a shape over a relation of a kind, with this many lanes; an aggregate of a table is one step
 abbrev pub shape_steps : ℕ → Kind → Shape → List Step
 shape_steps n over (Plain keys values) = gives n (node.Select keys values) ∷ []
 shape_steps n kind.Stream (Group keys window aggs having values) =
@@ -121,6 +121,6 @@ steps_of items q =
     map (gives (lanes_of items q)) (join_of items q.from ++ filter_of q.filter)
     ++ shape_steps (lanes_of items q) (kind_at items (leftmost q.from)) q.shape
 
--- the changes of a query's result, from those of the relations before it
+-- the changes of a query's result, given those of the earlier relations
 unfoldable pub query_changes : List Item → List (List Change) → Query → List Change
 query_changes items lists q = through (steps_of items q) (read_entries items lists q.from)

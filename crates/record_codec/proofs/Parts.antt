@@ -1,4 +1,4 @@
--- Each part of a change is read exactly where it is spelled.
+-- Each part of a change is read exactly if it is spelled.
 use Rattle.std.proofs.Common.{◌≡◌, ℕ, zero, suc, lit<, ◌<◌, ◌≤◌, ◌^◌, Bool, true, false, ltb, leb, not, ◌&&◌, ◌||◌, List, [], ◌∷◌, ◌++◌, length, Option, Some, None, refl, sym, ap, subst, ◌∙◌, append_assoc, arith}
 use Rattle.std.specs.Prelude.{ℤ, IfSome, is_some}
 use Rattle.std.specs.List.{All, list_all}
@@ -68,7 +68,7 @@ only-truth true rest h = refl
 reads-truth : Reads truth_byte anything truth_at
 reads-truth = record { found = found-truth; only = only-truth }
 
--- what stands after the byte that says what a value is
+-- what follows the byte for the kind of a value
 behind : {A : Type 0} (tag : ℕ) (s : A → List ℕ) (fits : A → Type 0) (read : Reader A) (f : A → Value) → Reads s fits read
     → ((a : A) → fits a → (tag ∷ s a ≡ value (f a)) × IsCell (f a)) → (bytes : List ℕ) (y : Value × List ℕ) → IsBytes (tag ∷ bytes)
     → seen_as f read bytes ≡ Some y → Found value IsCell (tag ∷ bytes) y
@@ -328,7 +328,7 @@ parts_of c = (is_turned c.body, (c.place.stamp, (c.place.path, (c.time, (c.span,
 abbrev parts_fit : Parts → Type 0
 parts_fit = and_then anything after_fits
 
--- ---- the limits, and what is so of every change that a program holds
+-- ---- the limits, and what holds of every change in a program
 
 short-row : (o : Option (List Value)) → IfSome o IsRow → IfSome o IsShortRow
 short-row None h = tt

@@ -1,4 +1,4 @@
--- The time and the row of a change of a table to a row, past what stands before them.
+-- The time and the new row of a table's change, after what precedes them.
 use Rattle.std.proofs.Common.{◌≡◌, ◌∙◌, ap, refl, sym, ℕ, zero, suc, ◌*◌, ◌-◌, ◌<◌, ◌≤◌, ◌^◌, true, false, ltb, List, [], ◌∷◌, ◌++◌, length, Option, Some, None, append_assoc, arith}
 use Rattle.std.specs.List.{All, flat_map}
 use Rattle.std.specs.Int.{w32, w64, cast_unsigned}
@@ -45,7 +45,7 @@ length-path (n ∷ numbers) = omega (arith, length-append (four n) (flat_map fou
 length-span : (s : Span) → length (span s) ≡ 16
 length-span s = omega (arith, length-append (eight s.start) (eight s.end), length-eight s.start, length-eight s.end)
 
--- ---- what stands at the front is passed
+-- ---- what comes first is passed
 
 past-front : (n : ℕ) (a rest : List ℕ) → length a ≡ n → past n (a ++ rest) ≡ Some rest
 unfolding past

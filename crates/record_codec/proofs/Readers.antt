@@ -38,7 +38,7 @@ pub record Found {A : Type 0} (spelled : A → List ℕ) (fits : A → Type 0) (
   pub fitting : fits x.0
   pub rest : IsBytes x.1
 
--- what is read is spelled so, and what is spelled so is read
+-- what is read has this spelling, and what has this spelling is read
 pub record Reads {A : Type 0} (spelled : A → List ℕ) (fits : A → Type 0) (read : Reader A) : Type 0 where
   pub found : (bytes : List ℕ) (x : A × List ℕ) → IsBytes bytes → read bytes ≡ Some x → Found spelled fits bytes x
   pub only : (a : A) (rest : List ℕ) → fits a → read (spelled a ++ rest) ≡ Some (a, rest)
@@ -105,7 +105,7 @@ pub reads-next : {A B : Type 0} (s : A → List ℕ) (t : B → List ℕ) (fits 
     → Reads s fits first → Reads t suits second → Reads (in_row s t) (and_then fits (λ _. suits)) (both first (λ _. second))
 reads-next s t fits suits first second r1 r2 = reads-both s t fits (λ _. suits) first (λ _. second) r1 (λ _ _. r2)
 
--- ---- what is read, seen as something else
+-- ---- what is read, mapped by a function
 
 pub reads-as : {A B : Type 0} (s : A → List ℕ) (t : B → List ℕ) (fits : A → Type 0) (suits : B → Type 0) (f : A → B) (g : B → A) (read : Reader A)
     → ((a : A) → fits a → (s a ≡ t (f a)) × suits (f a)) → ((b : B) → suits b → (f (g b) ≡ b) × fits (g b)) → Reads s fits read → Reads t suits (seen_as f read)

@@ -1,4 +1,4 @@
--- How the parts of a change are read from the front of some bytes: what each of the private functions gives.
+-- How the parts of a change are read from the start of some bytes: the results of the private functions.
 use Rattle.std.specs.Prelude.{◌≡◌, ℕ, zero, suc, Bool, true, false, not, ◌||◌, if◌then◌else◌, nat_le, nat_lt, ◌==◌, List, [], ◌∷◌, length, take, drop, Option, Some, None, is_some, Result, Ok, Err}
 use Rattle.std.specs.Global.{Vec}
 use Rattle.std.specs.Borrow.{Bor}
@@ -15,7 +15,7 @@ use Rattle.ksql_place.specs.declared.change.Change.{Change}
 use Rattle.record_codec.specs.declared.fault.ReadError.{ReadError}
 use Rattle.record_codec.specs.declared.fault.ReadError.TheVariants.{Unspelled, OutOfMemory}
 
--- what a function returned, as it is seen, is what is read, unless memory ran out
+-- what a function returned, seen through a view, is what is read, unless memory ran out
 abbrev pub Fails : {Y : Type 0} → ReadError → Option Y → Type 0
 Fails Unspelled read = read ≡ None
 Fails OutOfMemory read = Unit {0}
@@ -28,7 +28,7 @@ Gives seen (Err e) read = Fails e read
 abbrev pub with_rest : {A : Type 0} → A × Bor (List ℕ) → A × List ℕ
 with_rest x = (x.0, x.1.now)
 
--- the same of a list
+-- the same for a list
 abbrev pub with_items : {A : Type 0} → Vec A × Bor (List ℕ) → List A × List ℕ
 with_items x = (x.0.items, x.1.now)
 
@@ -37,15 +37,15 @@ abbrev pub ◌>>=◌ : {A B : Type 0} → Option A → (A → Option B) → Opti
 None >>= f = None
 (Some x) >>= f = f x
 
--- a reader gives what stands at the front, and the bytes after it
+-- a reader gives what stands at the start, and the bytes after it
 abbrev pub Reader : Type 0 → Type 0
 Reader A = List ℕ → Option (A × List ℕ)
 
--- one part, and then another, which may depend on the first
+-- one part, then another, which may depend on the first
 abbrev pub both : {A B : Type 0} → Reader A → (A → Reader B) → Reader (A × B)
 both first second bytes = first bytes >>= λ a. second a.0 a.1 >>= λ b. Some ((a.0, b.0), b.1)
 
--- what is read, seen as something else
+-- what is read, mapped by a function
 abbrev pub seen_as : {A B : Type 0} → (A → B) → Reader A → Reader B
 seen_as f read bytes = read bytes >>= λ x. Some (f x.0, x.1)
 
@@ -53,7 +53,7 @@ seen_as f read bytes = read bytes >>= λ x. Some (f x.0, x.1)
 abbrev pub where_true : {A : Type 0} → (A → Bool) → Reader A → Reader A
 where_true test read bytes = read bytes >>= λ x. if test x.0 then Some x else None
 
--- this many parts of one sort
+-- this many parts of one kind
 unfoldable pub times : {A : Type 0} → Reader A → ℕ → Reader (List A)
 times read zero bytes = Some ([], bytes)
 times read (suc n) bytes = read bytes >>= λ x. times read n x.1 >>= λ xs. Some (x.0 ∷ xs.0, xs.1)
@@ -66,22 +66,22 @@ four_at bytes = if nat_lt (length bytes) 4 then None else Some (from_be_bytes w3
 unfoldable pub eight_at : Reader ℕ
 eight_at bytes = if nat_lt (length bytes) 8 then None else Some (from_be_bytes w64 (take 8 bytes), drop 8 bytes)
 
--- a length of at most the limit, and what is that long
+-- a length up to the limit, and something of that length
 abbrev pub counted : {A : Type 0} → ℕ → (ℕ → Reader (List A)) → Reader (List A)
 counted limit items = seen_as (λ p. p.1) (both (where_true (λ n. nat_le n limit) four_at) items)
 
--- how many parts there are, at most the limit, and each
+-- a number of parts up to the limit, and each part
 unfoldable pub list_at : {A : Type 0} → ℕ → Reader A → Reader (List A)
 list_at limit read = counted limit (times read)
 
--- a byte 0; or a byte 1, and what there is
+-- a byte 0; or a byte 1 and a part
 unfoldable pub optional_at : {A : Type 0} → Reader A → Reader (Option A)
 optional_at read [] = None
 optional_at read (zero ∷ rest) = Some (None, rest)
 optional_at read (suc zero ∷ rest) = read rest >>= λ x. Some (Some x.0, x.1)
 optional_at read (suc (suc b) ∷ rest) = None
 
--- the first bytes, as many
+-- the first n bytes
 abbrev pub taken : ℕ → Reader (List ℕ)
 taken n bytes = if nat_lt (length bytes) n then None else Some (take n bytes, drop n bytes)
 
@@ -107,7 +107,7 @@ value_at (suc (suc (suc (suc (suc b)))) ∷ rest) = None
 unfoldable pub row_at : Reader (List Value)
 row_at = list_at 64 value_at
 
--- values of any number that four bytes can hold
+-- values, their number in four bytes
 unfoldable pub values_at : Reader (List Value)
 values_at = list_at 4294967295 value_at
 
@@ -129,11 +129,11 @@ span_of p = record { start = p.0; end = p.1 }
 unfoldable pub span_at : Reader Span
 span_at = where_true (λ s. nat_lt s.start s.end) (seen_as span_of (both eight_at (λ _. eight_at)))
 
--- a window where there is one, of a change of a table alone
+-- a window if present, which only a table's change can have
 unfoldable pub window_at : Bool → Reader (Option Span)
 window_at of_table = where_true (λ o. of_table || not (is_some o)) (optional_at span_at)
 
--- the version, and whether a change of a table stands after it
+-- the version, and whether a table's change follows
 unfoldable pub head_at : Reader Bool
 head_at [] = None
 head_at (zero ∷ rest) = None
@@ -147,7 +147,7 @@ unfoldable pub body_at : Bool → Reader Body
 body_at false = seen_as Said row_at
 body_at true = seen_as (λ rows. Turned rows.0 rows.1) rows_at
 
--- the parts of a change, one after the other
+-- the parts of a change, one after another
 abbrev pub Parts : Type 0
 Parts = Bool × (Stamp × (List ℕ × (ℕ × (Option Span × (List Value × Body)))))
 
@@ -163,6 +163,6 @@ change_of p = record {
 unfoldable pub change_at : Reader Change
 change_at = seen_as change_of (both head_at (λ of_table. both stamp_at (λ _. both path_at (λ _. both eight_at (λ _. both (window_at of_table) (λ _. both key_at (λ _. body_at of_table)))))))
 
--- what all of the bytes are, and nothing after it
+-- what all bytes spell together, with nothing after it
 abbrev pub whole : {A : Type 0} → Reader A → List ℕ → Option A
 whole read bytes = read bytes >>= λ x. if length x.1 == 0 then Some x.0 else None

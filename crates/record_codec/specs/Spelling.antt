@@ -21,7 +21,7 @@ four n = to_be_bytes w32 n
 unfoldable pub eight : ℕ → List ℕ
 eight n = to_be_bytes w64 n
 
--- a text: how many bytes it has, and its bytes
+-- a text: its length in bytes, and its bytes
 abbrev pub text : List ℕ → List ℕ
 text bytes = four (length bytes) ++ bytes
 
@@ -30,7 +30,7 @@ abbrev pub truth : Bool → ℕ
 truth false = 0
 truth true = 1
 
--- a value: a byte that says what it is, and what it holds; a signed number in two's complement
+-- a value: a byte for its kind, and its content; a signed number in two's complement
 abbrev pub value : Value → List ℕ
 value sql.Null = 0 ∷ []
 value (sql.Int n) = 1 ∷ four (cast_unsigned w32 n)
@@ -38,11 +38,11 @@ value (sql.Big n) = 2 ∷ eight (cast_unsigned w64 n)
 value (sql.Txt bytes) = 3 ∷ text bytes
 value (sql.Bool b) = 4 ∷ truth b ∷ []
 
--- the values of a key or of a row: how many there are, and each
+-- the values of a key or of a row: their number, and each value
 abbrev pub values : List Value → List ℕ
 values vs = four (length vs) ++ flat_map value vs
 
--- what may be absent: a byte 0; or a byte 1, and what there is
+-- an optional part: a byte 0; or a byte 1 and the part
 abbrev pub optional : {A : Type 0} → (A → List ℕ) → Option A → List ℕ
 optional spelled None = 0 ∷ []
 optional spelled (Some x) = 1 ∷ spelled x
@@ -50,7 +50,7 @@ optional spelled (Some x) = 1 ∷ spelled x
 abbrev pub stamp : Stamp → List ℕ
 stamp s = eight s.feed ++ eight s.high ++ four s.topic ++ four s.part ++ eight s.offset
 
--- a path: how many numbers it has, and each
+-- a path: the number of its numbers, and each number
 abbrev pub path : List ℕ → List ℕ
 path numbers = four (length numbers) ++ flat_map four numbers
 
@@ -58,7 +58,7 @@ path numbers = four (length numbers) ++ flat_map four numbers
 abbrev pub span : Span → List ℕ
 span s = eight s.start ++ eight s.end
 
--- whether a change of a table is said, and not of a stream
+-- whether a body is a table's, not a stream's
 abbrev pub is_turned : Body → Bool
 is_turned (Said row) = false
 is_turned (Turned old new) = true
@@ -67,7 +67,7 @@ is_turned (Turned old new) = true
 abbrev pub head : Bool → List ℕ
 head of_table = 1 ∷ truth of_table ∷ []
 
--- a row; or the old row, and then the new one
+-- a row; or the old row, then the new one
 abbrev pub body : Body → List ℕ
 body (Said row) = values row
 body (Turned old new) = optional values old ++ optional values new
@@ -90,12 +90,12 @@ IsShort (sql.Bool b) = Unit {0}
 abbrev pub IsShortRow : List Value → Type 0
 IsShortRow row = (length row ≤ 64) × All IsShort row
 
--- a change of a stream says a row, and one of a table the old row, the new one or both
+-- a stream's change has a row, and a table's the old row, the new one or both
 abbrev pub IsShortBody : Body → Type 0
 IsShortBody (Said row) = IsShortRow row
 IsShortBody (Turned old new) = IfSome old IsShortRow × IfSome new IsShortRow × IsTrue (is_some old || is_some new)
 
--- a path has at most 512 numbers; a window starts below its end, and only a change of a table has one
+-- a path has at most 512 numbers; a window starts below its end, and only a table's change has one
 pub record IsWithinLimits (c : Change) : Type 0 where
   pub path : length c.place.path ≤ 512
   pub span : IfSome c.span (λ s. s.start < s.end)
@@ -103,9 +103,9 @@ pub record IsWithinLimits (c : Change) : Type 0 where
   pub key : All IsShort c.key
   pub body : IsShortBody c.body
 
--- ---- what every change that a program holds is
+-- ---- what holds of every change in a program
 
--- a number in the range of its type, and a text of UTF-8
+-- a number in the range of its type, or a text of UTF-8
 abbrev pub IsTypedValue : Value → Type 0
 IsTypedValue sql.Null = Unit {0}
 IsTypedValue (sql.Int n) = FitsSigned w32 n
@@ -127,7 +127,7 @@ abbrev pub IsTypedBody : Body → Type 0
 IsTypedBody (Said row) = All IsTypedValue row
 IsTypedBody (Turned old new) = IfSome old (All IsTypedValue) × IfSome new (All IsTypedValue)
 
--- numbers in the ranges of their types, texts of UTF-8, and a key that is one
+-- numbers in the ranges of their types, texts of UTF-8, and a valid key
 pub record IsTyped (c : Change) : Type 0 where
   pub stamp : IsTypedStamp c.place.stamp
   pub path : All (λ n. n < 2 ^ 32) c.place.path
@@ -147,7 +147,7 @@ pub record IsSpellableRow (row : List Value) : Type 0 where
   pub limits : IsShortRow row
   pub types : All IsTypedValue row
 
--- values of any number that four bytes can hold
+-- values, whose number fits in four bytes
 pub record AreSpellable (vs : List Value) : Type 0 where
   pub few : length vs < 2 ^ 32
   pub short : All IsShort vs

@@ -1,9 +1,9 @@
 use std::alloc::{AllocError, AllocFailed};
 
-/// Why nothing was read from the front of some bytes.
+/// Why nothing was read at the start of some bytes.
 #[derive(Clone, Copy, Debug, PartialEq, Eq)]
 pub enum ReadError {
-    /// They don't spell what was to be read.
+    /// The bytes don't spell what was to be read.
     Unspelled,
     /// Out of memory.
     OutOfMemory,

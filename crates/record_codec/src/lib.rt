@@ -1,4 +1,4 @@
-//! Changes and rows as bytes, in the format of version 1: each has at most one spelling.
+//! Changes and rows as bytes, in format version 1: each has at most one spelling.
 #![tactic(auto)]
 
 mod fault;

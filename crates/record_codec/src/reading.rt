@@ -54,7 +54,7 @@ fn text(alloc: Global, bytes: &[u8]) -> Result<(Chars, &[u8]), ReadError>
     }
 }
 
-/// The bytes as a text, if they are UTF-8.
+/// The bytes as a text, if they are valid UTF-8.
 fn utf8(bytes: &[u8]) -> Option<&str>
     ensures value { IfSome result (λ text. text.now ≡ bytes.now) }
     ensures utf8 { is_some result ≡ is_utf8 bytes.now }
@@ -234,7 +234,7 @@ fn optional_span(bytes: &[u8]) -> Result<(Option<Span>, &[u8]), ReadError>
     }
 }
 
-/// The window of a change, which only a change of a table can have.
+/// The window of a change, which only a table's change can have.
 #[tactic(auto, unfolding(crate::specs::Reading::window_at))]
 fn window(of_table: bool, bytes: &[u8]) -> Result<(Option<Span>, &[u8]), ReadError>
     ensures { Gives with_rest result (read.window_at of_table bytes.now) }
@@ -260,7 +260,7 @@ fn optional_row(alloc: Global, bytes: &[u8]) -> Result<(Option<Row>, &[u8]), Rea
     }
 }
 
-/// The version, and whether a change of a table stands after it.
+/// The version, and whether the change that follows is a table's.
 #[tactic(auto, unfolding(crate::specs::Reading::head_at))]
 fn head(bytes: &[u8]) -> Result<(bool, &[u8]), ReadError>
     ensures { Gives with_rest result (read.head_at bytes.now) }
@@ -354,7 +354,7 @@ fn whole_values(alloc: Global, bytes: &[u8], room: usize) -> Result<Items<Value>
     Ok(Items::of(values))
 }
 
-/// The change that the bytes spell, or `None` where they spell no change.
+/// The change that the bytes spell, or `None` if they spell none.
 pub fn decode(alloc: Global, bytes: &[u8]) -> Result<Option<Change>, AllocError>
     ensures found { IfOk result (λ o. IfSome o (λ c. IsSpellable c × (bytes.now ≡ spelling c))) }
     ensures only { (c : OneChange) → IsSpellable c → bytes.now ≡ spelling c → IfOk result (λ o. o ≡ Some c) }
@@ -366,7 +366,7 @@ pub fn decode(alloc: Global, bytes: &[u8]) -> Result<Option<Change>, AllocError>
     }
 }
 
-/// The row that the bytes spell, or `None` where they spell no row.
+/// The row that the bytes spell, or `None` if they spell none.
 pub fn decode_row(alloc: Global, bytes: &[u8]) -> Result<Option<Row>, AllocError>
     ensures found { IfOk result (λ o. IfSome o (λ r. IsSpellableRow r × (bytes.now ≡ values r))) }
     ensures only { (r : List OneValue) → IsSpellableRow r → bytes.now ≡ values r → IfOk result (λ o. o ≡ Some r) }
@@ -378,7 +378,7 @@ pub fn decode_row(alloc: Global, bytes: &[u8]) -> Result<Option<Row>, AllocError
     }
 }
 
-/// The values that the bytes spell, in a list with room for so many more, or `None` where they spell none.
+/// The values that the bytes spell, in a list with room for `room` more, or `None` if they spell none.
 pub fn decode_values(
     alloc: Global,
     bytes: &[u8],

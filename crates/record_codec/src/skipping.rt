@@ -1,4 +1,4 @@
-//! The time and the row of a change of a table to a row, read past its place, its window and its key.
+//! The time and the new row of a table's change, read without its place, window and key.
 ghost use Rattle.std.specs.Prelude.{◌≡◌, None, Some, List, IfOk};
 ghost use Rattle.ksql_types.specs.declared.value.Value.{Value as OneValue};
 ghost use Rattle.ksql_place.specs.declared.change.Body.TheVariants.{Turned};
@@ -12,7 +12,7 @@ use crate::reading::{eight, four, row};
 use ksql_types::Row;
 use std::alloc::{AllocError, Global};
 
-/// The bytes of a change before its path: those of its version, of its kind and of its stamp.
+/// The bytes of a change before its path: version, kind and stamp.
 const BEFORE_PATH: usize = 34;
 
 #[tactic(auto, unfolding(crate::specs::Skipping::past))]
@@ -131,8 +131,8 @@ fn timed_row(alloc: Global, bytes: &[u8]) -> Result<(u64, Row), ReadError>
     Ok((time, row))
 }
 
-/// The time and the row of the change that the bytes spell, where it is one of a table to a row that names no row before,
-/// as `encode_new` writes it. Of other bytes nothing is said: they aren't read whole.
+/// The time and the new row of the change that the bytes spell, if it is a table's change with a new row and without an
+/// old one, as `encode_new` writes it. The contract says nothing of other bytes, since they aren't read whole.
 pub fn decode_new(alloc: Global, bytes: &[u8]) -> Result<Option<(u64, Row)>, AllocError>
     ensures { (c : OneChange) (row : List OneValue) → IsSpellable (record c { body = Turned None (Some row) }) →
         bytes.now ≡ spelling (record c { body = Turned None (Some row) }) → IfOk result (λ found. found ≡ Some (c.time, row)) }

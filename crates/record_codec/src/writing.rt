@@ -148,7 +148,7 @@ fn put_head(out: &mut Vec<u8>, body: &Body) -> Result<(), AllocError>
     Ok(())
 }
 
-/// What stands between the head and the body of a change.
+/// Appends what stands between the head and the body of a change.
 fn put_before_body(out: &mut Vec<u8>, change: &Change) -> Result<(), AllocError>
     requires path { length change.now.place.path < 2 ^ 32 }
     requires key { All IsShort change.now.key }
@@ -168,7 +168,7 @@ fn put_before_body(out: &mut Vec<u8>, change: &Change) -> Result<(), AllocError>
     put_values(out, change.key.items())
 }
 
-/// The one spelling of a change.
+/// The only spelling of a change.
 #[tactic(auto, unfolding(crate::specs::Spelling::spelling))]
 pub fn encode(alloc: Global, change: &Change) -> Result<Bytes, AllocError>
     requires { IsWithinLimits change.now }
@@ -182,7 +182,7 @@ pub fn encode(alloc: Global, change: &Change) -> Result<Bytes, AllocError>
     Ok(Items::of(out))
 }
 
-/// The one spelling of a change of a table to a row, in the place of another change and with its time, key and window.
+/// The only spelling of a table's change to this row, with the place, time, key and window of `change`.
 #[tactic(auto, unfolding(crate::specs::Spelling::spelling))]
 pub fn encode_new(alloc: Global, change: &Change, row: &Row) -> Result<Bytes, AllocError>
     requires { IsWithinLimits (record change.now { body = Turned None (Some row.now) }) }
@@ -197,7 +197,7 @@ pub fn encode_new(alloc: Global, change: &Change, row: &Row) -> Result<Bytes, Al
     Ok(Items::of(out))
 }
 
-/// The one spelling of a row: how many values it has, and each.
+/// The only spelling of a row: the number of values, and each value.
 pub fn encode_row(alloc: Global, row: &Row) -> Result<Bytes, AllocError>
     requires { IsShortRow row.now }
     ensures bytes { IfOk result (λ bytes. bytes ≡ spelled.values row.now) }
@@ -208,7 +208,7 @@ pub fn encode_row(alloc: Global, row: &Row) -> Result<Bytes, AllocError>
     Ok(Items::of(out))
 }
 
-/// The one spelling of some values: how many there are, and each. A row's is the same.
+/// The only spelling of a list of values: their number, and each value. A row's is the same.
 pub fn encode_values(alloc: Global, values: &[Value]) -> Result<Bytes, AllocError>
     requires few { length values.now < 2 ^ 32 }
     requires short { All IsShort values.now }

@@ -6,11 +6,11 @@ use Rattle.ksql_program.specs.Program.{relations}
 use Rattle.ksql_program.specs.Sound.{IsSound}
 use Rattle.ksql_program.specs.declared.program.Item.{Item}
 use Rattle.ksql_program.specs.declared.program.Item.TheVariants.{Declared, Started}
-use Rattle.topology_laws.specs.Fed.{IsFed}
+use Rattle.short_laws.specs.Fed.{IsFed}
 use Rattle.core_state.specs.Wired.{AreCounted}
 use Rattle.core_state.proofs.Lists.{map-members}
-use Rattle.core_laws.proofs.Members.{member-at}
-use Rattle.core_laws.proofs.Writers.{numbered}
+use Rattle.wiring_laws.proofs.Members.{member-at}
+use Rattle.wiring_laws.proofs.Writers.{numbered}
 use Rattle.topic_log.specs.declared.shelves.Shelves.{Shelves}
 use Rattle.run_text.specs.Report.{report, summary}
 use Rattle.run_text.specs.Shown.{section_shown, shown_report, shown_summary}

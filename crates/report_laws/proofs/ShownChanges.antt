@@ -44,8 +44,8 @@ use Rattle.meaning_laws.proofs.Turning.{changed-from-side}
 use Rattle.lane_laws.proofs.Gathering.{IsBelow}
 use Rattle.lane_laws.proofs.KeptKeys.{gives-key}
 use Rattle.topology.specs.Topologies.{topology_of}
-use Rattle.topology_laws.specs.Fed.{IsFed}
-use Rattle.topology_laws.proofs.ItemLists.{list-at}
+use Rattle.short_laws.specs.Fed.{IsFed}
+use Rattle.sending_laws.proofs.ItemLists.{list-at}
 use Rattle.core_state.specs.Routes.{routes_of}
 use Rattle.core_state.specs.Shelf.{shelf_closed, state_of}
 use Rattle.core_state.specs.State.{least, lowest}
@@ -55,9 +55,9 @@ use Rattle.core_state.proofs.Lists as core
 use Rattle.core_state.proofs.Wiring.{flat_map-members}
 use Rattle.core_laws.specs.Core.{meant_in_part}
 use Rattle.core_laws.proofs.Showing.{good-shows}
-use Rattle.core_laws.proofs.SubReads.{result-written}
-use Rattle.core_laws.proofs.Wirings.{staged}
-use Rattle.core_laws.proofs.Writers.{numbered}
+use Rattle.wiring_laws.proofs.SubReads.{result-written}
+use Rattle.wiring_laws.proofs.Wirings.{staged}
+use Rattle.wiring_laws.proofs.Writers.{numbered}
 use Rattle.topic_log.specs.Shelves.{routes_in, shelf_of}
 use Rattle.topic_log.specs.declared.shelves.Shelves.{Shelves}
 use Rattle.run_text.specs.Printed.{Shown, shown_in}
@@ -82,7 +82,7 @@ skipped-topic r order =
 
 -- ---- changes in their partitions
 
--- a change stands in the partition of its record
+-- a change is in the partition of its record
 abbrev StandsSo : Relation → Change → Type 0
 StandsSo r c = c.place.stamp.part ≡ lane c.key r.partitions c.place.stamp.part
 
@@ -90,7 +90,7 @@ placed-so : (r : Relation) (x : SourceRecord) (body : Option Body) → x.stamp.p
 placed-so r x None there = tt
 placed-so r x (Some body) there = (there, tt)
 
--- a table's step leaves changes where they are
+-- a table's step leaves changes at their places
 table-so : (r : Relation) (number : ℕ) (before : List Entry) (e : Entry) → StandsSo r e.change → AllByRecursion (StandsSo r) (gives 1 (node.Table number) before e)
 table-so r number before e there =
     All-weaker (λ c. (c.place.stamp ≡ e.change.place.stamp) × (c.key ≡ e.change.key)) (StandsSo r) same (gives 1 (node.Table number) before e)
@@ -133,7 +133,7 @@ standing r c = record { part = partition_of r c; change = c }
 standing-total : IsTotalOrder standing_cmp
 standing-total = then_total (on_total (λ (s : Standing). s.change.place) place_total) (on_total (λ (s : Standing). s.part) nat_cmp_total)
 
--- the changes of each partition, one partition after another and then in order, are all of them
+-- the changes of each partition, partition by partition and then sorted, are all of them
 parts-standing : (r : Relation) → 0 < r.partitions → (changes : List Change) → Pairwise (λ c d. place_cmp c.place d.place ≡ Less) changes →
     ascending standing_cmp (flat_map (λ q. map (λ c. record { part = q; change = c }) (filter (λ c. partition_of r c == q) changes)) (range_with_len 0 r.partitions)) ≡ map (standing r) changes
 parts-standing r some changes rise =
@@ -188,7 +188,7 @@ unfolding section_of
 section-same closed r xs ys us vs skipped shown = ap₂ (λ n ss. record { relation = r; closed = closed; skipped = n; shown = ss }) skipped shown
 
 module _ (items : List Item) (order : List SourceRecord) (sound : IsSound items) (fed : IsFed items order) (counted : AreCounted order) (b : Shelves) (g : IsGoodBroker items order b) where
-  -- the feed up to which a topic is closed is that of the core
+  -- the feed up to which a topic is closed is the same in the core
   feed-same : (number : ℕ) → shelf_closed (routes_in b) (shelf_of b) number ≡ shelf_closed (routes_of (topology_of items).topics) g.parts.shelf number
   feed-same number = λ k. lowest (sym g.fed k) (sym g.done k) ((routes_of (g.topics k)).writers number)
 
@@ -224,7 +224,7 @@ module _ (items : List Item) (order : List SourceRecord) (sound : IsSound items)
   -- ---- queries
 
   module _ (q : Query) (at : slice_get items q.out.number ≡ Some (Started q)) where
-    -- the records up to the feed up to which its topic is shown, and what it means on them
+    -- the records up to the feed up to which its topic is shown, and its meaning for them
     abbrev records : List SourceRecord
     records = up_to (shown_up_to b q.out) order
 
@@ -249,7 +249,7 @@ module _ (items : List Item) (order : List SourceRecord) (sound : IsSound items)
         (all-from_pairwise (IsBelow record_cmp) records (Pairwise-filter (IsBelow record_cmp) (λ x. nat_le x.stamp.feed (shown_up_to b q.out)) order (Pairwise-from_all (IsBelow record_cmp) order fed.rises))))))
         q.out.number
 
-    -- where all tasks that write its topic are done up to a feed, it is shown up to there
+    -- if all tasks that write its topic are done up to a feed, it is shown up to there
     pub query-feed : (feed : ℕ) → ((u : TaskName) → Contains ((routes_in b).writers q.out.number) u → (shelf_of b).done u ≡ feed) → shown_up_to b q.out ≡ feed
     query-feed feed done =
         lowest-one b.fed feed (shelf_of b).done ((routes_in b).writers q.out.number)

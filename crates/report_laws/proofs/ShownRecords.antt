@@ -24,8 +24,8 @@ use Rattle.ksql_program.specs.declared.query.Query.{Query}
 use Rattle.meaning_laws.proofs.Lists.{All-both, All-filter, All-passes, All-weaker, Pairwise, Pairwise-filter, Pairwise-from_all}
 use Rattle.topology.specs.Topologies.{topology_of}
 use Rattle.topology.specs.declared.topology.Topology.{Topology}
-use Rattle.topology_laws.specs.Fed.{IsFed, IsInItsPartition}
-use Rattle.topology_laws.proofs.ItemLists.{item-at, relation-at, sound-at, within}
+use Rattle.short_laws.specs.Fed.{IsFed, IsInItsPartition}
+use Rattle.sending_laws.proofs.ItemLists.{item-at, relation-at, sound-at, within}
 use Rattle.core_state.specs.Routes.{routes_of}
 use Rattle.core_state.specs.State.{is_in}
 use Rattle.core_state.specs.Wired.{AreCounted, between, log_feed}
@@ -35,9 +35,9 @@ use Rattle.core_state.proofs.Lists as core
 use Rattle.core_state.proofs.Staging as staging
 use Rattle.core_state.proofs.Wiring.{flat_map-members}
 use Rattle.core_laws.proofs.SameContents.{declared-contents}
-use Rattle.core_laws.proofs.SubReads.{declared-unwritten}
-use Rattle.core_laws.proofs.Wirings.{staged}
-use Rattle.core_laws.proofs.Writers.{numbered}
+use Rattle.wiring_laws.proofs.SubReads.{declared-unwritten}
+use Rattle.wiring_laws.proofs.Wirings.{staged}
+use Rattle.wiring_laws.proofs.Writers.{numbered}
 use Rattle.lane_laws.proofs.Gathering.{IsBelow}
 use Rattle.topic_log.specs.declared.shelves.Shelves.{Shelves}
 use Rattle.run_text.specs.Shown.{declared_records, entries_at, order_shown, records_in, records_shown}
@@ -76,7 +76,7 @@ declaration-at items sound number r is says = let found = item-at items number r
 all-kept : (P : SourceRecord → Type 0) (p : SourceRecord → Bool) (order : List SourceRecord) → All P order → All P (filter p order)
 all-kept P p order all = All-from_recursion P (filter p order) (All-filter P p order (recursion_from_All P order all))
 
--- no record stands in the topic of a query
+-- no record is in the topic of a query
 pub none-of-query : (items : List Item) (order : List SourceRecord) → All (IsOfDeclared items) order → (number : ℕ) (q : Query) → slice_get items number ≡ Some (Started q) →
     filter (λ x. x.stamp.topic == number) order ≡ []
 none-of-query items order declared number q at =
@@ -97,7 +97,7 @@ module _ (items : List Item) (order : List SourceRecord) (sound : IsSound items)
   abbrev rises : Pairwise (IsBelow record_cmp) order
   rises = Pairwise-from_all (λ a b. record_cmp a b ≡ Less) order fed.rises
 
-  -- a record of a relation's topic stands in the partition of its key
+  -- a record of a relation's topic is in the partition of its key
   abbrev pub StandsThere : Relation → SourceRecord → Type 0
   StandsThere r x = x.stamp.part ≡ lane x.key r.partitions x.stamp.part
 
@@ -110,7 +110,7 @@ module _ (items : List Item) (order : List SourceRecord) (sound : IsSound items)
       there : (x : SourceRecord) → (is_of_topic r x ≡ true) × IsInItsPartition items x → StandsThere r x
       there x (same, placed) = placed r (ap (relation_at items) ((unsigned_Decides x.stamp.topic r.number).0 same) ∙ relation-at items r.number (Declared r) at)
 
-  -- the records of its topic, partition after partition and then in order, are all of them
+  -- the records of its topic, partition by partition and then sorted, are all of them
   parts-together : (r : Relation) → slice_get items r.number ≡ Some (Declared r) →
       ascending record_cmp (flat_map (λ q. filter (is_in r.number q) order) (range_with_len 0 r.partitions)) ≡ filter (is_of_topic r) order
   parts-together r at =
@@ -138,7 +138,7 @@ module _ (items : List Item) (order : List SourceRecord) (sound : IsSound items)
         by (u ∷ us) is =
             absurd (declared-unwritten items sound number r at ((staged items sound).all number (core.not_empty u ((routes_of t.topics).writers number) (subst (λ vs. Contains vs u) (sym is) (core.Contains-here u us)))))
 
-    -- its partitions show the records of the order that stand there
+    -- its partitions show the records of the order that belong there
     source-shown : (r : Relation) → slice_get items r.number ≡ Some (Declared r) → (q : ℕ) → entries_at b r q ≡ map Fed (filter (is_in r.number q) order)
     source-shown r at q =
         sym (g.shown r.number q (slice_get_within items r.number (Declared r) at))

@@ -68,7 +68,8 @@ bounded-same greatest k low = by (nat_lt k (suc greatest)) refl
 
 -- ---- together
 
--- members that rise, each of a number below n: those of each number, one number after another and then in order, are all of them
+-- members that rise, each of a number below n: those of each number, one number after another and then in order, are
+-- all of them
 pub together : {A : Type 0} {cmp : A → A → Ordering} → IsTotalOrder cmp → (at : A → ℕ) (n : ℕ) (xs : List A) → AllByRecursion (λ x. at x < n) xs → Pairwise (IsBelow cmp) xs →
     ascending cmp (flat_map (λ k. filter (λ x. at x == k) xs) (range_with_len 0 n)) ≡ xs
 together total at zero [] low rise = refl

@@ -1,4 +1,4 @@
--- The report and the summary that a good broker shows: those of what the program means.
+-- The report and the summary of a good broker: those of the program's meaning.
 use Rattle.std.specs.Prelude.{◌≡◌, ℕ, ◌<◌, List, length, map, Some, slice_get}
 use Rattle.ksql_types.specs.declared.relation.Relation.{Relation}
 use Rattle.ksql_place.specs.declared.change.SourceRecord.{SourceRecord}
@@ -20,14 +20,14 @@ use Rattle.run_text.specs.Shown.{shown_report, shown_summary}
 
 -- ---- the records
 
--- a record stands in the topic of a declared relation
+-- a record is in the topic of a declared relation
 abbrev pub IsOfDeclared : List Item → SourceRecord → Type 0
 IsOfDeclared items source = (r : Relation) × (slice_get items source.stamp.topic ≡ Some (Declared r))
 
 -- ---- the broker
 
--- A broker has the topics of a program, and there is a good state after the records of an order that has its feeds, its commits and
--- what it shows of the relations. Tasks, and what repartition topics show, may be anything there.
+-- A broker has the topics of a program, and some good state after the records of an order has its feeds, its commits
+-- and what it shows of the relations. Its tasks, and what repartition topics show, may be anything there.
 pub record IsGoodBroker (items : List Item) (order : List SourceRecord) (b : Shelves) : Type 0 where
   pub topics : topics_of b ≡ (topology_of items).topics
   pub parts : Parts (List Maps)
@@ -42,17 +42,17 @@ shown_up_to b r = shelf_closed (routes_in b) (shelf_of b) r.number
 
 -- ---- the report
 
--- what is shown of an item: its meaning on the records that were fed up to the feed up to which the broker shows it
+-- what is shown of an item: its meaning for the records that were fed, up to the feed up to which the broker shows it
 abbrev pub section_known : List Item → Shelves → List SourceRecord → Item → Section
 section_known items b order item =
     let r = relation_of item in
     let records = up_to (shown_up_to b r) order in
     section_of (shown_up_to b r) r records (meant r (changes_at (meaning items records) r.number))
 
--- the report that a broker shows has all records that were fed, and of each relation its meaning on them
+-- the report of a broker has all records that were fed, and each relation's meaning for them
 abbrev pub ReportsTheMeaning : List Item → List SourceRecord → Shelves → Type 0
 ReportsTheMeaning items order b = (trace : List ℕ) → shown_report items b trace ≡ report (relations items) order (map (section_known items b order) items) trace
 
--- the summary that a broker shows has of each relation what its meaning has on the records that were fed
+-- the summary of a broker has for each relation the summary of its meaning for the records that were fed
 abbrev pub SummarizesTheMeaning : List Item → List SourceRecord → Shelves → Type 0
 SummarizesTheMeaning items order b = shown_summary items b ≡ summary (map (section_known items b order) items)

@@ -1,4 +1,4 @@
-//! Laws of the report and its summary: what a broker in a good state shows is printed as those of what the program means.
+//! Laws of the report and its summary: what a broker in a good state shows is printed like the program's meaning.
 #![tactic(auto)]
 
 mod laws;

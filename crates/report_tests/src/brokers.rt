@@ -133,7 +133,7 @@ fn feed_one(alloc: Global, broker: &mut Broker, number: i32) -> Result<u64, Allo
     broker.feed(alloc, vec![in alloc; record]?)
 }
 
-/// What the task of COPY proposes for the first feed: one change, with this window and body.
+/// The proposal of COPY's task for the first feed: one change, with this window and body.
 fn proposal(alloc: Global, span: Option<Span>, body: Body) -> Result<Proposal, AllocError>
     ensures task { IfOk result (λ made. made.task ≡ record { sub = 0; part = 0 }) }
     ensures from { IfOk result (λ made. made.from ≡ 0) }
@@ -159,7 +159,7 @@ fn proposal(alloc: Global, span: Option<Span>, body: Body) -> Result<Proposal, A
     })
 }
 
-/// Commits what the task of COPY proposes for the first feed.
+/// Commits the proposal of COPY's task for the first feed.
 fn commit(
     alloc: Global,
     broker: &mut Broker,

@@ -1,4 +1,4 @@
-//! What both kinds of tests build on: short texts, and the columns of relations.
+//! Helpers of both kinds of tests: short texts, and the columns of relations.
 
 use ksql_types::{Chars, Column, SqlType};
 use std::alloc::{AllocError, Global};

@@ -1,4 +1,4 @@
-//! Tests of the text of reports: of what a program means, and of what a broker shows of it.
+//! Tests of the text of reports: on a program's meaning, and on what a broker shows.
 #![tactic(auto)]
 
 #[cfg(test)]

@@ -5,12 +5,11 @@ use crate::columns::{chars, column};
 use ksql_place::{Body, Change, Decoded, Path, Place, SourceRecord, Stamp};
 use ksql_program::{From, Item, Program, Query, Shape};
 use ksql_types::{Format, Items, Key, Kind, Relation, Row, Schema, Span, SqlType, Value};
-use query_meaning::Listed;
-use run_text::report;
+use reference::{Listed, report};
 use std::alloc::{AllocError, Global};
 use std::test::Fail;
 
-/// A stream in four partitions with the key column ID and the value columns NAME, BIG and on.
+/// A stream in four partitions with the key column ID and the value columns NAME, BIG and so on.
 fn stream(
     alloc: Global,
     number: u32,
@@ -101,7 +100,7 @@ fn nulls(alloc: Global) -> Result<Row, AllocError> {
     Ok(Items::of(row))
 }
 
-/// The report on the only relation of a program, which has these changes.
+/// The report on the only relation of a program, with these changes.
 fn reported_alone(
     alloc: Global,
     relation: Relation,
@@ -229,12 +228,12 @@ fn table(alloc: Global, kind: Kind) -> Result<Relation, AllocError>
     })
 }
 
-/// The report on a relation of this kind that has these changes.
+/// The report on a relation of this kind with these changes.
 fn reported_table(alloc: Global, kind: Kind, changes: Vec<Change>) -> Result<String, AllocError> {
     reported_alone(alloc, table(alloc, kind)?, changes)
 }
 
-/// What leaves the row of A and B, or none.
+/// The body of a change that leaves the row of A and B, or none.
 fn turned(alloc: Global, row: Option<(i32, i32)>) -> Result<Body, AllocError> {
     let new = match row {
         Some((a, b)) => Some(Items::of(vec![in alloc; Value::Int(a), Value::Int(b)]?)),

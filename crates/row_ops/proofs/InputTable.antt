@@ -1,4 +1,4 @@
--- The rows of a table at an input: what is read of them, and one more entry.
+-- The rows of a table at an input: reading them, and one more entry.
 use Rattle.std.proofs.Common.{◌≡◌, ◌∙◌, ap, refl, sym, List, [], ◌∷◌, ◌++◌, ℕ, cond, All, Result}
 use Rattle.std.specs.Prelude.{Option, None, Some, IfOk, IfSome, option_and_then, option_map, unwrap_or}
 use Rattle.std.specs.List.{last_or}
@@ -20,7 +20,7 @@ use Rattle.operator.proofs.SameKeys.{at_bytes-of_key, of_key-long}
 use Rattle.operator.proofs.Rows.{rows_at-more, All-keys, kept_after-spelled}
 use Rattle.row_ops.specs.InputTable.{HoldsRows, latest_row}
 
--- what stands under the bytes of a key
+-- the value under the bytes of a key
 pub rows-read : (m : Values) (es : List Entry) (key : List Value) → HoldsRows m es → IsSpellableRow key →
     get m (values key) ≡ option_map spelling (kept_after (of_key key es))
 rows-read m es key h spelled =

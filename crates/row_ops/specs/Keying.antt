@@ -1,4 +1,4 @@
--- By what a change gets its key.
+-- What gives a change its key.
 use Rattle.std.specs.Prelude.{List}
 use Rattle.ksql_place.specs.declared.change.Change.{Change}
 use Rattle.ksql_nodes.specs.declared.node.Node.{Node}

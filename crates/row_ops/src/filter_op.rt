@@ -1,77 +1,61 @@
-ghost use Rattle.std.specs.Prelude.{◌≡◌, ◌++◌, false, [], if◌then◌else◌, IfOk, OnErr, OnOk, IsTrue};
+ghost use Rattle.std.specs.Prelude.{◌≡◌, ◌++◌, if◌then◌else◌, IfOk, OnErr, OnOk};
 ghost use Rattle.ksql_nodes.specs.declared.node.Node.TheVariants as nodes;
 ghost use Rattle.ksql_nodes.specs.Rows.{filtered};
 ghost use Rattle.operator.specs.Holding.{nothing};
-ghost use Rattle.operator.specs.StandsFor.{StandsFor};
 ghost use Rattle.row_ops.specs.Kinds.{is_filter};
 
 use ksql_expr::Typed;
 use ksql_nodes::Node;
 use ksql_place::Change;
 use ksql_types::CopyOf;
-use node_steps::{filtered, push_given};
-use operator::Operator;
+use operator::{Guarded, Processor};
+use row_steps::{filtered, push_given};
 use std::alloc::{AllocError, Global};
 
-/// The operator of WHERE, and of HAVING.
+/// The operator of WHERE and HAVING.
+pub type FilterOp = Guarded<Filter>;
+
+/// A condition, of WHERE or of HAVING.
 #[derive(Drop)]
-pub struct FilterOp {
+pub struct Filter {
     on: Typed,
     having: bool,
-    failed: bool,
 }
 
-impl FilterOp {
-    /// The operator of a filter, before any entry.
-    pub fn new(alloc: Global, node: &Node) -> Result<FilterOp, AllocError>
-        requires { IsTrue (is_filter node.now) }
-        ensures node { IfOk result (λ made. ⟦<FilterOp as Operator>⟧.node made ≡ node.now) }
-        ensures stands { IfOk result (λ made. StandsFor (⟦<FilterOp as Operator>⟧.node made) (⟦<FilterOp as Operator>⟧.held made) []) }
-        ensures sound { IfOk result (λ made. ⟦<FilterOp as Operator>⟧.failed made ≡ false) }
-    {
-        match node {
-            Node::Filter { on } => filter(alloc, on, false),
-            Node::Having { on } => filter(alloc, on, true),
-            _ => unreachable!(),
-        }
-    }
-}
+impl Processor for Filter {
+    ghost is_of = { is_filter };
 
-impl Operator for FilterOp {
     ghost node = { λ s. if s.having then nodes.Having s.on else nodes.Filter s.on };
 
     ghost held = { λ s. nothing };
 
-    ghost failed = { λ s. s.failed };
+    fn of(alloc: Global, origin: &Node) -> Result<Filter, AllocError> {
+        match origin {
+            Node::Filter { on } => condition(alloc, on, false),
+            Node::Having { on } => condition(alloc, on, true),
+            _ => unreachable!(),
+        }
+    }
 
-    fn step(
+    fn process(
         &mut self,
         alloc: Global,
         _side: u32,
         change: Change,
         out: &mut Vec<Change>,
     ) -> Result<(), AllocError> {
-        if self.failed {
-            return Err(AllocError);
-        }
-        let stepped = give(alloc, &self.on, change, out);
-        self.failed = stepped.is_err();
-        stepped
+        give(alloc, &self.on, change, out)
     }
 }
 
-/// The operator of a condition, before any entry.
-fn filter(alloc: Global, on: &Typed, having: bool) -> Result<FilterOp, AllocError>
-    ensures { IfOk result (λ made. (made.on ≡ on.now) × (made.having ≡ having) × (made.failed ≡ false)) }
+fn condition(alloc: Global, on: &Typed, having: bool) -> Result<Filter, AllocError>
+    ensures { IfOk result (λ made. (made.on ≡ on.now) × (made.having ≡ having)) }
 {
-    Ok(FilterOp {
-        on: on.copy(alloc)?,
-        having,
-        failed: false,
-    })
+    let on = on.copy(alloc)?;
+    Ok(Filter { on, having })
 }
 
-/// Adds what the node gives.
+/// Appends what the node gives.
 fn give(alloc: Global, on: &Typed, change: Change, out: &mut Vec<Change>) -> Result<(), AllocError>
     ensures given { OnOk result (out.new.items ≡ out.old.items ++ filtered on.now change) }
     ensures unchanged { OnErr result (out.new.items ≡ out.old.items) }

@@ -1,4 +1,4 @@
-//! The table at an input: for each key the change that set its row, under the bytes of the key.
+//! The table at an input: for each key, by its bytes, the change that set its row.
 ghost use Rattle.std.specs.Prelude.{◌≡◌, ℕ, List, [], ◌∷◌, ◌++◌, All, IfOk, IfSome, OnOk, option_copied, option_map, unwrap_or};
 ghost use Rattle.ksql_nodes.specs.Entries.{Entry, of_key};
 ghost use Rattle.state_store.specs.Store.{Values, IsBase};
@@ -10,14 +10,14 @@ ghost use Rattle.row_ops.specs.InputTable.{HoldsRows, latest_row};
 
 use ksql_place::Change;
 use ksql_types::{Bytes, Key, Row};
-use node_steps::row_in;
 use operator::{is_short, spelled_key};
 use record_codec::{decode_new, encode_new};
+use row_steps::row_in;
 use state_store::Store;
 use std::alloc::{AllocError, Global};
 
-/// Puts what a change says of its key into the table, and answers the row that the key had, after the time of the change
-/// that had set it; None where it had none.
+/// Puts a change into the table, and returns the previous row of its key, after the time of the change that set it;
+/// None if it had none.
 pub fn turn(
     store: &mut Store,
     alloc: Global,
@@ -55,11 +55,11 @@ pub fn turn_at(
     Ok(before)
 }
 
-/// The row that a key has, as `turn` answers it; the table stays as it is. Every key may be asked for.
+/// The current row of a key, as `turn` returns it; the table is unchanged. Any key is allowed.
 pub fn standing(store: &Store, alloc: Global, key: &Key) -> Result<Option<(u64, Row)>, AllocError>
     ensures { IfOk result (λ found. (es : List Entry) → HoldsRows store.now.map es → found ≡ latest_row (of_key key.now es)) }
 {
-    // No row has a key with a long value.
+    // A key with a long value has no row.
     if !is_short(key) {
         return Ok(None);
     }
@@ -67,7 +67,7 @@ pub fn standing(store: &Store, alloc: Global, key: &Key) -> Result<Option<(u64, 
     standing_at(store, alloc, key.items())
 }
 
-/// The row that the key of these bytes has, as `standing` answers it.
+/// The current row of the key with these bytes, as `standing` returns it.
 pub fn standing_at(
     store: &Store,
     alloc: Global,
@@ -78,14 +78,14 @@ pub fn standing_at(
     kept_in(alloc, store.get(bytes))
 }
 
-/// The row that was found, without its time.
+/// A row that was found, without its time.
 pub fn row_of(found: Option<(u64, Row)>) -> Option<Row>
     ensures { result ≡ option_map (λ timed. timed.1) found }
 {
     found.map(|(_, row)| row)
 }
 
-/// The time of the row that was found; 0 where there is none.
+/// The time of a row that was found; 0 if there is none.
 pub fn time_of(found: &Option<(u64, Row)>) -> u64
     ensures { result ≡ unwrap_or (option_map (λ timed. timed.0) found.now) 0 }
 {
@@ -95,7 +95,7 @@ pub fn time_of(found: &Option<(u64, Row)>) -> u64
     }
 }
 
-/// The row that is kept in some bytes, after the time of its change; None where there are none.
+/// The row stored in some bytes, after the time of its change; None if there are none.
 fn kept_in(alloc: Global, bytes: Option<&[u8]>) -> Result<Option<(u64, Row)>, AllocError>
     ensures { (es : List Entry) → IfSome (kept_after es) IsSpellable → option_copied bytes.entry ≡ option_map spelling (kept_after es) →
         IfOk result (λ found. found ≡ latest_row es) }
@@ -106,7 +106,7 @@ fn kept_in(alloc: Global, bytes: Option<&[u8]>) -> Result<Option<(u64, Row)>, Al
     }
 }
 
-/// The bytes in which a change is kept; None where it brings no row.
+/// The bytes to store for a change; None if it brings no row.
 fn kept_of(alloc: Global, change: &Change) -> Result<Option<Bytes>, AllocError>
     requires { HasShortRow change.now }
     ensures bytes { IfOk result (λ bytes. bytes ≡ option_map spelling (kept change.now)) }

@@ -1,4 +1,4 @@
-//! The operators that look at each row by itself, and the one of a table at an input.
+//! The operators that work on one row at a time, and the operator of a table at an input.
 #![tactic(auto)]
 
 mod filter_op;

@@ -1,4 +1,4 @@
-ghost use Rattle.std.specs.Prelude.{◌≡◌, ℕ, false, List, [], ◌∷◌, ◌++◌, All, IfOk, OnOk, OnErr, IsTrue};
+ghost use Rattle.std.specs.Prelude.{◌≡◌, ℕ, List, [], ◌∷◌, ◌++◌, All, OnOk, OnErr};
 ghost use Rattle.std.specs.Option.{option_to_list};
 ghost use Rattle.ksql_place.specs.Said.{row_in};
 ghost use Rattle.ksql_nodes.specs.declared.node.Node.TheVariants as nodes;
@@ -7,7 +7,6 @@ ghost use Rattle.ksql_nodes.specs.Rows.{turned, with_body};
 ghost use Rattle.state_store.specs.Store.{Values, IsBase};
 ghost use Rattle.record_codec.specs.Spelling.{IsShort};
 ghost use Rattle.operator.specs.Holding.{nothing};
-ghost use Rattle.operator.specs.StandsFor.{StandsFor};
 ghost use Rattle.operator.specs.Storable.{HasShortRow};
 ghost use Rattle.row_ops.specs.InputTable.{HoldsRows};
 ghost use Rattle.row_ops.specs.Kinds.{is_table};
@@ -16,62 +15,50 @@ use crate::input_table::{row_of, turn};
 use ksql_nodes::Node;
 use ksql_place::Change;
 use ksql_types::{Changelog, Row, StoreEntry};
-use node_steps::{into_row, push_given, turned};
-use operator::{Operator, StoredOperator};
+use operator::{Guarded, Processor, StoredProcessor};
+use row_steps::{into_row, push_given, turned};
 use state_store::Store;
 use std::alloc::{AllocError, Global};
 
-/// The operator of a table at the input of a query without a join: what it gives says which row stood before.
+/// The operator of a table at the input of a query without a join: it completes each change with the row before it.
+pub type TableOp = Guarded<TableRows>;
+
+/// The rows of a relation.
 #[derive(Drop)]
-pub struct TableOp {
+pub struct TableRows {
     relation: u32,
     rows: Store,
-    failed: bool,
 }
 
-impl TableOp {
-    /// The operator of a table, before any entry. Takes no memory.
-    pub fn new(alloc: Global, node: &Node) -> Result<TableOp, AllocError>
-        requires { IsTrue (is_table node.now) }
-        ensures node { IfOk result (λ made. ⟦<TableOp as Operator>⟧.node made ≡ node.now) }
-        ensures stands { IfOk result (λ made. StandsFor (⟦<TableOp as Operator>⟧.node made) (⟦<TableOp as Operator>⟧.held made) []) }
-        ensures sound { IfOk result (λ made. ⟦<TableOp as Operator>⟧.failed made ≡ false) }
-    {
-        match node {
-            Node::Table { relation } => Ok(TableOp {
-                relation: *relation,
-                rows: Store::new(alloc),
-                failed: false,
-            }),
-            _ => unreachable!(),
-        }
-    }
-}
+impl Processor for TableRows {
+    ghost is_of = { is_table };
 
-impl Operator for TableOp {
     ghost node = { λ s. nodes.Table s.relation };
 
     ghost held = { λ s. record nothing { left = s.rows } };
 
-    ghost failed = { λ s. s.failed };
+    fn of(alloc: Global, origin: &Node) -> Result<TableRows, AllocError> {
+        match origin {
+            Node::Table { relation } => Ok(TableRows {
+                relation: *relation,
+                rows: Store::new(alloc),
+            }),
+            _ => unreachable!(),
+        }
+    }
 
-    fn step(
+    fn process(
         &mut self,
         alloc: Global,
         _side: u32,
         change: Change,
         out: &mut Vec<Change>,
     ) -> Result<(), AllocError> {
-        if self.failed {
-            return Err(AllocError);
-        }
-        let stepped = give(&mut self.rows, alloc, change, out);
-        self.failed = stepped.is_err();
-        stepped
+        give(&mut self.rows, alloc, change, out)
     }
 }
 
-impl StoredOperator for TableOp {
+impl StoredProcessor for TableRows {
     fn changes(&mut self, alloc: Global) -> Result<Changelog, AllocError> {
         self.rows.changes(alloc)
     }
@@ -81,7 +68,7 @@ impl StoredOperator for TableOp {
     }
 }
 
-/// Gives the change from the row that the key had before, where it isn't from absent to absent.
+/// Gives the change from the key's previous row, unless it is from absent to absent.
 fn give(
     rows: &mut Store,
     alloc: Global,
@@ -100,7 +87,7 @@ fn give(
     push_given(out, changed(change, row_of(found)))
 }
 
-/// The change from a row that stood before, where that isn't from absent to absent.
+/// The change from the previous row, unless it is from absent to absent.
 fn changed(change: Change, before: Option<Row>) -> Option<Change>
     ensures { option_to_list result ≡ with_body change (turned before (row_in change.body)) }
 {

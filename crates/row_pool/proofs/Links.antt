@@ -33,7 +33,7 @@ visits_after b i m n h =
     let split = visits-split b (after b i m) i m (suc (n - m - 1)) n (omega arith) in
     omega (arith, visits_first b (after b i m) (n - m - 1))
 
--- where each visited block keeps its link, a walk stays as it was
+-- if each visited block keeps its link, a walk is unchanged
 pub record SameWalk (b c : List Block) (i n : ℕ) : Type 0 where
   pub behind : after c i n ≡ after b i n
   pub visited : (j : ℕ) → visits c j i n ≡ visits b j i n

@@ -62,7 +62,7 @@ pub share_stays : (b c : List Block) (q : ℕ) → len_at c q ≡ len_at b q →
 share_stays b c q len keeps j =
     ap (λ o. visits c j q (size_of o)) len ∙ (walk_stays b c q (size_of (len_at b q)) keeps).visited j
 
--- where each text keeps its share, so do all together
+-- if each text keeps its share, so do all together
 pub taken_stays : (b c : List Block) (j n : ℕ) → ((i : ℕ) → i < n → share c j i ≡ share b j i) → taken c j n ≡ taken b j n
 taken_stays b c j zero same = refl
 taken_stays b c j (suc n) same =
@@ -121,7 +121,7 @@ one_owner b free spare j sound =
 pub no_owner : (b : List Block) (free spare j : ℕ) → IsSound b free spare → length b ≤ j → visits b j free spare + taken b j (length b) ≡ 0
 no_owner b free spare j sound past = sound.owned j ∙ ap (λ t. cond t 1 0) (le-ltb j (length b) past)
 
--- so many free blocks are a chain
+-- n free blocks form a chain
 pub free_chain : (b : List Block) (free spare n : ℕ) → IsSound b free spare → n ≤ spare → IsChain b free n
 free_chain b free spare n sound le = record {
   once = λ j. let split = visits-split b j free n (spare - n) spare (omega arith) in omega (arith, one_owner b free spare j sound);

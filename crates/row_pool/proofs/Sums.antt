@@ -37,7 +37,7 @@ pub blocks_in-insert : (m : FinMap nat_cmp (List ℕ)) (k : ℕ) (v : List ℕ) 
 blocks_in-insert m k v none =
     ap size (entries-insert nat_cmp_total m k v) ∙ size-put k v (entries m) (sym (get-entries m k) ∙ none)
 
--- a map is what it is without a ticket, and that ticket's text
+-- a map is the map without a ticket, plus that ticket's text
 pub insert-remove : (m : FinMap nat_cmp (List ℕ)) (k : ℕ) (v : List ℕ) → get m k ≡ Some v → insert (remove m k) k v ≡ m
 insert-remove m k v is = same_map nat_cmp_total nat_cmp-IsAntisymmetric _ _ (λ q. grind (arith, gets, nat_tests, is))
 

@@ -5,7 +5,7 @@ use Rattle.std.specs.FinMap as map
 use Rattle.row_pool.specs.Pool.{blocks_of, blocks_in}
 use Rattle.row_pool.specs.declared.block.Block.{Block}
 
--- what stands after the last block: no bytes, and no text begins there
+-- what follows the last block: no bytes, and no text begins there
 abbrev pub no_block : Block
 no_block = record { bytes = []; next = 0; text_len = None }
 
@@ -13,7 +13,7 @@ no_block = record { bytes = []; next = 0; text_len = None }
 abbrev pub bytes_at : List Block → ℕ → List ℕ
 bytes_at blocks i = (slice_index_or blocks i no_block).bytes
 
--- the block that follows a block
+-- the block that a block links to
 abbrev pub next_at : List Block → ℕ → ℕ
 next_at blocks i = (slice_index_or blocks i no_block).next
 
@@ -21,7 +21,7 @@ next_at blocks i = (slice_index_or blocks i no_block).next
 abbrev pub len_at : List Block → ℕ → Option ℕ
 len_at blocks i = (slice_index_or blocks i no_block).text_len
 
--- the block that lies n links after a block
+-- the block n links after a block
 abbrev pub after : List Block → ℕ → ℕ → ℕ
 after blocks i zero = i
 after blocks i (suc n) = after blocks (next_at blocks i) n
@@ -44,7 +44,7 @@ text_from blocks i len = take len (bytes_from blocks i (blocks_of len))
 abbrev pub text_at : List Block → ℕ → Option (List ℕ)
 text_at blocks i = option_map (text_from blocks i) (len_at blocks i)
 
--- the texts, with one more under this block's number, if one begins in it
+-- the texts, with one more under this block's number, if one begins there
 abbrev pub with_text : map.FinMap nat_cmp (List ℕ) → ℕ → Option (List ℕ) → map.FinMap nat_cmp (List ℕ)
 with_text texts i None = texts
 with_text texts i (Some text) = map.insert texts i text
@@ -58,7 +58,7 @@ texts_below blocks (suc n) = with_text (texts_below blocks n) n (text_at blocks 
 abbrev pub texts_in : List Block → map.FinMap nat_cmp (List ℕ)
 texts_in blocks = texts_below blocks (length blocks)
 
--- how many blocks a text takes, if there is one
+-- the number of blocks that a text takes, if there is one
 abbrev pub size_of : Option ℕ → ℕ
 size_of None = 0
 size_of (Some len) = blocks_of len
@@ -72,20 +72,20 @@ abbrev pub taken : List Block → ℕ → ℕ → ℕ
 taken blocks j zero = 0
 taken blocks j (suc n) = share blocks j n + taken blocks j n
 
--- `spare` blocks from `free` on are free, each block is free once or in one text once, the blocks of
--- the texts and the free ones are all, and each block holds 64 bytes
+-- `spare` blocks from `free` on are free, each block is either free once or in one text once, the blocks of the texts
+-- and the free ones are all blocks, and each block holds 64 bytes
 pub record IsSound (blocks : List Block) (free spare : ℕ) : Type 0 where
   pub owned : (j : ℕ) → visits blocks j free spare + taken blocks j (length blocks) ≡ (if nat_lt j (length blocks) then 1 else 0)
   pub total : blocks_in (texts_in blocks) + spare ≡ length blocks
   pub whole : (i : ℕ) → i < length blocks → length (bytes_at blocks i) ≡ 64
 
--- the first n blocks from this one on are there, no two of them are one, and each block holds 64 bytes
+-- the first n linked blocks from this one on exist and differ, and each holds 64 bytes
 pub record IsChain (blocks : List Block) (first n : ℕ) : Type 0 where
   pub once : (j : ℕ) → visits blocks j first n ≤ 1
   pub inside : (j : ℕ) → length blocks ≤ j → visits blocks j first n ≡ 0
   pub whole : (i : ℕ) → i < length blocks → length (bytes_at blocks i) ≡ 64
 
--- the new blocks are the old ones, but that a text was put into the blocks from `first` on
+-- the new blocks are the old ones, except that a text was put into the blocks from `first` on
 pub record IsPut (old new : List Block) (first : ℕ) (text : List ℕ) : Type 0 where
   pub size : length new ≡ length old
   pub begins : len_at new first ≡ Some (length text)
@@ -95,8 +95,7 @@ pub record IsPut (old new : List Block) (first : ℕ) (text : List ℕ) : Type 0
   pub others : (i : ℕ) → visits old i first (blocks_of (length text)) ≡ 0 → bytes_at new i ≡ bytes_at old i
   pub whole : (i : ℕ) → i < length new → length (bytes_at new i) ≡ 64
 
--- the new blocks are the old ones, but that no text begins in `first`, and the last of its n blocks
--- leads to `free`
+-- the new blocks are the old ones, except that no text begins in `first`, and the last of its n blocks links to `free`
 pub record IsFreed (old new : List Block) (first n free : ℕ) : Type 0 where
   pub size : length new ≡ length old
   pub ends : len_at new first ≡ None

@@ -1,4 +1,4 @@
--- What a contract sees of a pool.
+-- What contracts see of a pool.
 use Rattle.std.specs.Prelude.{◌≡◌, ◌≢◌, ℕ, ◌+◌, ◌/◌, max, List, length, sum_by, Option, IsSome, refl}
 use Rattle.std.specs.Option.{option_map_or}
 use Rattle.std.specs.Ordering.{nat_cmp}
@@ -9,12 +9,12 @@ use Rattle.std.specs.FinMap as map
 abbrev pub blocks_of : ℕ → ℕ
 blocks_of len = max 1 ((len + 63) / 64)
 
--- the text of each live ticket, under its number, and how many blocks are free
+-- the text of each live ticket, by its number, and the number of free blocks
 pub record Texts : Type 0 where
   pub texts : map.FinMap nat_cmp (List ℕ)
   pub spare : ℕ
 
--- it is stored as the pair of its fields
+-- a pool is coded as the pair of its fields
 abbrev pub texts_code : Coded Texts
 texts_code =
     code_by
@@ -28,11 +28,11 @@ texts_code =
 abbrev pub text_of : Texts → ℕ → Option (List ℕ)
 text_of pool ticket = map.get pool.texts ticket
 
--- the ticket is one of the pool's, and was not freed
+-- the ticket is one of the pool's, and wasn't freed
 abbrev pub IsLive : Texts → ℕ → Type 0
 IsLive pool ticket = IsSome (text_of pool ticket)
 
--- the ticket has this text now, or none, and every other ticket keeps what it had
+-- the ticket has this text now, or none, and every other ticket is unchanged
 pub record Updates (old new : Texts) (ticket : ℕ) (text : Option (List ℕ)) : Type 0 where
   pub changed : text_of new ticket ≡ text
   pub others : (other : ℕ) → other ≢ ticket → text_of new other ≡ text_of old other

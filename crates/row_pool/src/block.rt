@@ -3,21 +3,21 @@ ghost use Rattle.std.specs.Prelude.{◌≡◌, ℕ, ◌+◌, ◌-◌, ◌<◌, �
 ghost use Rattle.row_pool.specs.Pool.{blocks_of};
 ghost use Rattle.row_pool.specs.Layout.{bytes_at, next_at, len_at, after, visits, text_from, IsChain, IsPut, IsFreed};
 
-/// How many bytes a block holds.
+/// The bytes in a block.
 pub(crate) const BLOCK: usize = 64;
 
-/// A block, which is free or holds a part of a text.
+/// A block: free, or part of a text.
 #[derive(Clone, Copy)]
 pub(crate) struct Block {
     pub bytes: [u8; BLOCK],
-    /// The block that follows in its text or in the list of free blocks. It means nothing in the last one.
+    /// The next block of its text, or of the list of free blocks. Meaningless in the last one.
     pub next: usize,
     /// The length of the text that begins here, if one does.
     pub text_len: Option<usize>,
 }
 
 impl Block {
-    /// A free block that leads to another one.
+    /// A free block that links to `next`.
     pub fn free(next: usize) -> Self
         ensures len { length result.bytes ≡ 64 }
         ensures next { result.next ≡ next }
@@ -30,7 +30,7 @@ impl Block {
         }
     }
 
-    /// Writes a piece of a text over the first bytes.
+    /// Writes a piece of a text over the block's first bytes.
     pub fn fill(&mut self, piece: &[u8])
         requires { length piece.now ≤ 64 }
         ensures { self.new ≡ record self.old { bytes = piece.now ++ drop (length piece.now) self.old.bytes } }
@@ -38,7 +38,7 @@ impl Block {
         self.bytes[..piece.len()].copy_from_slice(piece);
     }
 
-    /// Copies the first bytes into a piece of a text.
+    /// Copies the block's first bytes into a piece of a text.
     pub fn copy_to(&self, piece: &mut [u8])
         requires { length piece.old ≤ 64 }
         ensures { piece.new ≡ take (length piece.old) self.now.bytes }
@@ -47,14 +47,14 @@ impl Block {
     }
 }
 
-/// The blocks that a text of this length takes.
+/// The number of blocks that a text of this length takes.
 pub(crate) fn blocks_for(len: usize) -> usize
     ensures { result ≡ blocks_of len }
 {
     len.div_ceil(BLOCK).max(1)
 }
 
-/// Puts a text into the blocks from `first` on, and answers the block after its last.
+/// Writes a text into the blocks from `first` on, with its length, and returns the block after its last.
 pub(crate) fn put_text(blocks: &mut [Block], first: usize, text: &[u8]) -> usize
     requires { IsChain blocks.old first (blocks_of (length text.now)) }
     ensures put { IsPut blocks.old blocks.new first text.now }
@@ -65,7 +65,7 @@ pub(crate) fn put_text(blocks: &mut [Block], first: usize, text: &[u8]) -> usize
     behind
 }
 
-// Writes a text into the blocks from `first` on, and answers the block after its last.
+// Writes a text into the blocks from `first` on, and returns the block after its last.
 fn write_text(blocks: &mut [Block], first: usize, text: &[u8]) -> usize
     requires { IsChain blocks.old first (blocks_of (length text.now)) }
     ensures stored { text_from blocks.new first (length text.now) ≡ text.now }
@@ -102,7 +102,7 @@ pub(crate) fn read_text(blocks: &[Block], first: usize, into: &mut [u8])
     }
 }
 
-/// Links the `count` blocks of the text that begins in `first` to the free ones, of which the first is `free`.
+/// Puts the `count` blocks of the text that begins in `first` at the head of the free list, which began at `free`.
 pub(crate) fn free_text(blocks: &mut [Block], first: usize, count: usize, free: usize)
     requires some { 0 < count }
     requires chain { IsChain blocks.old first count }
@@ -113,7 +113,7 @@ pub(crate) fn free_text(blocks: &mut [Block], first: usize, count: usize, free: 
     blocks[first].text_len = None;
 }
 
-// The last of the `count` blocks from `first` on.
+// The last of the `count` linked blocks from `first` on.
 fn last_of(blocks: &[Block], first: usize, count: usize) -> usize
     requires some { 0 < count }
     requires chain { IsChain blocks.now first count }

@@ -1,9 +1,9 @@
 //! A pool of 64-byte blocks that holds texts, each under a ticket.
 //!
-//! The blocks stand in one vector, which grows by at least 64 of them at once and moves what is
-//! stored no more often than a vector does. Each block names the one that follows it: in its text,
-//! or in the list of free blocks. So `put` and `free` find and give back blocks with no search and
-//! no memory, and each call costs what the blocks of its text cost.
+//! The blocks stand in one vector, which grows by at least 64 blocks at once, so that it moves what is stored no more
+//! often than a vector does. Each block links to the next one of its text, or of the free list. So `put` and `free`
+//! find and give back blocks without a search and without memory, and each call costs as much as the blocks of its
+//! text.
 #![tactic(auto)]
 
 mod block;

@@ -7,16 +7,16 @@ use crate::block::{Block, blocks_for, free_text, put_text, read_text};
 use std::alloc::{AllocError, Global};
 use std::marker::Model;
 
-/// A pool grows by at least so many blocks at once.
+/// The least number of blocks by which a pool grows.
 const CHUNK: u64 = 64;
 
-/// Texts in 64-byte blocks, each under the ticket that `put` answers.
+/// Texts in 64-byte blocks, each under the ticket that `put` returns for it.
 ///
 /// A text of `n` bytes takes `max(1, ceil(n / 64))` blocks. Only `reserve` takes memory.
 #[derive(Drop)]
 pub struct Pool {
     blocks: Vec<Block>,
-    // The first free block, where there is one.
+    // The first free block, if any.
     free: usize,
     // How many blocks are free.
     spare: u64,
@@ -39,8 +39,8 @@ impl Model for Pool {
 
 /// The right to one text of a pool.
 ///
-/// It is used with the pool that made it, where it is live from `put` to `free`. It can't be copied
-/// or let go: only `Pool::free` spends it.
+/// It works only with the pool that made it, and is live from `put` to `free`. It can't be copied or dropped: only
+/// `Pool::free` consumes it.
 pub struct Ticket {
     first: usize,
 }
@@ -54,7 +54,7 @@ impl Model for Ticket {
 }
 
 impl Pool {
-    /// A pool with no blocks. It takes memory from `alloc` in `reserve`.
+    /// An empty pool. `reserve` takes its memory from `alloc`.
     pub fn new(alloc: Global) -> Self
         ensures empty { result.texts ≡ map.empty }
         ensures used { used_blocks result ≡ 0 }
@@ -67,7 +67,7 @@ impl Pool {
         }
     }
 
-    /// Makes `spare` at least `n`. After an `Err`, which is out of memory, it may have grown all the same.
+    /// Makes `spare` at least `n`. It may have grown even if it fails, which means out of memory.
     pub fn reserve(&mut self, n: u64) -> Result<(), AllocError>
         ensures ok { OnOk result (n ≤ self.new.spare) }
         ensures enough { n ≤ self.old.spare → IsOk result }
@@ -85,7 +85,7 @@ impl Pool {
         Ok(())
     }
 
-    // One more free block.
+    // Adds one free block.
     fn add_block(&mut self) -> Result<(), AllocError>
         ensures ok { OnOk result (self.new.spare ≡ self.old.spare + 1) }
         ensures err { OnErr result (self.new ≡ self.old) }
@@ -119,7 +119,7 @@ impl Pool {
         self.text_len(ticket.first) as u64
     }
 
-    /// Copies a ticket's text into a slice of its length.
+    /// Copies a ticket's text into a slice of the same length.
     pub fn get(&self, ticket: &Ticket, into: &mut [u8])
         requires { option_map length (text_of self.now ticket.now) ≡ Some (length into.old) }
         ensures { text_of self.now ticket.now ≡ Some into.new }
@@ -127,7 +127,7 @@ impl Pool {
         read_text(&self.blocks, ticket.first, into);
     }
 
-    /// Spends a ticket, and gives its blocks back.
+    /// Consumes a ticket, and frees its blocks.
     pub fn free(&mut self, ticket: Ticket)
         requires { IsLive self.old ticket }
         ensures updates { Updates self.old self.new ticket None }
@@ -141,7 +141,7 @@ impl Pool {
         self.spare += count as u64;
     }
 
-    // The length of the text that begins in a block.
+    // The length of the text that begins in block `first`.
     fn text_len(&self, first: usize) -> usize
         requires { IsLive self.now first }
         ensures { option_map length (text_of self.now first) ≡ Some result }
@@ -152,14 +152,14 @@ impl Pool {
         }
     }
 
-    /// How many blocks the texts of the live tickets take.
+    /// The number of blocks that the texts of live tickets take.
     pub fn used(&self) -> u64
         ensures { result ≡ used_blocks self.now }
     {
         self.blocks.len() as u64 - self.spare
     }
 
-    /// How many blocks are free.
+    /// The number of free blocks.
     pub fn spare(&self) -> u64
         ensures { result ≡ self.now.spare }
     {

@@ -1,4 +1,4 @@
--- The latest line of each row: from the last line on they go into a set, which keeps the first that comes of each row.
+-- The latest line of each row: from the last line on they go into a set, which keeps the first one of each row.
 use Rattle.std.proofs.Common.{◌≡◌, ◌∙◌, List, [], ◌∷◌, ◌++◌, Bool, true, false, ◌||◌, cond, map, reverse, if◌then◌else◌, refl, sym, ap, ap₂}
 use Rattle.std.proofs.Math.Bool.{or_comm}
 use Rattle.std.proofs.lemmas.List.{reverse-append}
@@ -70,7 +70,7 @@ latest-newest (a ∷ later) =
     by true rest = rest
     by false rest = ap (map shown_of) (reverse-append (newest later) (a ∷ [])) ∙ ap (λ ss. shown_of a ∷ ss) rest
 
--- the set, turned round, has the latest line of each row
+-- the set, reversed, has the latest line of each row
 pub latest-gathered : (lines : List Line) → map shown_of (reverse (insert_all is_same_line [] (reverse lines))) ≡ latest_of (map shown_of lines)
 unfolding newest
 latest-gathered lines = latest-newest lines

@@ -1,4 +1,4 @@
--- What partitions show, one partition later, and the order in which changes stand.
+-- What partitions show, partition by partition, and the order of their changes.
 use Rattle.std.proofs.Common.{subst, Bool, true, false, cond, ◌≡◌, ◌∙◌, ap, refl, sym, ℕ, zero, suc, ◌+◌, add-one, add-zero, List, [], ◌∷◌, ◌++◌, ◌<◌, arith, get_or, length, map}
 use Rattle.std.specs.Prelude.{count_by, filter, flat_map, is_some, option_map, slice_get, unwrap_or, ◌&&◌, ◌==◌, All, Option, None, Some}
 use Rattle.std.specs.Option.{IsSomeAnd}
@@ -27,7 +27,7 @@ use Rattle.ksql_place.proofs.Ascending.{IsPermutation-ascending, filter-ascendin
 use Rattle.ksql_place.proofs.Orders.{place_total}
 use Rattle.ksql_program.specs.Program.{relation_of, relations}
 use Rattle.ksql_program.specs.declared.program.Item.{Item}
-use Rattle.query_meaning.specs.Plain.{rows_said}
+use Rattle.query_meaning.specs.Parts.{rows_said}
 use Rattle.topic_log.specs.Entries.{entries_of}
 use Rattle.topic_log.specs.Shelves.{topics_of}
 use Rattle.topic_log.specs.declared.shelves.Shelves.{Shelves}
@@ -69,7 +69,7 @@ spec-at : (o : Option TopicSpec) (n : ℕ) → IsSomeAnd o (λ t. t.partitions �
 spec-at None n has = absurd has
 spec-at (Some t) n has = has
 
--- a relation's topic is one of the broker's, with as many partitions
+-- a relation's topic is one of the broker's, with the same number of partitions
 pub topic-inside : (s : Shelves) (r : Relation) → HasTopicOf s r → r.number < length (topics_of s)
 topic-inside s r has = by (slice_get (topics_of s) r.number) refl has
   where
@@ -101,14 +101,14 @@ alike-joined f g xs ys same = sym (flat_map-map (λ cs. cs) f xs) ∙ ap (flat_m
 
 -- ---- how many records there are of a kind
 
--- as many in any order
+-- the same number in any order
 pub count-ascending : {A : Type 0} {cmp : A → A → Ordering} (total : IsTotalOrder cmp) (p : A → Bool) (xs : List A) → count_by p (ascending cmp xs) ≡ count_by p xs
 count-ascending {cmp = cmp} total p xs =
     sym (length-filter p (ascending cmp xs)) ∙ ap length (filter-ascending total p xs)
     ∙ length_permutation (filter p xs) (ascending cmp (filter p xs)) (IsPermutation-ascending total (filter p xs))
     ∙ length-filter p xs
 
--- those that bring a stream a row are as many as its rows
+-- as many records bring a row to a stream as it has rows
 pub rows-counted : (number : ℕ) (order : List SourceRecord) → length (rows_said number order) ≡ count_by (brings_row number) order
 rows-counted number = is_count_by (λ order. length (rows_said number order)) (brings_row number) refl (λ r rest. one r.stamp r.time r.key r.value rest (r.stamp.topic == number))
   where

@@ -23,8 +23,8 @@ use Rattle.ksql_nodes.specs.Entries.{Entry, Row, from_side, is_same_key, of_key,
 use Rattle.ksql_nodes.specs.Nodes.{gives}
 use Rattle.ksql_nodes.specs.Rows.{turned, with_body}
 use Rattle.ksql_nodes.proofs.Results.{entry, results-more}
-use Rattle.query_meaning.specs.Plain.{changes_by, said_to}
-use Rattle.query_meaning.proofs.ChangeByChange.{changed-from-side}
+use Rattle.query_meaning.specs.Parts.{changes_by, said_to}
+use Rattle.query_meaning.proofs.QuerySteps.{changed-from-side}
 use Rattle.run_text.specs.Printed.{Shown}
 use Rattle.run_text.specs.Report.{cell_cmp}
 use Rattle.run_text.specs.Lines.{row_brought}
@@ -75,7 +75,7 @@ saying-table stamp time (k ∷ ks) (Good row) = refl
 saying-table stamp time (k ∷ ks) Tombstone = refl
 saying-table stamp time (k ∷ ks) Skipped = refl
 
--- a record that says a row, or that there is none, brings it
+-- a record that says a row, or its absence, brings it
 pub row_brought-said : (kind : Kind) (key : List Value) (value : Decoded) (row : Option Row) →
     Some row ≡ option_map row_in (said_by kind key value) → row_brought value ≡ row
 row_brought-said Stream key (Good r) row is = cc
@@ -110,7 +110,7 @@ changes_by-results : (number : ℕ) (order : List SourceRecord) →
     changes_by Table number order ≡ results (gives 1 (node.Table number)) [] (from_side 0 (said_to Table number order))
 changes_by-results number order = changed-from-side (results (gives 1 (node.Table number)) [] (from_side 0 (said_to Table number order)))
 
--- the entries of what is said, where a record says one thing more
+-- the entries of what is said, after one more record
 pub entries-more : (number : ℕ) (before : List SourceRecord) (x : SourceRecord) (c : Change) → said_to Table number (x ∷ []) ≡ c ∷ [] →
     from_side 0 (said_to Table number (before ++ x ∷ [])) ≡ from_side 0 (said_to Table number before) ++ entry c ∷ []
 entries-more number before x c one =
@@ -201,7 +201,7 @@ row_keys-more number before x row old new key stays one is_key is_stays so_far t
     ∙ ap₂ (λ (b s : Bool). cond b s had) same is_stays
     ∙ sym (has_row-more number before x row q.cells.now one)
 
--- a row that is lent is there where the row is
+-- a borrowed row is present if the row is
 pub is_some-lent : {A B : Type 0} (f : A → B) (o : Option A) → is_some (option_map f o) ≡ is_some o
 is_some-lent f None = refl
 is_some-lent f (Some x) = refl

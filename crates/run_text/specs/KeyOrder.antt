@@ -1,4 +1,4 @@
--- The order of values is total, and so is that of keys, through whatever they are read.
+-- The order of values is total, and so is that of keys, whichever way they are read.
 use Rattle.std.specs.Prelude.{◌≡◌, ℕ, ℤ, pos, List, [], Bool, false, refl}
 use Rattle.std.proofs.Common.{subst}
 use Rattle.std.specs.Cmp.{IsTotalOrder, bool_cmp_total, int_cmp_total, nat_cmp_total, on_total, then_total}
@@ -10,7 +10,7 @@ use Rattle.ksql_types.specs.declared.value.Value.{Value}
 use Rattle.ksql_types.specs.declared.value.Value.TheVariants.{Null, Int, Big, Txt, Bool as Truth}
 use Rattle.run_text.specs.Report.{cell_cmp, rank}
 
--- the number, the text and the truth of a value, of which one counts
+-- the number, the text and the truth of a value, one of which counts
 abbrev number_of : Value → ℤ
 number_of (Int n) = n
 number_of (Big n) = n

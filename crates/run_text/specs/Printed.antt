@@ -1,4 +1,4 @@
--- The lines of a report on records and changes. `print` gives the text of a row.
+-- The lines of a report about records and changes. `print` gives the text of a row.
 use Rattle.std.specs.Prelude.{◌≡◌, ℕ, List, [], ◌∷◌, ◌++◌, map, codes, decimal, string_bytes, String, Option, Some, None}
 use Rattle.ksql_types.specs.declared.value.Value.{Value}
 use Rattle.ksql_types.specs.declared.relation.Span.{Span}
@@ -8,7 +8,7 @@ use Rattle.ksql_place.specs.declared.change.SourceRecord.{SourceRecord}
 use Rattle.topic_files.specs.Printed.{comma_joined, printed}
 use Rattle.topic_log.specs.Views.{EachAt}
 
--- values with commas between
+-- values separated by commas
 unfoldable pub cells_text : List Value → List ℕ
 cells_text cells = comma_joined (map printed cells)
 
@@ -18,18 +18,17 @@ key_text [] = codes "null"
 key_text (cell ∷ []) = printed cell
 key_text (first ∷ second ∷ cells) = codes "[" ++ (cells_text (first ∷ second ∷ cells) ++ codes "]")
 
--- the window of a change, where it has one
+-- the window of a change, if it has one
 unfoldable pub span_text : Option Span → List ℕ
 span_text None = []
 span_text (Some span) = codes ",\"w\":[" ++ (decimal span.start ++ (codes "," ++ (decimal span.end ++ codes "]")))
 
--- a row, or null where there is none any more
+-- a row, or null if it is gone
 unfoldable pub row_text : (List Value → List ℕ) → Option (List Value) → List ℕ
 row_text print None = codes "null"
 row_text print (Some row) = print row
 
--- What is shown of a change: the partition in which it stands, its time, its key and window, and the row that it leaves, where
--- there is one.
+-- What is shown of a change: its partition, its time, its key and window, and the row that it leaves, if any.
 pub record Shown : Type 0 where
   pub part : ℕ
   pub time : ℕ
@@ -37,7 +36,7 @@ pub record Shown : Type 0 where
   pub span : Option Span
   pub row : Option (List Value)
 
--- what is shown of a change that stands in a partition
+-- what is shown of a change in a partition
 abbrev pub shown_in : ℕ → Change → Shown
 shown_in part c = record { part = part; time = c.time; key = c.key; span = c.span; row = row_in c.body }
 
@@ -62,7 +61,7 @@ AreStarts starts = EachAt (λ part start. string_bytes start ≡ start_text part
 unfoldable pub change_line : (List Value → List ℕ) → Shown → List ℕ
 change_line print shown = codes "{\"p\":" ++ (decimal shown.part ++ (codes ",\"t\":" ++ fields_text print shown))
 
--- the line of a row that a table has
+-- the line of a row of a table
 unfoldable pub row_line : (List Value → List ℕ) → Shown → List ℕ
 row_line print shown = codes "row {\"t\":" ++ fields_text print shown
 

@@ -1,5 +1,5 @@
 -- The report on the relations of a program, and its summary.
-use Rattle.std.specs.Prelude.{ℕ, ◌≤◌, List, [], ◌∷◌, ◌++◌, length, map, filter, flat_map, count_by, codes, decimal, Bool, true, false, ◌&&◌, if◌then◌else◌, Option, None, Some, slice_get, slice_index_or, is_some}
+use Rattle.std.specs.Prelude.{ℕ, ◌≤◌, List, [], ◌∷◌, ◌++◌, length, map, filter, flat_map, count_by, codes, decimal, Bool, true, false, ◌&&◌, if◌then◌else◌, Option, None, Some, slice_get, is_some}
 use Rattle.std.specs.List.{list_any}
 use Rattle.std.specs.Option.{option_cmp, option_map_or}
 use Rattle.std.specs.Cmp.Lexicographic.{slice_cmp}
@@ -16,23 +16,20 @@ use Rattle.ksql_place.specs.Ascending.{ascending}
 use Rattle.ksql_place.specs.Said.{is_skipped}
 use Rattle.ksql_place.specs.declared.change.Change.{Change}
 use Rattle.ksql_place.specs.declared.change.SourceRecord.{SourceRecord}
-use Rattle.ksql_program.specs.declared.program.Item.{Item}
-use Rattle.ksql_program.specs.Program.{relations}
 use Rattle.ksql_nodes.specs.Entries.{is_same_key}
 use Rattle.ksql_nodes.specs.Windows.{is_same_span}
-use Rattle.query_meaning.specs.Meaning.{partition_of, up_to}
-use Rattle.query_meaning.specs.Queries.{changes_at}
+use Rattle.query_meaning.specs.Meaning.{partition_of}
 use Rattle.topic_files.specs.Printed.{value_text}
 use Rattle.run_text.specs.Printed.{change_line, order_line, row_line, shown_in, Shown}
 
--- a relation whose report can be written: of 1 to 64 partitions
+-- a relation whose report can be written: it has 1 to 64 partitions
 pub record IsPrintable (relation : Relation) : Type 0 where
   pub some : 1 ≤ relation.partitions
   pub few : relation.partitions ≤ 64
 
 -- ---- what is shown of a relation
 
--- up to which feed a relation is shown, how many of its records were skipped, and its changes
+-- the feed up to which a relation is shown, how many of its records were skipped, and its changes
 pub record Section : Type 0 where
   pub relation : Relation
   pub closed : ℕ
@@ -43,22 +40,13 @@ pub record Section : Type 0 where
 abbrev pub skipped_of : Relation → List SourceRecord → ℕ
 skipped_of relation order = count_by (is_skipped relation) order
 
--- what is shown of a relation up to a feed, from the records up to there and from its changes as they stand in partitions
+-- what is shown of a relation up to a feed, given the records up to there and its changes in their partitions
 unfoldable pub section_of : ℕ → Relation → List SourceRecord → List Shown → Section
 section_of closed relation order shown = record { relation = relation; closed = closed; skipped = skipped_of relation order; shown = shown }
 
 -- the changes that a relation means, each in the partition of its key's lane, or without a key in that of its record
 abbrev pub meant : Relation → List Change → List Shown
 meant relation changes = map (λ c. shown_in (partition_of relation c) c) changes
-
--- the feed up to which the relation of this number is shown
-abbrev pub closed_at : List ℕ → ℕ → ℕ
-closed_at closed number = slice_index_or closed number 0
-
--- what is shown of each relation of a program, each up to its own feed, where these are their changes up to there
-unfoldable pub sections : List ℕ → List Item → List SourceRecord → List (List Change) → List Section
-sections closed items order lists =
-    map (λ r. section_of (closed_at closed r.number) r (up_to (closed_at closed r.number) order) (meant r (changes_at lists r.number))) (relations items)
 
 -- ---- the rows of a table
 
@@ -77,7 +65,7 @@ abbrev pub latest_of : List Shown → List Shown
 latest_of [] = []
 latest_of (a ∷ later) = if list_any (is_same_row a) later then latest_of later else a ∷ latest_of later
 
--- where a value's type stands among the types
+-- the rank of a value's type among the types
 abbrev pub rank : Value → ℕ
 rank Null = 0
 rank (Int n) = 1
@@ -85,15 +73,15 @@ rank (Big n) = 2
 rank (Txt bytes) = 3
 rank (Truth b) = 4
 
--- values are compared by their types, and those of one type as in keys
+-- values compare by type, and those of the same type as in keys
 abbrev pub cell_cmp : Value → Value → Ordering
 cell_cmp a b = ordering_then (nat_cmp (rank a) (rank b)) (value_cmp a b)
 
--- windows are compared by start, and then by end
+-- windows compare by start, then by end
 abbrev pub span_cmp : Span → Span → Ordering
 span_cmp a b = ordering_then (nat_cmp a.start b.start) (nat_cmp a.end b.end)
 
--- rows are compared by key, and then by window, of which none is before any
+-- rows compare by key, then by window; no window comes first
 abbrev pub row_cmp : Shown → Shown → Ordering
 row_cmp a b = ordering_then (slice_cmp cell_cmp a.key b.key) (option_cmp span_cmp a.span b.span)
 
@@ -108,18 +96,18 @@ table_rows _ shown = rows_of shown
 
 -- ---- the text
 
--- what a relation is, in a word
+-- the kind of a relation, in a word
 abbrev pub kind_text : Kind → List ℕ
 kind_text kinds.Stream = codes "stream"
 kind_text kinds.Table = codes "table"
 kind_text kinds.Windowed = codes "windowed"
 
--- where a relation comes from, its last feed shown and, of a declared one, how many records were skipped
+-- where a relation comes from, its last feed shown and, if it is declared, how many records were skipped
 unfoldable pub origin_text : Bool → ℕ → ℕ → List ℕ
 origin_text true closed skipped = codes " declared c=" ++ (decimal closed ++ (codes " skipped=" ++ decimal skipped))
 origin_text false closed skipped = codes " query c=" ++ decimal closed
 
--- how many rows there are, of a table alone
+-- the number of rows, for a table alone
 unfoldable pub count_text : Kind → List Shown → List ℕ
 count_text kinds.Stream rows = []
 count_text _ rows = codes " rows=" ++ decimal (length rows)
@@ -131,7 +119,7 @@ head_line s =
     ++ (origin_text s.relation.declared s.closed s.skipped
     ++ (codes " changes=" ++ (decimal (length s.shown) ++ (count_text s.relation.kind (rows_of s.shown) ++ codes "\n"))))))
 
--- the lines of the rows, of a table alone
+-- the lines of the rows, for a table alone
 unfoldable pub row_lines : Section → List ℕ
 row_lines s = flat_map (row_line (value_text s.relation)) (table_rows s.relation.kind s.shown)
 
@@ -139,7 +127,7 @@ row_lines s = flat_map (row_line (value_text s.relation)) (table_rows s.relation
 unfoldable pub section_text : Section → List ℕ
 section_text s = head_line s ++ (flat_map (change_line (value_text s.relation)) s.shown ++ row_lines s)
 
--- the topic's name of the relation with this number
+-- the name of the topic of the relation with this number
 abbrev pub topic_name : List Relation → ℕ → List ℕ
 topic_name relations number = option_map_or (λ relation. relation.topic) (slice_get relations number) []
 
@@ -159,15 +147,15 @@ report relations order sections trace =
 
 -- ---- the summary
 
--- the lines of a section's rows that a summary has: those of a table without windows
+-- the lines of a section's rows in a summary: those of a table without windows
 abbrev pub summary_rows : Kind → Section → List ℕ
 summary_rows kinds.Table s = row_lines s
 summary_rows _ s = []
 
--- a relation's head line and, of a table without windows, the lines of its rows
+-- a relation's head line and, for a table without windows, the lines of its rows
 unfoldable pub summary_text : Section → List ℕ
 summary_text s = head_line s ++ summary_rows s.relation.kind s
 
--- the summary: what it has of each section, and the last line
+-- the summary: that of each section, and the last line
 unfoldable pub summary : List Section → List ℕ
 summary sections = flat_map summary_text sections ++ codes "end\n"

@@ -1,5 +1,5 @@
--- What keys and lines feed a hasher: a key its values, a line also the start of its window. Keys that are equal feed it alike, and
--- so do lines of one row.
+-- What keys and lines feed to a hasher: a key its values, a line also the start of its window. Equal keys feed it
+-- alike, and so do lines of the same row.
 use Rattle.std.proofs.Common.{◌≡◌, ap, ap₂, true}
 use Rattle.std.specs.Prelude.{List, [], ◌∷◌, ◌++◌, flat_map, Option, Some, None}
 use Rattle.std.specs.Hash as fed

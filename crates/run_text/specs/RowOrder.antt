@@ -1,4 +1,4 @@
--- The order of rows is total, and lines tie where they are of the same row.
+-- The order of rows is total, and lines tie if they are of the same row.
 use Rattle.std.proofs.Common.{◌≡◌, ◌∙◌, ◌&&◌, List, ap, ap₂, refl, sym, true, false, true≢false}
 use Rattle.std.specs.Prelude.{◌==◌, Option, Some, None}
 use Rattle.std.proofs.lemmas.Bool.{and_parts}
@@ -43,7 +43,7 @@ window-ties None None = refl
 window-ties (Some a) (Some b) = span-ties a b
 window-ties _ _ = refl
 
--- keys tie where they are the same
+-- keys tie if they are the same
 pub key-ties : (a b : List Value) → is_same_key a b ≡ is_eq (slice_cmp cell_cmp a b)
 unfolding is_same_key
 key-ties a b = lists_ties cell_cmp cell-ties a b
@@ -52,7 +52,7 @@ key-ties a b = lists_ties cell_cmp cell-ties a b
 pub key-same : (a b : List Value) → is_eq (slice_cmp cell_cmp a b) ≡ true → a ≡ b
 key-same a b tie = (key-decides a b).0 (key-ties a b ∙ tie)
 
--- changes tie where they are of the same row
+-- changes tie if they are of the same row
 pub row-ties : (a b : Shown) → is_same_row a b ≡ is_eq (row_cmp a b)
 row-ties a b =
     ap₂ (λ s t. s && t) (key-ties a.key b.key) (window-ties a.span b.span)

@@ -1,4 +1,4 @@
--- The report as a broker shows it, whatever that is: made from what its topics show, without the queries.
+-- The report on what a broker shows, whatever that is: from the content of its topics, without the queries.
 use Rattle.std.specs.Prelude.{◌≡◌, ℕ, List, [], ◌∷◌, map, flat_map, slice_get}
 use Rattle.std.specs.List.{range_with_len}
 use Rattle.std.specs.Option.{IsSomeAnd}
@@ -38,7 +38,7 @@ entries_at b r q = (shelf_of b).shown r.number q
 
 -- ---- declared relations
 
--- the records of a declared relation's topic, one partition after another
+-- the records of a declared relation's topic, partition by partition
 abbrev pub records_by_part : Shelves → Relation → List SourceRecord
 records_by_part b r = flat_map (λ q. records_in (entries_at b r q)) (range_with_len 0 r.partitions)
 
@@ -46,7 +46,7 @@ records_by_part b r = flat_map (λ q. records_in (entries_at b r q)) (range_with
 abbrev pub records_shown : Shelves → Relation → List SourceRecord
 records_shown b r = ascending record_cmp (records_by_part b r)
 
--- its changes, each in the partition in which its record stands
+-- its changes, each in its record's partition
 abbrev pub declared_shown : Shelves → Relation → List Shown
 declared_shown b r = map (λ c. shown_in c.place.stamp.part c) (declared_changes r (records_shown b r))
 
@@ -60,7 +60,7 @@ order_shown b items = ascending record_cmp (flat_map (declared_records b) items)
 
 -- ---- queries
 
--- a change, and the partition in which it stands
+-- a change and its partition
 pub record Standing : Type 0 where
   pub part : ℕ
   pub change : Change
@@ -91,6 +91,6 @@ shown_report items b trace = report (relations items) (order_shown b items) (map
 unfoldable pub shown_summary : List Item → Shelves → List ℕ
 shown_summary items b = summary (map (section_shown b) items)
 
--- a broker has the topic of each relation, with as many partitions
+-- a broker has the topic of each relation, with the same number of partitions
 abbrev pub HasTopicOf : Shelves → Relation → Type 0
 HasTopicOf b r = IsSomeAnd (slice_get (topics_of b) r.number) (λ t. t.partitions ≡ r.partitions)

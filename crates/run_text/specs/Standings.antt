@@ -1,4 +1,4 @@
--- Records and changes that are lent.
+-- Borrowed records and changes.
 use Rattle.std.specs.Borrow.{Bor}
 use Rattle.std.specs.Global.{Vec}
 use Rattle.std.specs.Prelude.{ℕ, List, map, Bool, ◌&&◌, ◌==◌, is_some}
@@ -9,18 +9,18 @@ use Rattle.ksql_place.specs.declared.change.SourceRecord.{SourceRecord}
 use Rattle.run_text.specs.Shown.{Standing}
 use Rattle.run_text.specs.declared.visible.LentChange.{LentChange}
 
--- records that are lent
+-- borrowed records
 abbrev pub records_lent : Vec (Bor SourceRecord) → List SourceRecord
 records_lent records = map (λ r. r.now) records.items
 
--- a change that is lent, as it stands in its partition
+-- a borrowed change, in its partition
 abbrev pub standing_of : LentChange → Standing
 standing_of lent = record { part = lent.part; change = lent.change.now }
 
--- changes that stand in one partition
+-- changes of one partition
 abbrev pub standing_in : ℕ → List Change → List Standing
 standing_in part changes = map (λ c. record { part = part; change = c }) changes
 
--- whether a record brings the stream of this topic a row
+-- whether a record brings a row to the stream of this topic
 abbrev pub brings_row : ℕ → SourceRecord → Bool
 brings_row number r = r.stamp.topic == number && is_some (said_by Stream r.key r.value)

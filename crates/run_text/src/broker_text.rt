@@ -1,4 +1,4 @@
-//! The report of a program as a broker shows it, and its summary.
+//! The report and the summary of a program, from what a broker shows.
 
 ghost use Rattle.std.specs.Prelude.{◌≡◌, ◌++◌, [], All, IfOk, OnOk, count_by, flat_map, map, string_bytes};
 ghost use Rattle.std.specs.List.{range_with_len};
@@ -15,7 +15,7 @@ ghost use Rattle.run_text.specs.Shown.{declared_records, order_shown, query_show
 ghost use Rattle.run_text.specs.Standings.{brings_row, records_lent, standing_of};
 
 use crate::declared::declared_lines;
-use crate::program_report::push_order;
+use crate::order::push_order;
 use crate::section::{Extent, push_head, push_section};
 use crate::visible::{LentChange, by_place, by_stamp, push_changes, push_records, standing_lines};
 use ksql_place::{SourceRecord, is_skipped, said_by};
@@ -24,10 +24,9 @@ use ksql_types::{Kind, Relation};
 use std::alloc::{AllocError, Global};
 use topic_log::Broker;
 
-/// The report of a program as a broker shows it, whatever that is: the records of its declared relations in their order,
-/// a head line and the changes of each relation and, of a table, its rows, the trace, and a last line. The broker has the
-/// topic of each relation. What it shows is lent, not copied. Takes of the order of n log n steps for n entries, where few
-/// rows share a hash.
+/// The report of a program, from what a broker shows: the records of its declared relations in order, a head line and
+/// the changes of each relation and, for a table, its rows, the trace, and a last line. The broker has the topic of
+/// each relation. Borrows what the broker shows. Takes O(n log n) steps for n entries if few rows share a hash.
 #[tactic(auto, using(crate::proofs::ReportLemmas::appends), unfolding(crate::specs::Report::report, crate::specs::Shown::shown_report))]
 pub fn broker_report(
     alloc: Global,
@@ -49,9 +48,9 @@ pub fn broker_report(
     Ok(out)
 }
 
-/// The summary of a program as a broker shows it: a head line of each relation and, of a table without windows, its rows,
-/// and a last line. The broker has the topic of each relation. Takes of the order of n log n steps for n entries, where
-/// few rows share a hash.
+/// The summary of a program, from what a broker shows: a head line of each relation and, for a table without windows,
+/// its rows, and a last line. The broker has the topic of each relation. Takes O(n log n) steps for n entries if few
+/// rows share a hash.
 #[tactic(auto, unfolding(crate::specs::Report::summary, crate::specs::Shown::shown_summary))]
 pub fn broker_summary(
     alloc: Global,
@@ -70,7 +69,7 @@ pub fn broker_summary(
     Ok(out)
 }
 
-/// Appends what a summary has of an item.
+/// Appends the summary of an item.
 fn push_item_summary(
     out: &mut String,
     alloc: Global,
@@ -96,7 +95,7 @@ fn push_item_summary(
     }
 }
 
-/// Appends what a summary has of a declared stream. Its records are counted, and needn't be sorted.
+/// Appends the summary of a declared stream. Its records are counted, and needn't be sorted.
 fn push_stream_summary(
     out: &mut String,
     alloc: Global,
@@ -115,7 +114,7 @@ fn push_stream_summary(
     push_head(out, relation, closed, skipped, changes, 0)
 }
 
-/// Appends what is shown of each item. These are the records of the topic of each.
+/// Appends what is shown of each item, given the records of each item's topic.
 fn push_sections(
     out: &mut String,
     alloc: Global,
@@ -135,7 +134,7 @@ fn push_sections(
     Ok(())
 }
 
-/// Appends what is shown of an item. These are the records of its topic.
+/// Appends what is shown of an item, given the records of its topic.
 fn push_item_section(
     out: &mut String,
     alloc: Global,
@@ -156,7 +155,7 @@ fn push_item_section(
     }
 }
 
-/// Appends what is shown of a declared relation, to this extent. These are the records of its topic.
+/// Appends what is shown of a declared relation, to this extent, given the records of its topic.
 fn push_declared_section(
     out: &mut String,
     alloc: Global,
@@ -203,7 +202,7 @@ fn push_query_section(
     push_section(out, alloc, extent, relation, closed, 0, lines.as_slice())
 }
 
-/// How many of some records are skipped ones of a relation's topic.
+/// The number of these records in the relation's topic that it skips.
 fn skipped_among(relation: &Relation, records: &[&SourceRecord]) -> usize
     ensures { result ≡ skipped_of relation.now (map (λ r. r.now) records.now) }
 {
@@ -213,28 +212,28 @@ fn skipped_among(relation: &Relation, records: &[&SourceRecord]) -> usize
         .count()
 }
 
-/// How many of some records bring the stream of this topic a row.
+/// The number of these records that bring a row to the stream of this topic.
 fn rows_among(number: u32, records: &[&SourceRecord]) -> usize
     ensures { result ≡ count_by (brings_row number) (map (λ r. r.now) records.now) }
 {
     records.iter().filter(|fed| brings_row(number, fed)).count()
 }
 
-/// Whether a record brings the stream of this topic a row.
+/// Whether a record brings a row to the stream of this topic.
 fn brings_row(number: u32, fed: &SourceRecord) -> bool
     ensures { result ≡ brings_row number fed.now }
 {
     fed.stamp.topic == number && said_by(Kind::Stream, &fed.key, &fed.value).is_some()
 }
 
-/// The records of the topics of some items, by their stamps: those of each item, and all in the order of consumption.
+/// The records of some items' topics, by their stamps: for each item, and all together in the order of consumption.
 #[derive(Drop)]
 struct Consumption<'a> {
     of_items: Vec<Vec<&'a SourceRecord>>,
     order: Vec<&'a SourceRecord>,
 }
 
-/// What these items consume of their topics.
+/// What these items consume from their topics.
 fn consumption_of<'a>(
     alloc: Global,
     broker: &'a Broker,
@@ -263,7 +262,7 @@ fn order_of<'a>(
     by_stamp(order)
 }
 
-/// The records of the topic of each item that is declared, by their stamps, and none of a query.
+/// For each item, the records of its topic by their stamps, if it is declared, and none if it is a query.
 fn records_of_items<'a>(
     alloc: Global,
     broker: &'a Broker,
@@ -279,7 +278,7 @@ fn records_of_items<'a>(
     Ok(records)
 }
 
-/// The records of an item's topic, by their stamps, where it is declared.
+/// The records of an item's topic by their stamps, if the item is declared.
 fn records_of<'a>(
     alloc: Global,
     broker: &'a Broker,
@@ -306,7 +305,7 @@ fn records_shown<'a>(
     by_stamp(records_by_part(alloc, broker, relation)?)
 }
 
-/// The records of a declared relation's topic, one partition after another.
+/// The records of a declared relation's topic, partition by partition.
 fn records_by_part<'a>(
     alloc: Global,
     broker: &'a Broker,

@@ -1,10 +1,10 @@
-//! The lines of the changes of declared relations, each in the partition in which its record stands.
+//! The lines of the changes of declared relations, each in its record's partition.
 
 ghost use Rattle.std.specs.Prelude.{◌≡◌, ◌∷◌, ◌++◌, [], IfOk, List, OnOk, map};
 ghost use Rattle.ksql_types.specs.declared.relation.Kind.TheVariants as kind;
 ghost use Rattle.ksql_place.specs.declared.change.SourceRecord.{SourceRecord as OneRecord};
 ghost use Rattle.query_meaning.specs.Meaning.{declared_changes};
-ghost use Rattle.query_meaning.specs.Plain.{changes_by, rows_said};
+ghost use Rattle.query_meaning.specs.Parts.{changes_by, rows_said};
 ghost use Rattle.run_text.specs.Lines.{shown_of};
 ghost use Rattle.run_text.specs.RowKeys.{as_fed, AreTableLines};
 
@@ -22,7 +22,7 @@ struct TableLines<'a> {
     rows: RowKeys<'a>,
 }
 
-/// The lines of the changes of a declared relation on these records. Takes of the order of n log n steps.
+/// The lines of a declared relation's changes on these records. Takes O(n log n) steps.
 pub fn declared_lines<'a>(
     alloc: Global,
     relation: &Relation,
@@ -38,7 +38,7 @@ pub fn declared_lines<'a>(
     }
 }
 
-/// The lines of the rows that these records bring a stream.
+/// The lines of the rows that these records bring to a stream.
 fn stream_lines<'a>(
     alloc: Global,
     number: u32,
@@ -53,7 +53,7 @@ fn stream_lines<'a>(
     Ok(lines)
 }
 
-/// Adds the line of the row that a record brings the stream of this topic.
+/// Appends the line of the row that a record brings to the stream of this topic.
 fn push_row<'a>(
     lines: &mut Vec<Line<'a>>,
     number: u32,
@@ -74,7 +74,7 @@ fn push_row<'a>(
     }
 }
 
-/// The lines of the changes that these records make of a table.
+/// The lines of the changes that these records make to a table.
 fn table_lines<'a>(
     alloc: Global,
     number: u32,
@@ -94,8 +94,8 @@ fn table_lines<'a>(
 }
 
 impl<'a> TableLines<'a> {
-    /// Adds the line of what a record says to the table of this topic, where it is a change: that a key has no row is one
-    /// only where it had one.
+    /// Appends the line of what a record says to the table of this topic, if it is a change: a tombstone is one only if
+    /// its key had a row.
     fn push(&mut self, number: u32, fed: &'a SourceRecord) -> Result<(), AllocError>
         ensures { (before : List OneRecord) → AreTableLines number before self.old
             → OnOk result (AreTableLines number (before ++ fed.now ∷ []) self.new) }

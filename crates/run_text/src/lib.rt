@@ -4,8 +4,8 @@
 mod broker_text;
 mod declared;
 mod line;
+mod order;
 mod printed;
-mod program_report;
 mod row_keys;
 mod row_lines;
 mod rows;
@@ -13,4 +13,6 @@ mod section;
 mod visible;
 
 pub use broker_text::{broker_report, broker_summary};
-pub use program_report::report;
+pub use line::{Line, Told};
+pub use order::push_order;
+pub use section::{Extent, push_section};

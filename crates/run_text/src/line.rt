@@ -8,14 +8,14 @@ ghost use Rattle.run_text.specs.Printed.{shown_in};
 use ksql_place::{Body, Change, Decoded, SourceRecord};
 use ksql_types::{Span, Value};
 
-/// A line of a relation's section: the partition in which a change stands, and the change.
+/// A line of a relation's section: a change, and its partition.
 #[derive(Clone, Copy, Drop)]
 pub struct Line<'a> {
     pub part: u32,
     pub told: Told<'a>,
 }
 
-/// A change that a line tells of, lent, or the record that brings one.
+/// The change on a line, borrowed, or the record that brings it.
 #[derive(Clone, Copy, Drop)]
 pub enum Told<'a> {
     Change(&'a Change),
@@ -65,7 +65,7 @@ impl<'a> Told<'a> {
         }
     }
 
-    /// Its window, where it has one.
+    /// Its window, if any.
     pub fn span(self) -> Option<Span>
         ensures { result ≡ span_of self.entry }
     {
@@ -75,7 +75,7 @@ impl<'a> Told<'a> {
         }
     }
 
-    /// The row that it leaves, where there is one.
+    /// The row that it leaves, if any.
     pub fn row(self) -> Option<&'a [Value]>
         ensures { option_map (λ row. row.now) result ≡ row_of self.entry }
     {
@@ -93,7 +93,7 @@ impl<'a> Told<'a> {
     }
 }
 
-/// The row that a change brings, where there is one.
+/// The row that a change brings, if any.
 fn row_in(body: &Body) -> Option<&[Value]>
     ensures { option_map (λ row. row.now) result ≡ row_in body.now }
 {
@@ -104,7 +104,7 @@ fn row_in(body: &Body) -> Option<&[Value]>
     }
 }
 
-/// The row that a record brings, where there is one.
+/// The row that a record brings, if any.
 fn row_brought(value: &Decoded) -> Option<&[Value]>
     ensures { option_map (λ row. row.now) result ≡ row_brought value.now }
 {

@@ -12,10 +12,10 @@ use ksql_types::{Span, Value};
 use std::alloc::{AllocError, Global};
 use topic_files::{Printer, push_printed};
 
-/// The bytes for which room is made for each line: most have fewer.
+/// The bytes reserved for each line; most lines have fewer.
 const LINE_ROOM: usize = 160;
 
-/// Makes room for so many lines at once: a text that grows is copied.
+/// Reserves room for `lines` lines at once, since a text that grows is copied.
 pub fn reserve_lines(out: &mut String, lines: usize) -> Result<(), AllocError>
     ensures { string_bytes out.new ≡ string_bytes out.old }
 {
@@ -29,7 +29,7 @@ fn push_number(out: &mut String, number: u64) -> Result<(), AllocError>
     out.push_str(Buffer::new().format(number))
 }
 
-/// Appends the values with commas between.
+/// Appends the values, separated by commas.
 #[tactic(auto, unfolding(crate::specs::Printed::cells_text))]
 fn push_cells(out: &mut String, alloc: Global, cells: &[Value]) -> Result<(), AllocError>
     ensures { OnOk result (string_bytes out.new ≡ string_bytes out.old ++ cells_text cells.now) }
@@ -59,7 +59,7 @@ fn push_key(out: &mut String, alloc: Global, key: &[Value]) -> Result<(), AllocE
     }
 }
 
-/// Appends the window of a change, where it has one.
+/// Appends the window of a change, if it has one.
 #[tactic(auto, using(crate::proofs::ReportLemmas::appends), unfolding(crate::specs::Printed::span_text))]
 fn push_span(out: &mut String, span: Option<Span>) -> Result<(), AllocError>
     ensures { OnOk result (string_bytes out.new ≡ string_bytes out.old ++ span_text span) }
@@ -76,7 +76,7 @@ fn push_span(out: &mut String, span: Option<Span>) -> Result<(), AllocError>
     }
 }
 
-/// Appends the value of a line, a row, or null where there is none, up to the end of the line.
+/// Appends the value of a line, a row or null, up to the end of the line.
 #[tactic(auto, using(crate::proofs::ReportLemmas::appends), unfolding(crate::specs::Printed::row_text))]
 fn push_value(
     out: &mut String,
@@ -130,7 +130,7 @@ fn start_of(alloc: Global, part: u32) -> Result<String, AllocError>
     Ok(start)
 }
 
-/// The starts of the lines of changes in so many partitions, in the order of their numbers.
+/// The starts of the lines of changes in each of `partitions` partitions, by partition.
 pub fn starts_of(alloc: Global, partitions: u32) -> Result<Vec<String>, AllocError>
     ensures starts { IfOk result (λ starts. AreStarts starts.items) }
     ensures many { IfOk result (λ starts. length starts.items ≡ partitions) }
@@ -142,7 +142,8 @@ pub fn starts_of(alloc: Global, partitions: u32) -> Result<Vec<String>, AllocErr
     Ok(starts)
 }
 
-/// Appends the line of a change of a relation whose rows this prints. The starts of lines are written once, not for each line.
+/// Appends the line of a change of a relation with this printer. `starts` has the start of a line for each partition,
+/// written once.
 #[tactic(auto, using(crate::proofs::ReportLemmas::appends), unfolding(crate::specs::Printed::change_line, crate::specs::Printed::start_text))]
 pub fn push_change(
     out: &mut String,
@@ -161,7 +162,7 @@ pub fn push_change(
     push_fields(out, alloc, printer, line)
 }
 
-/// Appends the line of a row of a relation whose rows this prints.
+/// Appends the line of a row of a relation with this printer.
 #[tactic(auto, using(crate::proofs::ReportLemmas::appends), unfolding(crate::specs::Printed::row_line))]
 pub fn push_row_line(
     out: &mut String,

@@ -17,7 +17,7 @@ use ksql_types::Value;
 use std::alloc::AllocError;
 use std::hash::{Hash, Hasher};
 
-/// A key, lent.
+/// A key, borrowed.
 #[derive(Clone, Copy, Drop)]
 pub struct LentKey<'a> {
     pub cells: &'a [Value],
@@ -26,7 +26,7 @@ pub struct LentKey<'a> {
 /// Keys that have a row.
 pub type RowKeys<'a> = IndexSet<LentKey<'a>>;
 
-/// Notes whether a key has a row from now on, and answers whether it had one.
+/// Records whether a key has a row from now on, and returns whether it had one.
 pub fn turn<'a>(rows: &mut RowKeys<'a>, key: LentKey<'a>, stays: bool) -> Result<bool, AllocError>
     ensures had { IfOk result (λ had. had ≡ contains is_equal_key rows.old key.entry) }
     ensures turned { OnOk result (Updates is_equal_key rows.old rows.new key.entry stays) }

@@ -1,4 +1,4 @@
-//! Lines are told apart by their rows: two are equal where key and window are.
+//! Lines compared by row: two are equal if key and window are.
 
 ghost use Rattle.std.specs.Prelude.{◌≡◌, fold};
 ghost use Rattle.std.specs.Cmp.{eq_by_cmp_equiv, partial_equiv_from_equiv};
@@ -60,7 +60,7 @@ fn hash_cell<H: Hasher>(cell: &Value, state: &mut H)
     }
 }
 
-/// Feeds the start of a window to a hasher: windows of one length that start together are the same.
+/// Feeds the start of a window to a hasher: windows of the same length with the same start are the same.
 fn hash_span<H: Hasher>(span: Option<Span>, state: &mut H)
     ensures { state.new ≡ fold H.write state.old (span_fed span) }
 {

@@ -1,4 +1,4 @@
-//! The rows that a table has after its changes.
+//! The rows of a table after its changes.
 
 ghost use Rattle.std.specs.Prelude.{◌≡◌, IfOk, OnOk, count_by, filter, is_some, length, map};
 ghost use Rattle.std.specs.Option.{option_cmp};
@@ -13,7 +13,7 @@ use ksql_types::{Kind, Span, Value};
 use std::alloc::{AllocError, Global};
 use std::cmp::Ordering;
 
-/// The lines of the rows that a relation of this kind has after these changes: a stream has none.
+/// The lines of the rows of a relation of this kind after these changes; a stream has none.
 pub fn table_rows<'a>(
     alloc: Global,
     kind: Kind,
@@ -27,8 +27,8 @@ pub fn table_rows<'a>(
     }
 }
 
-/// The rows that these changes leave, by key and window: of each row the line of its latest change. Takes of the order of
-/// n + m log m steps for n changes of m rows, where few rows share a hash.
+/// The rows that these changes leave, by key and window: for each row the line of its latest change. Takes O(n + m log
+/// m) steps for n changes of m rows if few rows share a hash.
 fn rows_of<'a>(alloc: Global, lines: &[Line<'a>]) -> Result<Vec<Line<'a>>, AllocError>
     ensures { IfOk result (λ rows. map shown_of rows.items ≡ rows_of (map shown_of lines.now)) }
 {
@@ -38,7 +38,7 @@ fn rows_of<'a>(alloc: Global, lines: &[Line<'a>]) -> Result<Vec<Line<'a>>, Alloc
     Ok(rows)
 }
 
-/// How many rows these changes leave.
+/// The number of rows that these changes leave.
 pub fn count_rows(alloc: Global, lines: &[Line]) -> Result<usize, AllocError>
     ensures { IfOk result (λ count. count ≡ length (rows_of (map shown_of lines.now))) }
 {
@@ -46,7 +46,7 @@ pub fn count_rows(alloc: Global, lines: &[Line]) -> Result<usize, AllocError>
     Ok(count_with_row(latest.as_slice()))
 }
 
-/// Of each row the line of its latest change.
+/// For each row the line of its latest change.
 fn latest_lines<'a>(alloc: Global, lines: &[Line<'a>]) -> Result<IndexSet<Line<'a>>, AllocError>
     ensures { IfOk result (λ latest. map shown_of latest.keys ≡ latest_of (map shown_of lines.now)) }
 {
@@ -58,7 +58,7 @@ fn latest_lines<'a>(alloc: Global, lines: &[Line<'a>]) -> Result<IndexSet<Line<'
     Ok(latest)
 }
 
-/// The lines whose row isn't gone.
+/// The lines whose row still exists.
 fn lines_with_row<'a>(alloc: Global, lines: &[Line<'a>]) -> Result<Vec<Line<'a>>, AllocError>
     ensures { IfOk result (λ rows. rows.items ≡ filter (λ line. is_some (shown_of line).row) lines.now) }
 {
@@ -69,7 +69,7 @@ fn lines_with_row<'a>(alloc: Global, lines: &[Line<'a>]) -> Result<Vec<Line<'a>>
         .collect(alloc)
 }
 
-/// How many lines have a row that isn't gone.
+/// The number of lines whose row still exists.
 fn count_with_row(lines: &[Line]) -> usize
     ensures { result ≡ count_by (λ line. is_some (shown_of line).row) lines.now }
 {
@@ -83,7 +83,7 @@ fn sort_by_row(lines: &mut Vec<Line>) -> Result<(), AllocError>
     lines.sort_by(cmp_row)
 }
 
-/// The order of rows: by key, and then by window.
+/// Compares rows by key, then by window.
 pub fn cmp_row(a: &Line, b: &Line) -> Ordering
     ensures { result ≡ row_cmp (shown_of a.now) (shown_of b.now) }
 {
@@ -93,7 +93,7 @@ pub fn cmp_row(a: &Line, b: &Line) -> Ordering
     cmp_cells(a.key(), b.key()).then_with(|| cmp_window(first, second))
 }
 
-/// How two keys compare: the first values that differ decide, and else the shorter one comes first.
+/// Compares two keys: the first values that differ decide, else the shorter key comes first.
 pub fn cmp_cells(a: &[Value], b: &[Value]) -> Ordering
     ensures { result ≡ slice_cmp cell_cmp a.now b.now }
 {
@@ -103,7 +103,7 @@ pub fn cmp_cells(a: &[Value], b: &[Value]) -> Ordering
     }
 }
 
-/// How two keys compare, of however many values.
+/// Compares two keys with any numbers of values.
 fn cmp_several(a: &[Value], b: &[Value]) -> Ordering
     ensures { result ≡ slice_cmp cell_cmp a.now b.now }
 {
@@ -116,7 +116,7 @@ fn cmp_several(a: &[Value], b: &[Value]) -> Ordering
     a.len().cmp(&b.len())
 }
 
-/// How two values compare: by their types, and those of one type as in keys.
+/// Compares two values by type, and those of the same type as in keys.
 fn cmp_cell(a: &Value, b: &Value) -> Ordering
     ensures { result ≡ cell_cmp a.now b.now }
 {
@@ -129,7 +129,7 @@ fn cmp_cell(a: &Value, b: &Value) -> Ordering
     }
 }
 
-/// The place of a value's type in the order of types.
+/// The rank of a value's type in the order of types.
 fn rank(value: &Value) -> u8
     ensures { result ≡ rank value.now }
 {
@@ -142,7 +142,7 @@ fn rank(value: &Value) -> u8
     }
 }
 
-/// How two windows compare: by start and then by end, and none before any.
+/// Compares two windows by start, then by end; no window comes first.
 fn cmp_window(a: Option<Span>, b: Option<Span>) -> Ordering
     ensures { result ≡ option_cmp span_cmp a b }
 {

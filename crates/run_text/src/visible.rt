@@ -1,4 +1,4 @@
-//! What partitions of topics show, in the order in which it is reported.
+//! What partitions of topics show, in the order of the report.
 
 ghost use Rattle.std.specs.Prelude.{◌≡◌, ◌++◌, IfOk, OnOk, map};
 ghost use Rattle.ksql_place.specs.Ascending.{ascending};
@@ -13,7 +13,7 @@ use ksql_place::{Change, SourceRecord, cmp_place};
 use std::alloc::{AllocError, Global};
 use std::cmp::Ordering;
 
-/// A change, lent, and the partition in which it stands.
+/// A change, borrowed, and its partition.
 #[derive(Clone, Copy, Drop)]
 pub struct LentChange<'a> {
     pub part: u32,
@@ -57,7 +57,7 @@ pub fn by_stamp<'a>(mut records: Vec<&'a SourceRecord>) -> Result<Vec<&'a Source
     Ok(records)
 }
 
-/// The changes by their places, those of equal places by their partitions.
+/// The changes by their places, and on equal places by their partitions.
 pub fn by_place<'a>(mut changes: Vec<LentChange<'a>>) -> Result<Vec<LentChange<'a>>, AllocError>
     ensures { IfOk result (λ order. map standing_of order.items ≡ ascending standing_cmp (map standing_of changes.entry.items)) }
 {
@@ -65,7 +65,7 @@ pub fn by_place<'a>(mut changes: Vec<LentChange<'a>>) -> Result<Vec<LentChange<'
     Ok(changes)
 }
 
-/// How two changes compare: by place, and on equal places by partition.
+/// Compares two changes by place, then by partition.
 fn cmp_standing(a: &LentChange, b: &LentChange) -> Ordering
     ensures { result ≡ standing_cmp (standing_of a.now) (standing_of b.now) }
 {

@@ -13,7 +13,7 @@ use Rattle.schedule_text.specs.Schedules.{after_line, then_read, lined, lines_fr
 use Rattle.topic_files.specs.File.{bytes_of}
 use Rattle.topic_files.proofs.FileLemmas.{bytes_of-lines_of}
 
--- these steps were read, and what stands before the lines that are left is this, where all that is read is `wanted`
+-- these steps were read, and this is the state before the remaining lines, where `wanted` is the result for all lines
 pub record Reached (wanted : Result (List Lined) (ℕ × StepWhy)) (setting : Setting) (left : List (List ℕ)) (s : Standing) (steps : List Lined) : Type 0 where
   pub read : wanted ≡ then_read steps (lines_from setting s left)
   pub bytes : s.bytes + bytes_of left ≤ setting.size + 1

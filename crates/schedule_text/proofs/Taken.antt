@@ -1,4 +1,4 @@
--- A schedule that is read has no step in which a worker stalls or wakes.
+-- A schedule that is accepted has no step where a worker stalls or wakes.
 use Rattle.std.proofs.Common.{◌≡◌, subst, ℕ, Bool, true, false, cond, List, [], ◌∷◌, ◌++◌, ◌+◌, length}
 use Rattle.std.specs.Prelude.{All, IfOk, IfSome, Option, None, Some, Result, Ok, Err, ◌==◌, nat_le, nat_lt, min}
 use Rattle.std.specs.List.{AllByRecursion}
@@ -36,7 +36,7 @@ step-steady setting live (form.stop worker) = either IsSteady (is_live live work
 step-steady setting live (form.lose task) = either IsSteady (is_task setting.subs task) _ _ tt tt
 step-steady setting live form.drain = either IsSteady (length live == 0) _ _ tt tt
 
--- a step, where there is one, and what stands then
+-- a step, if any, and the state then
 abbrev IsReadSo : Option Step × Standing → Type 0
 IsReadSo read = IfSome read.0 IsSteady
 

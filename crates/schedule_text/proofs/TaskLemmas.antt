@@ -17,7 +17,7 @@ step here part from count = grind (arith, nat_tests)
 none : (here : Bool) (part from : ℕ) → ◌≡◌ {A = Bool} false (here && (nat_le from part && nat_lt part (from + zero)))
 none here part from = grind (arith, nat_tests)
 
--- whether one of so many partitions, from a number on, is that of a task
+-- whether one of n partitions, from a number on, is that of a task
 among : (task : TaskName) (number from count : ℕ) →
     list_any (λ (other : TaskName). (other.sub == task.sub) && (other.part == task.part)) (map (λ part. record { sub = number; part = part }) (range_with_len from count))
     ≡ ((number == task.sub) && (nat_le from task.part && nat_lt task.part (from + count)))

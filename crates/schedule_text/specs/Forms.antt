@@ -1,4 +1,4 @@
--- The form of a line: the step that its words write.
+-- The form of a line: the step that its words describe.
 use Rattle.std.specs.Prelude.{ℕ, List, [], ◌∷◌, ◌++◌, map, length, codes, Bool, true, not, ◌==◌, ◌&&◌, if◌then◌else◌, Option, Some, None, option_map, option_and_then}
 use Rattle.std.specs.List.{list_any, before_first, after_first}
 use Rattle.std.specs.Str.{bytes_eq, is_utf8}
@@ -8,12 +8,12 @@ use Rattle.schedule_text.specs.declared.forms.Form.TheVariants as lent
 use Rattle.schedule_text.specs.declared.forms.Pair.{Pair as LentPair}
 use Rattle.schedule_text.specs.Words.{count_of, decimal, is_empty, number_of, words_of, worker_of}
 
--- how many records of a topic's file are fed
+-- a topic, and how many records of its file to feed
 pub record Pair : Type 0 where
   pub topic : List ℕ
   pub n : ℕ
 
--- a step as it is written: a topic by its name
+-- a step as written, with topics by name
 pub data Form : Type 0 where
   feed_all : Form
   feed : List Pair → Form
@@ -23,7 +23,7 @@ pub data Form : Type 0 where
   lose : TaskName → Form
   drain : Form
 
--- the only word, None where there is none or more
+-- the only word, None if there are none or several
 abbrev pub only : List (List ℕ) → Option (List ℕ)
 only [] = None
 only (word ∷ []) = Some word
@@ -33,7 +33,7 @@ only (word ∷ next ∷ more) = None
 abbrev pub only_worker : List (List ℕ) → Option ℕ
 only_worker words = option_and_then worker_of (only words)
 
--- the pairs that words write, None where a count is no count, or where a topic has no count
+-- the pairs that words spell, None if a count is no count or a topic has no count
 abbrev pub pairs_of : List (List ℕ) → Option (List Pair)
 pairs_of [] = Some []
 pairs_of (topic ∷ []) = None
@@ -43,22 +43,22 @@ pairs_of (topic ∷ count ∷ more) = option_and_then (λ n. option_map (λ pair
 abbrev pub is_among : List (List ℕ) → List ℕ → Bool
 is_among topics topic = list_any (λ other. bytes_eq other topic) topics
 
--- whether pairs name each topic once, and none of those before
+-- whether pairs name each topic once, and none of the earlier ones
 abbrev pub name_once : List (List ℕ) → List Pair → Bool
 name_once before [] = true
 name_once before (pair ∷ pairs) = not (is_among before pair.topic) && name_once (before ++ pair.topic ∷ []) pairs
 
--- the feed of pairs, None where a topic is named twice
+-- the feed of pairs, None if a topic is named twice
 abbrev pub feed_of_pairs : List Pair → Option Form
 feed_of_pairs pairs = if name_once [] pairs then Some (feed pairs) else None
 
--- the feed that the words after `feed` write: `all`, or one pair and more
+-- the feed after the word `feed`: `all`, or one or more pairs
 abbrev pub feed_form : List (List ℕ) → Option Form
 feed_form [] = None
 feed_form (word ∷ []) = if bytes_eq word (codes "all") then Some feed_all else None
 feed_form (word ∷ next ∷ more) = option_and_then feed_of_pairs (pairs_of (word ∷ next ∷ more))
 
--- the round that the words after `round` write: nothing, or `lose` and a worker
+-- the round after the word `round`: nothing, or `lose` and a worker
 abbrev pub round_form : List (List ℕ) → Option Form
 round_form [] = Some (round None)
 round_form (word ∷ more) = if bytes_eq word (codes "lose") then option_map (λ worker. round (Some worker)) (only_worker more) else None
@@ -67,7 +67,7 @@ round_form (word ∷ more) = if bytes_eq word (codes "lose") then option_map (λ
 abbrev pub is_underscore : ℕ → Bool
 is_underscore byte = byte == 95
 
--- the task of two numbers, None where a text is no number
+-- the task with two numbers, None if a text is no number
 abbrev pub task_of_parts : List ℕ → List ℕ → Option TaskName
 task_of_parts first second = option_and_then (λ sub. option_map (λ part. record { sub = sub; part = part }) (number_of second)) (number_of first)
 
@@ -75,7 +75,7 @@ task_of_parts first second = option_and_then (λ sub. option_map (λ part. recor
 abbrev pub task_of : List ℕ → Option TaskName
 task_of word = task_of_parts (before_first is_underscore word) (after_first is_underscore word)
 
--- the form of a word and those after it, where the word is none of `feed` and `round`
+-- the form of a word and the words after it, if the word is neither `feed` nor `round`
 abbrev pub other_form : List ℕ → List (List ℕ) → Option Form
 other_form word more =
     if bytes_eq word (codes "start") then option_map start (only_worker more)
@@ -84,7 +84,7 @@ other_form word more =
     else (if bytes_eq word (codes "drain") && (length more == 0) then Some drain
     else None)))
 
--- the form of these words, None where they have none
+-- the form of these words, None if they have none
 abbrev pub form_of : List (List ℕ) → Option Form
 form_of [] = None
 form_of (word ∷ more) =
@@ -92,19 +92,19 @@ form_of (word ∷ more) =
     else (if bytes_eq word (codes "round") then round_form more
     else other_form word more)
 
--- the form of a line, None where it isn't UTF-8, where its words aren't parted by single blanks, or where they have none
+-- the form of a line, None if it isn't UTF-8, if its words aren't separated by single blanks, or if they have no form
 abbrev pub form_of_line : List ℕ → Option Form
 form_of_line line = if is_utf8 line && not (list_any is_empty (words_of line)) then form_of (words_of line) else None
 
--- the task of these digits
+-- the task with these digits
 abbrev pub named : List ℕ → List ℕ → TaskName
 named sub part = record { sub = decimal sub; part = decimal part }
 
--- a pair that lends its topic
+-- a pair with a borrowed topic
 abbrev pub pair_view : LentPair → Pair
 pair_view pair = record { topic = pair.topic.now; n = pair.n }
 
--- a form that lends its words
+-- a form with borrowed words
 abbrev pub form_view : Lent → Form
 form_view lent.FeedAll = feed_all
 form_view (lent.Feed pairs) = feed (map pair_view pairs.items)

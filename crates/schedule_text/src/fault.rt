@@ -13,7 +13,7 @@ pub enum StepWhy {
     TooLarge,
 }
 
-/// Why a schedule isn't read: its first refused line, counted from 1, or out of memory.
+/// Why a schedule can't be read: its first refused line, counted from 1, or out of memory.
 #[derive(Debug, Drop, PartialEq, Eq, Error)]
 pub enum ScheduleFault {
     #[error("line {line}: {why:?}")]
@@ -22,7 +22,7 @@ pub enum ScheduleFault {
     OutOfMemory,
 }
 
-/// Why a line isn't read.
+/// Why a line can't be read.
 #[derive(Drop)]
 pub(crate) enum LineFault {
     Refused(StepWhy),

@@ -1,4 +1,4 @@
-//! The form of a line: the step that its words write.
+//! The form of a line: the step that its words describe.
 
 ghost use Rattle.std.specs.Prelude.{◌≡◌, ◌<◌, [], IfOk, length, map, option_map};
 ghost use Rattle.schedule_text.specs.Forms.{feed_form, form_of, form_of_line, form_view, lose, name_once, only, only_worker, other_form, pair_view, pairs_of, round_form, task_of, task_of_parts};
@@ -9,14 +9,14 @@ use memchr::memchr;
 use std::alloc::{AllocError, Global};
 use std::collections::BTreeSet;
 
-/// How many records of a topic's file are fed.
+/// A topic, and how many records of its file to feed.
 #[derive(Drop)]
 pub(crate) struct Pair<'a> {
     pub(crate) topic: &'a [u8],
     pub(crate) n: u64,
 }
 
-/// A step as it is written: a topic by its name, and a task by its digits.
+/// A step as written: topics by name, and a task by its digits.
 #[derive(Drop)]
 pub(crate) enum Form<'a> {
     FeedAll,
@@ -28,7 +28,8 @@ pub(crate) enum Form<'a> {
     Drain,
 }
 
-/// The form of a line, None where it isn't UTF-8, where its words aren't parted by single blanks, or where they have none.
+/// The form of a line, or None if it isn't UTF-8, if its words aren't separated by single blanks, or if they have no
+/// form.
 pub(crate) fn form_of_line<'a>(
     alloc: Global,
     line: &'a [u8],
@@ -45,7 +46,7 @@ pub(crate) fn form_of_line<'a>(
     form_of(alloc, words.as_slice())
 }
 
-/// The form of words, None where they have none.
+/// The form of words, or None if they have none.
 fn form_of<'a>(alloc: Global, words: &[&'a [u8]]) -> Result<Option<Form<'a>>, AllocError>
     ensures { IfOk result (λ form. option_map form_view form ≡ form_of (map (λ word. word.now) words.now)) }
 {
@@ -61,7 +62,7 @@ fn form_of<'a>(alloc: Global, words: &[&'a [u8]]) -> Result<Option<Form<'a>>, Al
     Ok(other_form(word, more))
 }
 
-/// The form of a word and those after it, where the word is none of `feed` and `round`.
+/// The form of a word and the words after it, if the word is neither `feed` nor `round`.
 fn other_form<'a>(word: &[u8], more: &[&'a [u8]]) -> Option<Form<'a>>
     ensures { option_map form_view result ≡ other_form word.now (map (λ word. word.now) more.now) }
 {
@@ -80,7 +81,7 @@ fn other_form<'a>(word: &[u8], more: &[&'a [u8]]) -> Option<Form<'a>>
     None
 }
 
-/// The round that the words after `round` write: nothing, or `lose` and a worker.
+/// The round after the word `round`: nothing, or `lose` and a worker.
 fn round_form<'a>(words: &[&[u8]]) -> Option<Form<'a>>
     ensures { option_map form_view result ≡ round_form (map (λ word. word.now) words.now) }
 {
@@ -101,7 +102,7 @@ fn lose_form(word: &[u8]) -> Option<Form<'_>>
     lose_parts(&word[..at], &word[at + 1..])
 }
 
-/// The loss of the task of two numbers.
+/// The loss of the task with these two numbers.
 fn lose_parts<'a>(sub: &'a [u8], part: &'a [u8]) -> Option<Form<'a>>
     ensures { option_map form_view result ≡ option_map lose (task_of_parts sub.now part.now) }
 {
@@ -119,7 +120,7 @@ fn only_worker(words: &[&[u8]]) -> Option<u32>
     worker_of(only(words)?)
 }
 
-/// The only word, None where there is none or more.
+/// The only word, or None if there are none or several.
 fn only<'a>(words: &[&'a [u8]]) -> Option<&'a [u8]>
     ensures { option_map (λ word. word.now) result ≡ only (map (λ word. word.now) words.now) }
 {
@@ -129,7 +130,7 @@ fn only<'a>(words: &[&'a [u8]]) -> Option<&'a [u8]>
     }
 }
 
-/// The feed that the words after `feed` write: `all`, or one pair and more.
+/// The feed after the word `feed`: `all`, or one or more pairs.
 fn feed_form<'a>(alloc: Global, words: &[&'a [u8]]) -> Result<Option<Form<'a>>, AllocError>
     ensures { IfOk result (λ form. option_map form_view form ≡ feed_form (map (λ word. word.now) words.now)) }
 {
@@ -146,7 +147,7 @@ fn feed_form<'a>(alloc: Global, words: &[&'a [u8]]) -> Result<Option<Form<'a>>, 
     }
 }
 
-/// The feed of all that is left, where the only word is `all`.
+/// The feed of all remaining records, if the only word is `all`.
 fn all_form<'a>(words: &[&[u8]]) -> Option<Form<'a>>
     requires { length words.now < 2 }
     ensures { option_map form_view result ≡ feed_form (map (λ word. word.now) words.now) }
@@ -158,7 +159,7 @@ fn all_form<'a>(words: &[&[u8]]) -> Option<Form<'a>>
     }
 }
 
-/// The pairs that words write, None where a count is no count, or where a topic has no count.
+/// The pairs that words spell, or None if a count is no count or a topic has no count.
 fn pairs_of<'a>(alloc: Global, words: &[&'a [u8]]) -> Result<Option<Vec<Pair<'a>>>, AllocError>
     ensures { IfOk result (λ pairs. option_map (λ pairs. map pair_view pairs.items) pairs ≡ pairs_of (map (λ word. word.now) words.now)) }
 {
@@ -178,7 +179,7 @@ fn pairs_of<'a>(alloc: Global, words: &[&'a [u8]]) -> Result<Option<Vec<Pair<'a>
     }
 }
 
-/// Whether pairs name each topic once.
+/// Whether the pairs name each topic at most once.
 fn name_once(alloc: Global, pairs: &[Pair]) -> Result<bool, AllocError>
     ensures { IfOk result (λ once. once ≡ name_once [] (map pair_view pairs.now)) }
 {

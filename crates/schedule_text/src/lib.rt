@@ -1,4 +1,4 @@
-//! Schedules: the text of a schedule, and the steps that it says.
+//! Schedules: their text, and the steps that it describes.
 #![tactic(auto)]
 
 mod fault;

@@ -1,4 +1,4 @@
-//! The steps of a schedule, one line after another.
+//! Reading the steps of a schedule line by line.
 
 ghost use Rattle.std.specs.Prelude.{◌≡◌, ℕ, Ok, Err, IfOk};
 ghost use Rattle.schedule_text.specs.Schedules.{schedule_of};
@@ -11,8 +11,8 @@ use std::alloc::Global;
 use topic_files::Lines;
 use topology::{Lined, Schedule, Topology, chain_of};
 
-/// The steps of the text of a schedule for a program, its topology and the workers from 1 up to a number; or its first refused
-/// line, counted from 1, and why it is refused. Takes a time linear in the text.
+/// The steps of a schedule's text for a program, its topology and the workers 1 to `workers`; or its first refused
+/// line, counted from 1, and why it is refused. Takes time linear in the text.
 pub fn read_schedule(
     alloc: Global,
     bytes: &[u8],

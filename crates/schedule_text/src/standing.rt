@@ -1,4 +1,4 @@
-//! What stands after some lines of a schedule, and what the next line comes to there.
+//! The state after some lines of a schedule, and what the next line means there.
 
 ghost use Rattle.std.specs.Prelude.{◌≡◌, ◌+◌, ◌<◌, ◌≤◌, ◌^◌, ◌==◌, ◌&&◌, ℕ, IfOk, IsTrue, OnOk, filter, length, map, min, nat_lt};
 ghost use Rattle.schedule_text.specs.Forms.{form_view, named, pair_view};
@@ -13,19 +13,19 @@ use ksql_types::{Items, TaskName};
 use std::alloc::{AllocError, Global};
 use topology::{Count, Counts, Step, Sub};
 
-/// The greatest number of bytes of a schedule.
+/// The most bytes of a schedule.
 const MOST_BYTES: usize = 1_048_576;
 
-/// The greatest number of steps of a schedule.
+/// The most steps of a schedule.
 const MOST_STEPS: u32 = 10_000;
 
-/// The greatest number of rounds of a schedule.
+/// The most rounds of a schedule.
 const MOST_ROUNDS: u64 = 100_000;
 
-/// The greatest number of live workers.
+/// The most live workers.
 const MOST_WORKERS: usize = 32;
 
-/// What a schedule is read for: relations, sub-topologies with their chain, and the size of the text.
+/// What a schedule is read for: relations, sub-topologies and their chain, and the size of the text.
 #[derive(Clone, Copy)]
 pub(crate) struct Setting<'a> {
     pub(crate) items: &'a [Item],
@@ -34,8 +34,8 @@ pub(crate) struct Setting<'a> {
     pub(crate) size: usize,
 }
 
-/// What stands after some lines: how many lines and bytes there were, line feeds included, how many steps and rounds, and the
-/// live workers by rising numbers.
+/// The state after some lines: the numbers of lines and bytes, line feeds included, of steps and of rounds, and the
+/// live workers in ascending order.
 #[derive(Drop)]
 pub(crate) struct Standing {
     pub(crate) lines: u32,
@@ -46,7 +46,7 @@ pub(crate) struct Standing {
 }
 
 impl Standing {
-    /// What stands before the first line: the workers from 1 up to a number are live.
+    /// The state before the first line: the workers 1 to `workers` are live.
     pub(crate) fn first(alloc: Global, workers: u32) -> Result<Standing, AllocError>
         ensures { IfOk result (λ s. s ≡ first workers) }
     {
@@ -63,7 +63,7 @@ impl Standing {
         })
     }
 
-    /// Reads one line more: its step, or none where it is skipped.
+    /// Reads one more line: its step, or None if it is skipped.
     pub(crate) fn read_line(
         &mut self,
         alloc: Global,
@@ -98,7 +98,7 @@ impl Standing {
         Ok(Some(step))
     }
 
-    /// Takes a step, unless it brings the rounds above the greatest number.
+    /// Takes a step, unless there would be too many rounds.
     fn take(&mut self, alloc: Global, chain: u32, step: &Step) -> Result<(), LineFault>
         requires steps { self.old.steps < most_steps }
         requires rounds { self.old.rounds ≤ most_rounds }
@@ -118,7 +118,7 @@ impl Standing {
     }
 }
 
-/// How many rounds a step is, for a chain of so many.
+/// The number of rounds of a step, given the length of the topology's chain.
 fn rounds_of(chain: u32, step: &Step) -> u64
     ensures value { result ≡ rounds_of chain step.now }
     ensures small { result < 2 ^ 32 }
@@ -146,7 +146,7 @@ fn move_workers(alloc: Global, live: &mut Items<u32>, step: &Step) -> Result<(),
     Ok(())
 }
 
-/// The live workers and another one.
+/// The live workers and one more.
 fn with_worker(alloc: Global, live: &[u32], worker: u32) -> Result<Items<u32>, AllocError>
     ensures { IfOk result (λ more. more ≡ with_worker worker live.now) }
 {
@@ -156,7 +156,7 @@ fn with_worker(alloc: Global, live: &[u32], worker: u32) -> Result<Items<u32>, A
     Ok(Items::of(more))
 }
 
-/// The live workers but one.
+/// The live workers without one.
 fn without_worker(alloc: Global, live: &[u32], worker: u32) -> Result<Items<u32>, AllocError>
     ensures { IfOk result (λ others. others ≡ without_worker worker live.now) }
 {
@@ -165,21 +165,21 @@ fn without_worker(alloc: Global, live: &[u32], worker: u32) -> Result<Items<u32>
     Ok(Items::of(others))
 }
 
-/// The workers of lower numbers.
+/// The workers with lower numbers.
 fn lower(alloc: Global, live: &[u32], worker: u32) -> Result<Vec<u32>, AllocError>
     ensures { IfOk result (λ some. some.items ≡ filter (λ w. nat_lt w worker) live.now) }
 {
     live.iter().copied().filter(|w| *w < worker).collect(alloc)
 }
 
-/// The workers of higher numbers.
+/// The workers with higher numbers.
 fn higher(alloc: Global, live: &[u32], worker: u32) -> Result<Vec<u32>, AllocError>
     ensures { IfOk result (λ some. some.items ≡ filter (λ w. nat_lt worker w) live.now) }
 {
     live.iter().copied().filter(|w| worker < *w).collect(alloc)
 }
 
-/// The step of a form among these live workers, or why there is none.
+/// The step of a form, given the live workers, or why there is none.
 fn step_of(alloc: Global, setting: &Setting, live: &[u32], form: Form) -> Result<Step, LineFault>
     ensures { Answers (λ step. step) result (step_of (setting_view setting.now) live.now (form_view form.entry)) }
 {
@@ -207,7 +207,7 @@ fn step_of(alloc: Global, setting: &Setting, live: &[u32], form: Form) -> Result
     }
 }
 
-/// A feed of these counts, which are none where a topic is unknown.
+/// A feed with these counts, or an error if they are None because a topic is unknown.
 fn feed_of(counts: Option<Counts>) -> Result<Step, LineFault>
     ensures { Answers (λ step. step) result (feed_of counts) }
 {
@@ -217,7 +217,7 @@ fn feed_of(counts: Option<Counts>) -> Result<Step, LineFault>
     }
 }
 
-/// The step that starts a worker, which isn't live, unless all that can be are live.
+/// The step that starts a worker that isn't live, unless as many workers are live as allowed.
 fn start(live: &[u32], worker: u32) -> Result<Step, LineFault>
     ensures { Answers (λ step. step) result (start_of live.now worker) }
 {
@@ -237,7 +237,7 @@ fn is_live(live: &[u32], worker: u32) -> bool
     live.contains(&worker)
 }
 
-/// The counts of a feed by the numbers of its topics, None where one is unknown.
+/// The counts of a feed by topic number, or None if a topic is unknown.
 fn counts_of(alloc: Global, items: &[Item], pairs: &[Pair]) -> Result<Option<Counts>, AllocError>
     ensures { IfOk result (λ counts. counts ≡ counts_of items.now (map pair_view pairs.now)) }
 {
@@ -251,7 +251,7 @@ fn counts_of(alloc: Global, items: &[Item], pairs: &[Pair]) -> Result<Option<Cou
     Ok(Some(Items::of(counts)))
 }
 
-/// The number of the declared relation of a topic.
+/// The number of the declared relation with a topic.
 fn topic_number(items: &[Item], topic: &[u8]) -> Option<u32>
     ensures { result ≡ topic_number items.now topic.now }
 {
@@ -265,7 +265,7 @@ fn topic_number(items: &[Item], topic: &[u8]) -> Option<u32>
     None
 }
 
-/// The task of these digits, if it is one of the topology's.
+/// The task with these digits, if the topology has it.
 fn task_of(subs: &[Sub], sub: &[u8], part: &[u8]) -> Option<TaskName>
     ensures { result ≡ task_in subs.now (named sub.now part.now) }
 {
@@ -282,8 +282,8 @@ fn task_of(subs: &[Sub], sub: &[u8], part: &[u8]) -> Option<TaskName>
     None
 }
 
-/// Whether a sub-topology has this number, and a task of this partition. A number may be given as the greatest one where it is
-/// greater.
+/// Whether a sub-topology has this number and a task for this partition. Numbers above the greatest one may be given as
+/// that.
 fn has_task(other: &Sub, number: u64, partition: u64) -> bool
     ensures test { (sub part : ℕ) → number ≡ min sub u64.MAX → partition ≡ min part u64.MAX
         → result ≡ ((other.now.number == sub) && nat_lt part other.now.partitions) }

@@ -1,4 +1,4 @@
-//! The words of a line, and the numbers that they write.
+//! The words of a line, and the numbers that they spell.
 
 ghost use Rattle.std.specs.Prelude.{◌≡◌, IfOk, is_some, map, min, option_map};
 ghost use Rattle.std.specs.Str.{bytes_eq, is_utf8};
@@ -8,7 +8,7 @@ ghost use Rattle.schedule_text.specs.Words.{count_of, decimal, is_empty, number_
 
 use std::alloc::{AllocError, Global};
 
-/// The pieces of a line between its blanks, which are spaces and tabs.
+/// The pieces of a line between blanks, which are spaces and tabs.
 pub(crate) fn words_of<'a>(alloc: Global, line: &'a [u8]) -> Result<Vec<&'a [u8]>, AllocError>
     ensures { IfOk result (λ words. map (λ word. word.now) words.items ≡ words_of line.now) }
 {
@@ -23,7 +23,7 @@ pub(crate) fn is_utf8(bytes: &[u8]) -> bool
     str::from_utf8(bytes).is_ok()
 }
 
-/// Whether one of these pieces has no byte.
+/// Whether one of these pieces is empty.
 pub(crate) fn has_empty(pieces: &[&[u8]]) -> bool
     ensures { result ≡ list_any is_empty (map (λ piece. piece.now) pieces.now) }
 {
@@ -49,7 +49,7 @@ fn are_digits(bytes: &[u8]) -> bool
     bytes.iter().all(|byte| byte.is_ascii_digit())
 }
 
-/// The number that decimal digits write, or the greatest number where it is greater.
+/// The number that decimal digits spell, or the greatest number if it is greater.
 pub(crate) fn decimal(digits: &[u8]) -> u64
     ensures { result ≡ min (decimal digits.now) u64.MAX }
 {
@@ -62,7 +62,8 @@ pub(crate) fn decimal(digits: &[u8]) -> u64
     number
 }
 
-/// The number of a word of one or more decimal digits, or the greatest number where it is greater. None of any other word.
+/// The number of a word of one or more decimal digits, or the greatest number if it is greater. None for any other
+/// word.
 pub(crate) fn number_of(word: &[u8]) -> Option<u64>
     ensures { result ≡ option_map (λ number. min number u64.MAX) (number_of word.now) }
 {
@@ -92,7 +93,7 @@ pub(crate) fn worker_of(word: &[u8]) -> Option<u32>
     }
 }
 
-/// How many records a word says: a number from 0 to 200,000.
+/// The number of records that a word asks for: from 0 to 200,000.
 pub(crate) fn count_of(word: &[u8]) -> Option<u64>
     ensures { result ≡ count_of word.now }
 {

@@ -9,13 +9,13 @@ use ksql_types::{CopyOf, Items, TaskName};
 use std::alloc::{AllocError, Global};
 use topology::{Count, Counts};
 
-/// How many steps are drawn.
+/// The number of steps to draw.
 const STEPS: u32 = 20;
 
-/// The worker that comes in the end. Those that are drawn have lower numbers.
+/// The worker that comes at the end. Workers that are drawn have lower numbers.
 const LAST_WORKER: u32 = 13;
 
-/// Draws a schedule: some steps, and then the records that are left, a worker that wasn't there before, and a drain.
+/// Draws a schedule: some steps, then the remaining records, a worker that wasn't there before, and a drain.
 pub fn draw(alloc: Global, random: &mut Random, scene: &Scene) -> Result<Vec<Step>, AllocError>
     ensures { IfOk result (λ steps. All IsBuilt steps.items) }
 {
@@ -29,7 +29,7 @@ pub fn draw(alloc: Global, random: &mut Random, scene: &Scene) -> Result<Vec<Ste
     Ok(steps)
 }
 
-/// Draws a step. All records that are left are fed seldom, since nothing is fed after that.
+/// Draws a step. A feed of all remaining records is rare, since nothing is fed after that.
 fn draw_step(alloc: Global, random: &mut Random, scene: &Scene) -> Result<Step, AllocError>
     ensures { IfOk result IsBuilt }
 {
@@ -45,7 +45,7 @@ fn draw_step(alloc: Global, random: &mut Random, scene: &Scene) -> Result<Step, 
     }
 }
 
-/// A round in which this worker is lost, or none.
+/// A round in which this worker is lost, if any.
 fn round(lost: Option<u32>) -> Step
     ensures { IsBuilt result }
 {
@@ -55,7 +55,7 @@ fn round(lost: Option<u32>) -> Step
     }
 }
 
-/// Draws how many records of each topic are fed: at most two.
+/// Draws how many records of each topic to feed: at most two.
 fn draw_counts(alloc: Global, random: &mut Random, scene: &Scene) -> Result<Counts, AllocError> {
     let mut counts = Vec::new(alloc);
     for topic in &scene.topics {
@@ -72,7 +72,7 @@ fn draw_worker(random: &mut Random) -> u32 {
     1 + random.below(LAST_WORKER - 1)
 }
 
-/// Draws one of the tasks, where there are any.
+/// Draws one of the tasks, if there are any.
 fn draw_task(random: &mut Random, tasks: &[TaskName]) -> TaskName {
     let count = u32::try_from(tasks.len()).unwrap_or(u32::MAX);
     if count == 0 {

@@ -1,6 +1,6 @@
-//! Drives a script through so many pseudo-random schedules, `schedules COUNT`, in which workers come, go and are lost: what it
-//! reports in the end is what it reports where one worker is fed the same records. It prints how many reports were equal, or
-//! names the first schedule with another one.
+//! Drives a script through COUNT pseudo-random schedules, `schedules COUNT`, in which workers come, go and are lost:
+//! the final report must be the one that a single worker fed the same records gives. It prints how many reports were
+//! equal, or names the first schedule with a different one.
 #![tactic(auto)]
 
 mod drawing;
@@ -16,7 +16,7 @@ use std::env;
 use std::env::Env;
 use std::rt::Files;
 
-/// What the schedules are drawn from.
+/// The seed of the schedules.
 const SEED: u64 = 20_231_128;
 
 fn main(rt: HostRuntime) -> Result<()> {
@@ -26,13 +26,13 @@ fn main(rt: HostRuntime) -> Result<()> {
     Ok(())
 }
 
-/// How many schedules the words of the command line ask for.
+/// The number of schedules that the command line asks for.
 fn count_of<R: AllocGlobal + Env>(rt: &R) -> Result<u32> {
     let word = env::args(rt)?.nth(1).context("schedules COUNT")?;
     Ok(word.as_str().parse::<u32>().context("schedules COUNT")?)
 }
 
-/// Compares so many schedules.
+/// Compares this many schedules.
 fn compare_all<R: AllocGlobal + Files>(rt: &R, count: u32) -> Result<()> {
     let alloc = rt.alloc();
     let scene = Scene::read(rt)?;
@@ -44,7 +44,7 @@ fn compare_all<R: AllocGlobal + Files>(rt: &R, count: u32) -> Result<()> {
     Ok(())
 }
 
-/// Whether the report of the schedule that is drawn next is that of its feeds.
+/// Whether the next schedule drawn gives the same report as its feeds alone.
 fn is_same(alloc: Global, scene: &Scene, random: &mut Random) -> Result<bool> {
     let workers = 1 + random.below(8);
     let steps = draw(alloc, random, scene)?;

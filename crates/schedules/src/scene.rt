@@ -1,4 +1,4 @@
-//! What the schedules are of: a script with its topic files.
+//! The subject of the schedules: a script with its topic files.
 ghost use Rattle.std.specs.Prelude.{All};
 ghost use Rattle.cluster_core.specs.Cluster.{IsBuilt};
 
@@ -40,7 +40,7 @@ impl Scene {
         Ok(scene)
     }
 
-    /// Runs the script on a cluster that has so many live workers at first, and takes these steps.
+    /// Runs the script on a cluster with `workers` live workers at first, taking these steps.
     pub fn run(&self, alloc: Global, workers: u32, steps: Vec<Step>) -> Result<Ran, Fault>
         requires { All IsBuilt steps.items }
     {

@@ -1,4 +1,4 @@
--- A list whose items each stand once: what it contains, and how it grows at its end.
+-- A list where each item occurs once: what it contains, and how it grows at its end.
 use Rattle.std.proofs.Common.{◌≡◌, ℕ, ◌<◌, suc, zero, Bool, true, false, if◌then◌else◌, ◌||◌, List, [], ◌∷◌, ◌++◌, map, length, get_or, reverse, All, AllPairs, refl, sym, ap, ap₂, ◌∙◌, true≢false, arith}
 use Rattle.std.proofs.lemmas.List.{reverse-append}
 use Rattle.std.proofs.lemmas.List.Elements.{All-head, All-tail, All-cons}
@@ -90,7 +90,7 @@ module _ {X : Type 0} {eq : X → X → Bool} (laws : IsEquivalence eq) where
       ∙ list_any-insert_key x y (newest_first ys)
       ∙ ap (λ b. eq x y || b) (list_any-newest_first x ys)
 
-  -- the other way round they stand where they stand last
+  -- reversed, the items are at the places of their last occurrences
   reverse-newest_first : (xs : List X) → reverse (newest_first xs) ≡ last_of_each eq xs
   unfolding newest_first
   reverse-newest_first [] = refl
@@ -123,7 +123,7 @@ module _ {X : Type 0} (eq : X → X → Bool) (P : X → Type 0) where
     list_any-map x (y ∷ ys) p all =
         ap₂ (λ a b. a || b) (agree x y p (All-head P y ys all)) (list_any-map x ys p (All-tail P y ys all))
 
-    -- the images of items, where two are equal exactly where the items are
+    -- the images of items, where two are equal exactly if the items are
     pub map-last_of_each : (xs : List X) → All P xs → map f (last_of_each eq xs) ≡ last_of_each eq' (map f xs)
     map-last_of_each [] all = refl
     map-last_of_each (x ∷ xs) all =

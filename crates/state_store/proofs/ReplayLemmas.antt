@@ -11,7 +11,7 @@ use Rattle.ksql_types.specs.declared.relation.StoreEntry.{StoreEntry}
 use Rattle.state_store.specs.Store.{Values, Content, with_value, replay, numbered, last_of_each, change_of, changes_of, IsBase}
 use Rattle.state_store.proofs.LastOfEach.{list_any-last_of_each, AllPairs-last_of_each}
 
--- maps with the same value at each key are one
+-- maps with the same value at each key are equal
 pub same_values : (m n : Values) → ((q : List ℕ) → get m q ≡ get n q) → m ≡ n
 same_values = same_map nat_list_cmp_total (slice_cmp-IsAntisymmetric nat_cmp-IsAntisymmetric)
 

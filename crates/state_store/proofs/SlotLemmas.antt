@@ -41,7 +41,7 @@ same_key x y = bytes_eq x.items y.items
 pub same_key_equiv : IsEquivalence same_key
 same_key_equiv = on_texts_equal (λ key. key.items)
 
--- the value in a slot, if there is one
+-- the value in a slot, if any
 abbrev pub value_found : Option (Option (List ℕ)) → Option (List ℕ)
 value_found None = None
 value_found (Some value) = value
@@ -61,7 +61,7 @@ pub get-content_of : (slots : List Slot) (writes : List ℕ) (content : Content)
 get-content_of slots writes content key found view there =
     ap value_found there ∙ sym (get-values_in slots key) ∙ ap (λ c. get c.map key) view
 
--- what is found at one key changes, and at no other
+-- only the value at one key changes
 pub values_in-update : (old new : List Slot) (key : List ℕ) (found : Option (Option (List ℕ))) → lookup (is_key key) new ≡ found → KeepsOthers same_key (is_key key) old new → values_in new ≡ with_value (values_in old) key (value_found found)
 unfolding KeepsOthers
 values_in-update old new key found there others =
@@ -76,7 +76,7 @@ values_in-update old new key found there others =
 pub length-keys_in : (slots : List Slot) → length (keys_in slots) ≡ length slots
 length-keys_in slots = length-map (keys_of slots) (λ key. key.items) ∙ length-map slots (λ slot. slot.0)
 
--- a key stands in the keys exactly where it has a slot
+-- a key is among the keys exactly if it has a slot
 pub list_any-keys_in : (slots : List Slot) (q : List ℕ) → list_any (bytes_eq q) (keys_in slots) ≡ is_some (lookup (is_key q) slots)
 list_any-keys_in [] q = refl
 list_any-keys_in (slot ∷ slots) q = by (is_key q slot.0) (list_any-keys_in slots q)
@@ -96,7 +96,7 @@ pub keys_in-insert_entry : {S : Type 0} (slots : HashMap (Vec ℕ) (Option (List
 keys_in-insert_entry slots key value none =
     ap keys_in (insert_entry-new same_key slots key value none) ∙ keys_in-push slots.entries (key, value)
 
--- and stands at the index that the slots' number was
+-- its index is the number of slots before
 pub slice_get-last : (xs : List (List ℕ)) (x : List ℕ) → slice_get (xs ++ x ∷ []) (length xs) ≡ Some x
 slice_get-last [] x = refl
 slice_get-last (y ∷ ys) x = slice_get-last ys x
@@ -172,7 +172,7 @@ module _ (slots : List Slot) (distinct : IsDistinct same_key (keys_of slots)) wh
   keys_apart i j below within =
       apart_from_distinct bytes_eq (keys_in slots) i j [] (IsDistinct-items (keys_of slots) distinct) below (omega (arith, length-keys_in slots))
 
-  -- indexes have the same key where they are the same
+  -- indexes have the same key if they are the same
   keys_agree : (i j : ℕ) → i < length slots → j < length slots → bytes_eq (key_at slots i) (key_at slots j) ≡ nat_eq i j
   keys_agree i j at at' =
       elim (cases_lt i j) [

@@ -1,4 +1,4 @@
-//! A store of a task's state: a finite map from bytes to bytes, which keeps what changed since the last commit.
+//! A state store of a task: a finite map from bytes to bytes that tracks what changed since the last commit.
 #![tactic(auto)]
 
 mod slots;

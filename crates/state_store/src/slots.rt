@@ -1,4 +1,4 @@
-//! The table of a store: a slot for each key that has a value, and for each that was deleted since the last commit.
+//! The table of a store: a slot for each key that has a value or was deleted since the last commit.
 ghost use Rattle.std.specs.Prelude.{◌≡◌, ◌<◌, ℕ, None, Some, nat_eq, All, IfOk, IfSome, OnOk, OnErr, is_some, length, slice_get};
 ghost use Rattle.std.specs.FinMap as finite;
 ghost use Rattle.std.specs.List.{list_any, IsDistinct};
@@ -12,10 +12,10 @@ use indexmap::{IndexMap, IndexSet};
 use ksql_types::{Bytes, StoreEntry};
 use std::alloc::{AllocError, Global};
 
-/// The value of each key, None where it was deleted. A key keeps its index until a slot is removed.
+/// The value of each key, or None if it was deleted. A key keeps its index until a slot is removed.
 pub(crate) type Slots = IndexMap<Vec<u8>, Option<Bytes>>;
 
-/// Gives a key a value, or None to delete it, and answers the index of its slot. `place` is where its slot may be.
+/// Sets a key's value, or deletes it if None, and returns the index of its slot. `place` is a guess at that index.
 pub(crate) fn put(
     slots: &mut Slots,
     alloc: Global,
@@ -40,7 +40,7 @@ pub(crate) fn put(
     }
 }
 
-/// The index of a key's slot. A place that is the slot's saves the look-up.
+/// The index of a key's slot. A right guess in `place` saves the look-up.
 fn index_of(slots: &Slots, place: Option<usize>, key: &[u8]) -> Option<usize>
     ensures key { IfSome result (λ index. slice_get (keys_in slots.now.entries) index ≡ Some key.now) }
     ensures found { is_some result ≡ list_any (bytes_eq key.now) (keys_in slots.now.entries) }
@@ -56,14 +56,14 @@ fn index_of(slots: &Slots, place: Option<usize>, key: &[u8]) -> Option<usize>
     slots.get_index_of(key)
 }
 
-/// Deletes a key with its slot.
+/// Removes a key and its slot.
 fn remove(slots: &mut Slots, key: &[u8])
     ensures { values_in slots.new.entries ≡ with_value (values_in slots.old.entries) key.now None }
 {
     drop(slots.swap_remove(key));
 }
 
-/// Sets or deletes the key of an entry.
+/// Sets or deletes the key of a changelog entry.
 fn apply(slots: &mut Slots, alloc: Global, entry: &StoreEntry) -> Result<(), AllocError>
     ensures { OnOk result (values_in slots.new.entries ≡ with_value (values_in slots.old.entries) entry.now.key entry.now.value) }
 {
@@ -83,7 +83,7 @@ fn apply(slots: &mut Slots, alloc: Global, entry: &StoreEntry) -> Result<(), All
     Ok(())
 }
 
-/// The slots that the entries with a number make, one after another.
+/// The slots after replaying the entries with this store number.
 pub(crate) fn replayed(alloc: Global, number: u32, log: &[StoreEntry]) -> Result<Slots, AllocError>
     ensures { IfOk result (λ slots. values_in slots.entries ≡ replay finite.empty (numbered number log.now)) }
 {
@@ -96,7 +96,7 @@ pub(crate) fn replayed(alloc: Global, number: u32, log: &[StoreEntry]) -> Result
     Ok(slots)
 }
 
-/// A key with its value, as an entry of a changelog.
+/// A key and its value as a changelog entry.
 fn change(alloc: Global, key: &[u8], value: &Option<Bytes>) -> Result<StoreEntry, AllocError>
     ensures { IfOk result (λ change. change ≡ record { store = 0; key = key.now; value = value.now }) }
 {
@@ -107,7 +107,7 @@ fn change(alloc: Global, key: &[u8], value: &Option<Bytes>) -> Result<StoreEntry
     })
 }
 
-/// The changes of the slots with these indexes, one of each, in the order in which the indexes stand last.
+/// The changes of the slots with these indexes, one per slot, in the order of each index's last occurrence.
 pub(crate) fn changes_at(
     slots: &Slots,
     alloc: Global,
@@ -126,7 +126,7 @@ pub(crate) fn changes_at(
     Ok(changes)
 }
 
-/// The indexes, each once, in the order in which they stand last.
+/// Each index once, in the order of its last occurrence.
 fn last_of_each(alloc: Global, writes: &[usize]) -> Result<IndexSet<usize>, AllocError>
     ensures { IfOk result (λ last. last.keys ≡ last_of_each nat_eq writes.now) }
 {
@@ -147,7 +147,7 @@ pub(crate) fn remove_deleted(slots: &mut Slots, changes: &[StoreEntry])
     }
 }
 
-/// A copy of a value, or None where there is none.
+/// A copy of a value, if any.
 fn copied_value(alloc: Global, value: &Option<Bytes>) -> Result<Option<Bytes>, AllocError>
     ensures { IfOk result (λ copy. copy ≡ value.now) }
 {
@@ -157,7 +157,7 @@ fn copied_value(alloc: Global, value: &Option<Bytes>) -> Result<Option<Bytes>, A
     }
 }
 
-/// A copy that takes no more room than it needs.
+/// A copy with no spare capacity.
 pub(crate) fn copied(alloc: Global, bytes: &[u8]) -> Result<Vec<u8>, AllocError>
     ensures { IfOk result (λ copy. copy.items ≡ bytes.now) }
 {

@@ -1,4 +1,4 @@
-//! The store and its calls.
+//! The store and its operations.
 ghost use Rattle.std.specs.Prelude.{◌≡◌, ◌≢◌, ◌++◌, ◌∷◌, [], None, Some, AllPairs, IfOk, IfSome, IsSome, OnOk, OnErr, length, option_copied, option_map};
 ghost use Rattle.std.specs.FinMap as finite;
 ghost use Rattle.state_store.specs.Store.{Values, with_value, replay, numbered, changes_of, IsBase};
@@ -8,7 +8,7 @@ use ksql_types::{Bytes, Changelog, StoreEntry};
 use std::alloc::{AllocError, Global};
 use std::marker::Model;
 
-/// What is found under a key: its value, where it has one, and then a place, by which `write_at` finds the key again.
+/// The result of a look-up: the key's value, if any, and a place that lets `write_at` skip the look-up.
 #[derive(Clone, Copy)]
 pub struct Found<'a> {
     pub place: Option<usize>,
@@ -37,7 +37,7 @@ impl Model for Store {
 }
 
 impl Store {
-    /// A store without keys. Takes no memory.
+    /// An empty store. Takes no memory.
     pub fn new(alloc: Global) -> Store
         ensures { result ≡ record { map = finite.empty; written = [] } }
     {
@@ -47,21 +47,21 @@ impl Store {
         }
     }
 
-    /// The length in bytes of a key's value, or None where it has none.
+    /// The length in bytes of a key's value, or None if it has none.
     pub fn len_of(&self, key: &[u8]) -> Option<u64>
         ensures { result ≡ option_map length (finite.get self.now.map key.now) }
     {
         self.get(key).map(|value| value.len() as u64)
     }
 
-    /// The value of a key, or None where it has none.
+    /// The value of a key, or None if it has none.
     pub fn get(&self, key: &[u8]) -> Option<&[u8]>
         ensures { option_copied result ≡ finite.get self.now.map key.now }
     {
         self.find(key).value
     }
 
-    /// The value of a key, as `get` answers it, and where it stands.
+    /// A key's value, as `get` returns it, and the place of its slot.
     pub fn find(&self, key: &[u8]) -> Found<'_>
         ensures value { option_copied result.value ≡ finite.get self.now.map key.now }
         ensures held { IfSome result.place (λ _. IsSome (finite.get self.now.map key.now)) }
@@ -78,7 +78,7 @@ impl Store {
         }
     }
 
-    /// The index of a key's slot and the value there, or None where the key has no value.
+    /// The index of a key's slot and the value there, or None if the key has no value.
     fn held(&self, key: &[u8]) -> Option<(usize, &[u8])>
         ensures { option_map (λ held. held.1.now) result ≡ finite.get self.now.map key.now }
     {
@@ -87,7 +87,7 @@ impl Store {
         Some((slot.0, value.items()))
     }
 
-    /// Gives a key a value, in place of one that it has. After an error the store is as before.
+    /// Sets the value of a key. After an error the store is unchanged.
     pub fn set(&mut self, alloc: Global, key: &[u8], value: &[u8]) -> Result<(), AllocError>
         ensures map { OnOk result (self.new.map ≡ finite.insert self.old.map key.now value.now) }
         ensures written { OnOk result (self.new.written ≡ self.old.written ++ key.now ∷ []) }
@@ -98,7 +98,7 @@ impl Store {
         self.write_at(alloc, None, key, Some(Bytes::of(value)))
     }
 
-    /// Takes a key out. It counts as changed where it wasn't there, too. After an error the store is as before.
+    /// Deletes a key, which counts as changed even if it had no value. After an error the store is unchanged.
     pub fn delete(&mut self, alloc: Global, key: &[u8]) -> Result<(), AllocError>
         ensures map { OnOk result (self.new.map ≡ finite.remove self.old.map key.now) }
         ensures written { OnOk result (self.new.written ≡ self.old.written ++ key.now ∷ []) }
@@ -108,8 +108,8 @@ impl Store {
         self.write_at(alloc, None, key, None)
     }
 
-    /// Commits, and answers the changes since the last commit: one of each key that was set or deleted, in the order of
-    /// the last writes, with its value now or None. Each has the store number 0. After an error the store is as before.
+    /// Commits, and returns the changes since the last commit: one for each key that was set or deleted, in the order
+    /// of the last writes, with its value now or None. Each has store number 0. After an error the store is unchanged.
     pub fn changes(&mut self, alloc: Global) -> Result<Changelog, AllocError>
         ensures given { IfOk result (λ log. log ≡ changes_of self.old) }
         ensures one_each { IfOk result (λ log. AllPairs (λ change later. change.key ≢ later.key) log) }
@@ -123,7 +123,7 @@ impl Store {
         Ok(changes)
     }
 
-    /// The changes since the last commit, as `changes` answers them, without a commit.
+    /// The changes since the last commit, as `changes` returns them, without committing.
     pub fn changes_since_commit(&self, alloc: Global) -> Result<Changelog, AllocError>
         ensures { IfOk result (λ log. log ≡ changes_of self.now) }
     {
@@ -131,7 +131,7 @@ impl Store {
         Ok(Changelog::of(changes))
     }
 
-    /// Commits: no key counts as changed. `changes` are those since the last commit. Takes no memory.
+    /// Commits: no key counts as changed any more. `changes` are those since the last commit. Takes no memory.
     pub fn commit(&mut self, changes: &[StoreEntry])
         requires { changes.now ≡ changes_of self.old }
         ensures { self.new ≡ record { map = self.old.map; written = [] } }
@@ -140,8 +140,8 @@ impl Store {
         remove_deleted(&mut self.slots, changes);
     }
 
-    /// Puts what the entries with a number, one after another, make of an empty map in place of the store's. Nothing counts
-    /// as changed. After an error the store is as before.
+    /// Replaces the content by the replay of the entries with this store number on an empty map. Nothing counts as
+    /// changed. After an error the store is unchanged.
     pub fn load(&mut self, alloc: Global, number: u32, log: &[StoreEntry]) -> Result<(), AllocError>
         ensures map { OnOk result (self.new.map ≡ replay finite.empty (numbered number log.now)) }
         ensures committed { OnOk result (self.new.written ≡ []) }
@@ -155,8 +155,8 @@ impl Store {
         Ok(())
     }
 
-    /// Gives a key a value, or takes it out where that is None. A place at which `find` found the key saves the look-up; any
-    /// other is as good as None. After an error the store is as before.
+    /// Sets the value of a key, or deletes it if `value` is None. A place from `find` for this key saves the look-up;
+    /// any other place acts as None. After an error the store is unchanged.
     pub fn write_at(
         &mut self,
         alloc: Global,

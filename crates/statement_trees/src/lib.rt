@@ -1,4 +1,4 @@
-//! The statements of a script, as trees.
+//! The statements of a script as trees.
 #![tactic(auto)]
 
 mod tree;

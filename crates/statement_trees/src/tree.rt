@@ -1,7 +1,7 @@
 use expression_trees::{Expr, ExprTexts};
 use ksql_types::{Chars, Items, SqlType};
 
-/// A statement: what it creates, a table or else a stream, and how.
+/// A statement: the name of the relation it creates, whether that is a table (or else a stream), and its body.
 #[derive(Drop)]
 pub struct Statement {
     pub table: bool,
@@ -9,7 +9,7 @@ pub struct Statement {
     pub body: StatementBody,
 }
 
-/// What stands after the name of a statement. Empty `props` mean that WITH is left out.
+/// What follows the name of a statement. Empty `props` mean that WITH is left out.
 #[derive(Drop)]
 pub enum StatementBody {
     Declared {
@@ -40,7 +40,7 @@ pub enum KeyMark {
     PrimaryKey,
 }
 
-/// A property of WITH.
+/// A property of a WITH clause.
 #[derive(Debug, Drop)]
 pub struct Property {
     pub name: Chars,
@@ -55,7 +55,7 @@ pub enum PropertyValue {
     Digits(u64),
 }
 
-/// A query. An empty `group` means that GROUP BY is left out. EMIT CHANGES leaves nothing here.
+/// A query. An empty `group` means that GROUP BY is left out. EMIT CHANGES leaves no trace here.
 #[derive(Drop)]
 pub struct Select {
     pub items: SelectItems,
@@ -117,7 +117,7 @@ pub enum WindowText {
     },
 }
 
-/// A span of time, as it is written.
+/// A span of time as written.
 #[derive(Clone, Copy, Debug, PartialEq, Eq)]
 pub struct SpanText {
     pub digits: u64,

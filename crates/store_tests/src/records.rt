@@ -1,147 +1,93 @@
-ghost use Rattle.std.specs.Prelude.{◌≤◌, length, IfOk};
-ghost use Rattle.record_codec.specs.Spelling.{IsWithinLimits};
-
-use ksql_place::{Body, Change, Path, Place, Stamp};
-use ksql_types::{Chars, Items, Key, Value};
+use ksql_place::{Body, Change};
+use ksql_types::{Row, Value};
 use record_codec::{decode, decode_new, decode_row, encode, encode_row};
-use std::alloc::Global;
-use std::test::Fail;
+use std::alloc::{AllocError, Global};
 
-// A stream's change, from the first record of a partition, whose time is 7: its key is the text `a`, its row the
-// number 2.
-const CLICK: [u8; 66] = [
-    1, 0, 0, 0, 0, 0, 0, 0, 0, 1, 0, 0, 0, 0, 0, 0, 0, 7, 0, 0, 0, 0, 0, 0, 0, 0, 0, 0, 0, 0, 0, 0,
-    0, 1, 0, 0, 0, 0, 0, 0, 0, 0, 0, 0, 0, 7, 0, 0, 0, 0, 1, 3, 0, 0, 0, 1, 97, 0, 0, 0, 1, 1, 0,
-    0, 0, 2,
-];
-
-// A windowed table's change: its path is 3 and 1, its window from 0 to 60,000, its key the BIGINT -2; the old row
-// is TRUE, the new one a NULL and FALSE.
-const TURN: [u8; 99] = [
-    1, 1, 0, 0, 0, 0, 0, 0, 0, 2, 0, 0, 0, 0, 0, 0, 0, 9, 0, 0, 0, 4, 0, 0, 0, 5, 0, 0, 0, 0, 0, 0,
-    1, 0, 0, 0, 0, 2, 0, 0, 0, 3, 0, 0, 0, 1, 0, 0, 0, 0, 0, 0, 0, 8, 1, 0, 0, 0, 0, 0, 0, 0, 0, 0,
-    0, 0, 0, 0, 0, 234, 96, 0, 0, 0, 1, 2, 255, 255, 255, 255, 255, 255, 255, 254, 1, 0, 0, 0, 1,
-    4, 1, 1, 0, 0, 0, 2, 0, 4, 0,
-];
-
-#[tactic(auto, unfolding(ksql_types::specs::Text::longest_text))]
-fn chars(alloc: Global, text: &str) -> Result<Chars, Fail>
-    ensures { IfOk result (λ chars. length chars ≤ 100) }
-{
-    if text.len() > 100 {
-        return Err(Fail::from("a long text"));
+/// The bytes of a text of numbers with blanks between them.
+fn bytes(alloc: Global, text: &str) -> Result<Vec<u8>, AllocError> {
+    let mut bytes = Vec::new(alloc);
+    for word in text.split_whitespace() {
+        bytes.push(word.parse::<u8>().unwrap_or(0))?;
     }
-    Ok(Chars::of(String::from_str(alloc, text)?)?)
+    Ok(bytes)
 }
 
-fn click(alloc: Global) -> Result<Change, Fail>
-    ensures { IfOk result (λ change. IsWithinLimits change) }
-{
-    let stamp = Stamp {
-        feed: 1,
-        high: 7,
-        topic: 0,
-        part: 0,
-        offset: 1,
-    };
-    let place = Place {
-        stamp,
-        path: Path::root(),
-    };
-    let text = chars(alloc, "a")?;
-    let key = Key::of(vec![in alloc; Value::Txt(text)]?);
-    let body = Body::Said(Items::of(vec![in alloc; Value::Int(2)]?));
-    Ok(Change {
-        place,
-        time: 7,
-        key,
-        span: None,
-        body,
-    })
+/// Appends a value: a text after a mark `'`, and a BIGINT before an L.
+fn push_value(shown: &mut String, value: &Value) -> Result<(), AllocError> {
+    match value {
+        Value::Null => write!(shown, " NULL"),
+        Value::Int(number) => write!(shown, " {number}"),
+        Value::Big(number) => write!(shown, " {number}L"),
+        Value::Txt(text) => write!(shown, " '{}", text.items()),
+        Value::Bool(truth) => write!(shown, " {truth}"),
+    }
 }
 
-#[test]
-fn a_streams_change_is_written(rt: HostRuntime) -> Result<(), Fail> {
-    let alloc = rt.alloc();
-    let change = click(alloc)?;
-    assert_eq!(rt; encode(alloc, &change)?.items(), CLICK.as_slice());
-    Ok(())
+/// Values in brackets.
+fn values_shown(alloc: Global, values: &[Value]) -> Result<String, AllocError> {
+    let mut shown = String::from_str(alloc, "[")?;
+    for value in values {
+        push_value(&mut shown, value)?;
+    }
+    shown.push_str(" ]")?;
+    Ok(shown)
 }
 
-#[test]
-fn a_streams_change_is_read(rt: HostRuntime) -> Result<(), Fail> {
-    let alloc = rt.alloc();
-    let change = decode(alloc, &CLICK)?.ok_or("the bytes spell a change")?;
-    let stamp = change.place.stamp;
-    assert_eq!(rt; (stamp.feed, stamp.high, stamp.topic), (1, 7, 0));
-    assert_eq!(rt; (stamp.part, stamp.offset, change.time), (0, 1, 7));
-    assert!(rt; change.place.path.items().is_empty());
-    assert!(rt; change.span.is_none());
-    assert!(rt; matches!(change.key.items(), [Value::Txt(text)] if text.items() == "a"));
-    assert!(rt; matches!(&change.body, Body::Said(row) if matches!(row.items(), [Value::Int(2)])));
-    assert_eq!(rt; encode(alloc, &change)?.items(), CLICK.as_slice());
-    Ok(())
+fn perhaps_shown(alloc: Global, row: &Option<Row>) -> Result<String, AllocError> {
+    match row {
+        Some(row) => values_shown(alloc, row.items()),
+        None => String::from_str(alloc, "none"),
+    }
 }
 
-#[test]
-fn a_row_alone(rt: HostRuntime) -> Result<(), Fail> {
-    let alloc = rt.alloc();
-    let row = decode_row(alloc, &CLICK[57..])?.ok_or("the bytes spell a row")?;
-    assert!(rt; matches!(row.items(), [Value::Int(2)]));
-    assert_eq!(rt; encode_row(alloc, &row)?.items(), &CLICK[57..]);
-    assert!(rt; decode_row(alloc, &CLICK[57..65])?.is_none());
-    assert!(rt; decode_row(alloc, &CLICK)?.is_none());
-    Ok(())
-}
-
-#[test]
-fn a_tables_change(rt: HostRuntime) -> Result<(), Fail> {
-    let alloc = rt.alloc();
-    let change = decode(alloc, &TURN)?.ok_or("the bytes spell a change")?;
-    let stamp = change.place.stamp;
-    assert_eq!(rt; (stamp.feed, stamp.high, stamp.topic), (2, 9, 4));
-    assert_eq!(rt; (stamp.part, stamp.offset, change.time), (5, 256, 8));
-    assert_eq!(rt; change.place.path.items(), [3, 1].as_slice());
-    assert!(rt; matches!(change.span, Some(span) if span.start == 0 && span.end == 60000));
-    assert!(rt; matches!(change.key.items(), [Value::Big(-2)]));
-    match &change.body {
-        Body::Turned {
-            old: Some(old),
-            new: Some(new),
-        } => {
-            assert!(rt; matches!(old.items(), [Value::Bool(true)]));
-            assert!(rt; matches!(new.items(), [Value::Null, Value::Bool(false)]));
+fn body_shown(alloc: Global, body: &Body) -> Result<String, AllocError> {
+    match body {
+        Body::Said(row) => format!(in alloc; "said {}", values_shown(alloc, row.items())?),
+        Body::Turned { old, new } => {
+            let old = perhaps_shown(alloc, old)?;
+            format!(in alloc; "old {old} new {}", perhaps_shown(alloc, new)?)
         }
-        _ => return Err(Fail::from("a table's change with both rows")),
     }
-    assert_eq!(rt; encode(alloc, &change)?.items(), TURN.as_slice());
-    Ok(())
 }
 
-// The same change without its old row.
-#[test]
-fn the_row_of_a_tables_change(rt: HostRuntime) -> Result<(), Fail> {
-    let alloc = rt.alloc();
-    let mut bytes = Vec::from_slice(alloc, &TURN[..84])?;
-    bytes.push(0)?;
-    bytes.extend_from_slice(&TURN[91..])?;
-    let (time, row) = decode_new(alloc, &bytes)?.ok_or("the bytes spell a change to a row")?;
-    assert_eq!(rt; time, 8);
-    assert!(rt; matches!(row.items(), [Value::Null, Value::Bool(false)]));
-    Ok(())
+/// The places, the times, the key and the rows of a change.
+fn change_shown(alloc: Global, change: &Change) -> Result<String, AllocError> {
+    let key = values_shown(alloc, change.key.items())?;
+    let body = body_shown(alloc, &change.body)?;
+    let path = change.place.path.items();
+    let (stamp, time, span) = (change.place.stamp, change.time, change.span);
+    format!(in alloc; "{stamp:?} path {path:?} time {time} window {span:?} key {key} {body}")
 }
 
-#[test]
-fn bytes_that_spell_no_change(rt: HostRuntime) -> Result<(), Fail> {
-    let alloc = rt.alloc();
-    let mut longer = Vec::from_slice(alloc, &CLICK)?;
-    longer.push(0)?;
-    let mut keyless = Vec::from_slice(alloc, &CLICK[..51])?;
-    keyless.push(0)?;
-    keyless.extend_from_slice(&CLICK[57..])?;
-    assert!(rt; decode(alloc, &CLICK[..65])?.is_none());
-    assert!(rt; decode(alloc, &longer)?.is_none());
-    assert!(rt; decode(alloc, &keyless)?.is_none());
-    assert!(rt; decode(alloc, &[])?.is_none());
-    Ok(())
+/// The change that some bytes spell, if it is written as the same bytes.
+pub fn change(alloc: Global, text: &str) -> Result<String, AllocError> {
+    let bytes = bytes(alloc, text)?;
+    let Some(change) = decode(alloc, &bytes)? else {
+        return String::from_str(alloc, "none");
+    };
+    if encode(alloc, &change)?.items() != bytes.as_slice() {
+        return String::from_str(alloc, "other bytes");
+    }
+    change_shown(alloc, &change)
+}
+
+/// The row that some bytes spell, if it is written as the same bytes.
+pub fn row(alloc: Global, text: &str) -> Result<String, AllocError> {
+    let bytes = bytes(alloc, text)?;
+    let Some(row) = decode_row(alloc, &bytes)? else {
+        return String::from_str(alloc, "none");
+    };
+    if encode_row(alloc, &row)?.items() != bytes.as_slice() {
+        return String::from_str(alloc, "other bytes");
+    }
+    values_shown(alloc, row.items())
+}
+
+/// The time and the new row of the change that some bytes spell.
+pub fn new_row(alloc: Global, text: &str) -> Result<String, AllocError> {
+    let bytes = bytes(alloc, text)?;
+    let Some((time, row)) = decode_new(alloc, &bytes)? else {
+        return String::from_str(alloc, "none");
+    };
+    format!(in alloc; "{time} {}", values_shown(alloc, row.items())?)
 }

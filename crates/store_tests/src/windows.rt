@@ -1,50 +1,85 @@
-ghost use Rattle.std.specs.Prelude.{All, IfOk};
+ghost use Rattle.std.specs.Prelude.{◌≡◌, All, IfOk};
+ghost use Rattle.window_store.specs.Windows.{under};
 ghost use Rattle.operator.specs.Holding.{IsWindowEntry};
 
-use crate::threads::crosses_threads;
 use ksql_types::{Bytes, StoreEntry};
 use std::alloc::{AllocError, Global};
-use std::test::Fail;
-use window_store::{WStore, window_key};
+use window_store::{WStore, put_window_key};
 
-/// What an entry says: the value of the window of a key with a start, or None where it is taken away; or the stream time.
-#[derive(Clone, Copy)]
-enum Said {
-    Window(&'static [u8], u32, Option<&'static [u8]>),
-    Time(u64),
+fn window_key(alloc: Global, key: &[u8], start: u64) -> Result<Bytes, AllocError>
+    ensures { IfOk result (λ bytes. bytes ≡ under key.now start) }
+{
+    let mut bytes = Vec::new(alloc);
+    put_window_key(&mut bytes, key, start)?;
+    Ok(Bytes::of(bytes))
 }
 
-/// The entry of a store with this number that says this.
-fn entry(alloc: Global, number: u32, said: Said) -> Result<StoreEntry, AllocError>
+/// The key of a window of a text `KEY@START`.
+fn at(alloc: Global, text: &str) -> Result<Bytes, AllocError> {
+    let (key, start) = text.split_once('@').unwrap_or((text, ""));
+    let start = start.parse::<u32>().unwrap_or(0);
+    window_key(alloc, key.as_bytes(), u64::from(start))
+}
+
+/// The entry of the value of a window, from a text `KEY@START=VALUE`, or `KEY@START` where it is taken away.
+fn window_entry(alloc: Global, number: u32, text: &str) -> Result<StoreEntry, AllocError>
     ensures { IfOk result IsWindowEntry }
 {
-    match said {
-        Said::Window(key, start, value) => {
-            let value = match value {
-                Some(value) => Some(Bytes::of(value.to_vec(alloc)?)),
-                None => None,
-            };
-            Ok(StoreEntry {
-                store: number,
-                key: window_key(alloc, key, u64::from(start))?,
-                value,
-            })
-        }
-        Said::Time(time) => Ok(StoreEntry {
-            store: number,
-            key: Bytes::of(Vec::new(alloc)),
-            value: Some(window_key(alloc, &[], time)?),
-        }),
+    let (place, value) = match text.split_once('=') {
+        Some((place, value)) => (
+            place,
+            Some(Bytes::of(Vec::from_slice(alloc, value.as_bytes())?)),
+        ),
+        None => (text, None),
+    };
+    let (key, start) = place.split_once('@').unwrap_or((place, ""));
+    let start = start.parse::<u32>().unwrap_or(0);
+    Ok(StoreEntry {
+        store: number,
+        key: window_key(alloc, key.as_bytes(), u64::from(start))?,
+        value,
+    })
+}
+
+/// The entry of the stream time.
+fn time_entry(alloc: Global, number: u32, time: u64) -> Result<StoreEntry, AllocError>
+    ensures { IfOk result IsWindowEntry }
+{
+    Ok(StoreEntry {
+        store: number,
+        key: Bytes::of(Vec::new(alloc)),
+        value: Some(window_key(alloc, &[], time)?),
+    })
+}
+
+/// The entry of a text `NUMBER.KEY@START=VALUE` or `NUMBER.TIME`.
+fn entry(alloc: Global, text: &str) -> Result<StoreEntry, AllocError>
+    ensures { IfOk result IsWindowEntry }
+{
+    let (number, rest) = text.split_once('.').unwrap_or(("", text));
+    let number = number.parse::<u32>().unwrap_or(0);
+    match rest.parse::<u64>() {
+        Ok(time) => time_entry(alloc, number, time),
+        Err(_) => window_entry(alloc, number, rest),
     }
 }
 
-/// The entries of stores with these numbers that say this.
-fn entries(alloc: Global, said: &[(u32, Said)]) -> Result<Vec<StoreEntry>, AllocError>
+/// The pieces of a text, with `;` between each two.
+fn pieces(alloc: Global, text: &str) -> Result<Vec<&str>, AllocError> {
+    let mut pieces = Vec::new(alloc);
+    for piece in text.split(';') {
+        pieces.push(piece)?;
+    }
+    Ok(pieces)
+}
+
+/// The entries of some texts.
+fn entries(alloc: Global, pieces: &[&str]) -> Result<Vec<StoreEntry>, AllocError>
     ensures { IfOk result (λ log. All IsWindowEntry log.items) }
 {
     let mut log = Vec::new(alloc);
-    for (number, said) in said {
-        log.push(entry(alloc, *number, *said)?)?;
+    for piece in pieces {
+        log.push(entry(alloc, piece)?)?;
     }
     Ok(log)
 }
@@ -58,48 +93,6 @@ fn load(
     requires { All IsWindowEntry log.now }
 {
     store.load(alloc, number, log)
-}
-
-fn set(
-    store: &mut WStore,
-    alloc: Global,
-    key: &[u8],
-    start: u32,
-    value: &[u8],
-) -> Result<(), AllocError> {
-    let at = window_key(alloc, key, u64::from(start))?;
-    store.set(alloc, at.items(), value)
-}
-
-/// Whether a window has this value.
-fn has(
-    store: &WStore,
-    alloc: Global,
-    key: &[u8],
-    start: u32,
-    value: Option<&[u8]>,
-) -> Result<bool, AllocError> {
-    Ok(store.get(window_key(alloc, key, u64::from(start))?.items()) == value)
-}
-
-/// Whether the windows of a key that are held have these starts.
-fn starts_are(
-    store: &WStore,
-    alloc: Global,
-    key: &[u8],
-    starts: &[u64],
-) -> Result<bool, AllocError> {
-    Ok(store.starts(alloc, key)?.as_slice() == starts)
-}
-
-/// Whether the changes of a store say this.
-fn changes_are(
-    store: &mut WStore,
-    alloc: Global,
-    said: &[(u32, Said)],
-) -> Result<bool, AllocError> {
-    let wanted = entries(alloc, said)?;
-    Ok(are_same(store.changes(alloc)?.items(), &wanted))
 }
 
 /// Whether two logs are the same.
@@ -117,90 +110,63 @@ fn are_same(log: &[StoreEntry], other: &[StoreEntry]) -> bool {
     true
 }
 
-#[test]
-fn a_window_stands_under_its_key_and_its_start(rt: HostRuntime) -> Result<(), Fail> {
-    let alloc = rt.alloc();
-    let at = window_key(alloc, b"ab", 258)?;
-    assert!(rt; at.items() == b"ab\x00\x00\x00\x00\x00\x00\x01\x02".as_slice());
-    let mut store = WStore::new(alloc, 10);
-    set(&mut store, alloc, b"a", 30, b"1")?;
-    set(&mut store, alloc, b"b", 10, b"2")?;
-    set(&mut store, alloc, b"a", 300, b"3")?;
-    set(&mut store, alloc, b"a", 0, b"4")?;
-    set(&mut store, alloc, b"a", 30, b"5")?;
-    assert!(rt; has(&store, alloc, b"a", 30, Some(b"5"))?);
-    assert!(rt; has(&store, alloc, b"a", 10, None)?);
-    assert!(rt; starts_are(&store, alloc, b"a", &[0, 30, 300])?);
-    assert!(rt; starts_are(&store, alloc, b"b", &[10])?);
-    assert!(rt; starts_are(&store, alloc, b"c", &[])?);
-    crosses_threads::<WStore>();
-    Ok(())
+/// Whether the changes of a store are these entries.
+fn changes_are(alloc: Global, store: &mut WStore, text: &str) -> Result<bool, AllocError> {
+    let wanted = entries(alloc, &pieces(alloc, text)?)?;
+    Ok(are_same(store.changes(alloc)?.items(), &wanted))
 }
 
-#[test]
-fn a_window_ends_at_its_start_and_its_size(rt: HostRuntime) -> Result<(), Fail> {
-    let alloc = rt.alloc();
-    let mut store = WStore::new(alloc, 10);
-    set(&mut store, alloc, b"a", 5, b"1")?;
-    set(&mut store, alloc, b"b", 5, b"2")?;
-    set(&mut store, alloc, b"a", 6, b"3")?;
-    store.expire(alloc, 9)?;
-    store.expire(alloc, 14)?;
-    assert!(rt; has(&store, alloc, b"b", 5, Some(b"2"))?);
-    assert!(rt; starts_are(&store, alloc, b"a", &[5, 6])?);
-    store.expire(alloc, 15)?;
-    assert!(rt; has(&store, alloc, b"b", 5, None)?);
-    assert!(rt; starts_are(&store, alloc, b"a", &[6])?);
-    set(&mut store, alloc, b"a", 5, b"4")?;
-    assert!(rt; starts_are(&store, alloc, b"a", &[5, 6])?);
-    Ok(())
+/// Sets the value of a window, from a text `KEY@START=VALUE`.
+fn set(alloc: Global, store: &mut WStore, text: &str) -> Result<(), AllocError> {
+    let (place, value) = text.split_once('=').unwrap_or((text, ""));
+    let (key, start) = place.split_once('@').unwrap_or((place, ""));
+    let start = start.parse::<u32>().unwrap_or(0);
+    let at = window_key(alloc, key.as_bytes(), u64::from(start))?;
+    store.set(alloc, at.items(), value.as_bytes())
 }
 
-#[test]
-fn changes_end_with_the_stream_time(rt: HostRuntime) -> Result<(), Fail> {
-    let alloc = rt.alloc();
-    let mut store = WStore::new(alloc, 10);
-    set(&mut store, alloc, b"a", 0, b"1")?;
-    set(&mut store, alloc, b"b", 20, b"2")?;
-    store.advance_time(25);
-    store.advance_time(24);
-    assert_eq!(rt; store.time(), 25);
-    let first = [
-        (0, Said::Window(b"a", 0, Some(b"1"))),
-        (0, Said::Window(b"b", 20, Some(b"2"))),
-        (0, Said::Time(25)),
-    ];
-    assert!(rt; changes_are(&mut store, alloc, &first)?);
-    store.expire(alloc, 25)?;
-    let later = [(0, Said::Window(b"a", 0, None)), (0, Said::Time(25))];
-    assert!(rt; changes_are(&mut store, alloc, &later)?);
-    assert!(rt; has(&store, alloc, b"b", 20, Some(b"2"))?);
-    Ok(())
+/// Loads the entries of the store with the number 2.
+fn load_second(alloc: Global, store: &mut WStore, text: &str) -> Result<(), AllocError> {
+    let log = entries(alloc, &pieces(alloc, text)?)?;
+    load(store, alloc, 2, &log)
 }
 
-#[test]
-fn a_log_is_loaded_with_its_stream_time(rt: HostRuntime) -> Result<(), Fail> {
-    let said = [
-        (2, Said::Window(b"a", 0, Some(b"1"))),
-        (2, Said::Window(b"b", 20, Some(b"2"))),
-        (2, Said::Time(25)),
-        (2, Said::Window(b"a", 0, None)),
-        (2, Said::Window(b"a", 10, Some(b"3"))),
-        (2, Said::Time(26)),
-        (1, Said::Window(b"b", 20, None)),
-        (1, Said::Time(99)),
-    ];
-    let alloc = rt.alloc();
-    let log = entries(alloc, &said)?;
+/// What a store answers to a word, as `get:KEY@START` or `changes:ENTRIES`.
+fn answer(
+    alloc: Global,
+    store: &mut WStore,
+    command: &str,
+    rest: &str,
+) -> Result<String, AllocError> {
+    match command {
+        "at" => format!(in alloc; " {:?}", at(alloc, rest)?.items()),
+        "get" => format!(in alloc; " {:?}", store.get(at(alloc, rest)?.items())),
+        "starts" => format!(in alloc; " {:?}", store.starts(alloc, rest.as_bytes())?.as_slice()),
+        "time" => format!(in alloc; " {}", store.time()),
+        _ => format!(in alloc; " {}", changes_are(alloc, store, rest)?),
+    }
+}
+
+/// Does what a word says, as `set:KEY@START=VALUE` or `expire:MOMENT`, and tells what it gives.
+fn step(alloc: Global, store: &mut WStore, word: &str) -> Result<String, AllocError> {
+    let (command, rest) = word.split_once(':').unwrap_or((word, ""));
+    let moment = rest.parse::<u64>().unwrap_or(0);
+    match command {
+        "set" => set(alloc, store, rest)?,
+        "load" => load_second(alloc, store, rest)?,
+        "expire" => store.expire(alloc, moment)?,
+        "advance" => store.advance_time(moment),
+        _ => return answer(alloc, store, command, rest),
+    }
+    Ok(String::new(alloc))
+}
+
+/// What a store of windows of 10 milliseconds tells after each word of a text, with a blank between each two.
+pub fn told(alloc: Global, text: &str) -> Result<String, AllocError> {
     let mut store = WStore::new(alloc, 10);
-    set(&mut store, alloc, b"x", 0, b"4")?;
-    load(&mut store, alloc, 2, &log)?;
-    assert_eq!(rt; store.time(), 26);
-    assert!(rt; has(&store, alloc, b"b", 20, Some(b"2"))?);
-    assert!(rt; has(&store, alloc, b"x", 0, None)?);
-    assert!(rt; starts_are(&store, alloc, b"a", &[10])?);
-    store.expire(alloc, 20)?;
-    let changes = [(0, Said::Window(b"a", 10, None)), (0, Said::Time(26))];
-    assert!(rt; changes_are(&mut store, alloc, &changes)?);
-    Ok(())
+    let mut told = String::from_str(alloc, "told")?;
+    for word in text.split(' ') {
+        told.push_str(step(alloc, &mut store, word)?.as_str())?;
+    }
+    Ok(told)
 }

@@ -1,4 +1,5 @@
--- What holds of what comes of nodes in a row and of sub-topologies in their order, where each node may make paths longer.
+-- What holds of what comes of nodes in a row and of sub-topologies in their order, where each node may make paths
+-- longer.
 use Rattle.std.proofs.Common.{◌≡◌, subst, ℕ, ◌+◌, ◌≤◌, List, [], ◌∷◌, ◌++◌, map, arith}
 use Rattle.std.specs.Prelude.{◌==◌, Bool, true, false, filter, flat_map, if◌then◌else◌}
 use Rattle.std.specs.List.{AllByRecursion, range_with_len}
@@ -28,7 +29,7 @@ total-append f (x ∷ xs) ys = let rest : total f (xs ++ ys) ≡ total f xs + to
 abbrev pub sub_growth : Sub → ℕ
 sub_growth s = total growth s.nodes
 
--- P of a number holds of changes whose paths have at most so many numbers, and what nodes that fit give keeps it
+-- P of a number holds of changes whose paths have at most n numbers, and what nodes that fit give keeps it
 module _ (P : ℕ → Change → Type 0) (wider : (m k : ℕ) → m ≤ k → (c : Change) → P m c → P k c) (Fit : Node → Type 0)
     (give : (m : ℕ) (x : Node) → Fit x → Gives (P m) (P (m + growth x)) (gives 1 x))
     (whole : (m columns : ℕ) (c : Change) → P m c → P m (with_cells columns c)) where

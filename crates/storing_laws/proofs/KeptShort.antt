@@ -20,11 +20,11 @@ use Rattle.meaning_laws.proofs.Sizes.{entries-give, results-give}
 use Rattle.record_codec.specs.Spelling.{IsShort}
 use Rattle.topology.specs.Contents.{contents}
 use Rattle.topology.specs.Topologies.{topology_of}
-use Rattle.storing_laws.specs.Short.{HoldTexts, HoldsInRows, HoldsProperTexts, IsProper, IsProperChange, IsShortChange, IsShortRecord, IsTextRecord, KeepsProper}
+use Rattle.short_laws.specs.Short.{HoldTexts, HoldsInRows, HoldsProperTexts, IsProper, IsProperChange, IsShortChange, IsShortRecord, IsTextRecord, KeepsProper}
 use Rattle.storing_laws.specs.Stored.{IsShortThroughout, KeepProper}
 use Rattle.storing_laws.proofs.ProperContents.{contents-proper, tame-proper}
-use Rattle.storing_laws.proofs.ShortChanges.{HasProperRow, HasProperRows, IsTame, IsTameEntry, node-tame}
-use Rattle.storing_laws.proofs.ShortValues.{values-proper}
+use Rattle.short_laws.proofs.ShortChanges.{HasProperRow, HasProperRows, IsTame, IsTameEntry, node-tame}
+use Rattle.short_laws.proofs.ShortValues.{values-proper}
 
 -- ---- values
 

@@ -1,7 +1,3 @@
-pub mod Texts
-pub mod ShortValues
-pub mod WindowSpans
-pub mod ShortChanges
 pub mod Along
 pub mod StageForms
 pub mod StageTexts

@@ -1,4 +1,5 @@
--- Places that rise, and of which under one stamp no path is the beginning of another, stand before one another by paths that fork.
+-- Places that rise, and of which under one stamp no path is a prefix of another, stand before one another by paths
+-- that fork.
 use Rattle.std.proofs.Common.{◌≡◌, ap, refl, subst, ℕ, ◌<◌, List, [], ◌∷◌, ◌++◌, inl, inr, arith}
 use Rattle.std.specs.Prelude.{◌⊎◌}
 use Rattle.std.specs.Cmp.Lexicographic.{slice_cmp}

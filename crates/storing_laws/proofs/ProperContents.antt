@@ -1,4 +1,4 @@
--- What stands in the topics of a topology has short values of UTF-8, and its windows start before they end.
+-- The changes in the topics of a topology have short UTF-8 values, and their windows start before they end.
 use Rattle.std.proofs.Common.{ℕ, zero, suc, List, [], ◌∷◌, ◌++◌}
 use Rattle.std.specs.Prelude.{◌==◌, All, filter, Option, None, Some, IfSome, option_map, slice_get, replicate}
 use Rattle.std.specs.List.{AllByRecursion}
@@ -27,10 +27,10 @@ use Rattle.meaning_laws.proofs.Sizes.{All-flat_map}
 use Rattle.record_codec.specs.Spelling.{IsShort}
 use Rattle.topology.specs.Contents.{contents, source_changes, source_contents, with_cells}
 use Rattle.topology.specs.Topologies.{subs, topology_of}
-use Rattle.storing_laws.specs.Short.{HoldTexts, HoldsInDecoded, HoldsInRows, IsProper, IsProperChange, IsShortRecord, IsText, IsTextRecord, KeepsProper}
+use Rattle.short_laws.specs.Short.{HoldTexts, HoldsInDecoded, HoldsInRows, IsProper, IsProperChange, IsShortRecord, IsText, IsTextRecord, KeepsProper}
 use Rattle.storing_laws.specs.Stored.{IsProperThroughout}
 use Rattle.storing_laws.proofs.Along.{contents-hold}
-use Rattle.storing_laws.proofs.ShortChanges.{HasProperRow, HasProperRows, IsProperRow, IsTame, node-tame}
+use Rattle.short_laws.proofs.ShortChanges.{HasProperRow, HasProperRows, IsProperRow, IsTame, node-tame}
 use Rattle.storing_laws.proofs.StageTexts.{subs-keep}
 
 -- ---- records

@@ -19,7 +19,7 @@ use Rattle.topology.specs.Topologies.{input_of, subs, topology_of}
 use Rattle.topology.specs.declared.stage.CutName.{CutName}
 use Rattle.topology.specs.declared.stage.Link.{Link}
 use Rattle.topology.specs.declared.stage.Link.TheVariants as link
-use Rattle.topology_laws.specs.Fed.{IsFed}
+use Rattle.short_laws.specs.Fed.{IsFed}
 use Rattle.topology_laws.proofs.InARow.{HasOneInput, nodes-rise}
 use Rattle.topology_laws.proofs.SentPlaces.{placed}
 use Rattle.storing_laws.specs.Stored.{ResultsRise}

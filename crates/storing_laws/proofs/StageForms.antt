@@ -1,5 +1,5 @@
 -- What the stages of a sound program look like: their nodes and what they read, and by how much they make paths longer.
-use Rattle.std.proofs.Common.{◌≡◌, ◌∙◌, ap, append_assoc, refl, sym, subst, ℕ, zero, suc, ◌+◌, ◌*◌, ◌≤◌, List, [], ◌∷◌, ◌++◌, map, length, take, Bool, true, false, arith}
+use Rattle.std.proofs.Common.{◌≡◌, ◌∙◌, ap, append_assoc, refl, sym, subst, ℕ, zero, suc, ◌+◌, ◌*◌, ◌^◌, ◌<◌, ◌≤◌, List, [], ◌∷◌, ◌++◌, map, length, take, Bool, true, false, arith}
 use Rattle.std.specs.Prelude.{◌==◌, ◌&&◌, not, if◌then◌else◌, Option, Some, None, slice_get, unwrap_or, option_map}
 use Rattle.std.specs.List.{AllByRecursion}
 use Rattle.std.proofs.lemmas.Option.{none-some, same_Some}
@@ -11,7 +11,7 @@ use Rattle.ksql_types.specs.declared.relation.Window.{Window}
 use Rattle.ksql_types.specs.declared.value.SqlType.{SqlType}
 use Rattle.ksql_expr.specs.declared.typed.Typed.{Typed}
 use Rattle.ksql_program.specs.Program.{relation_at, relation_of}
-use Rattle.ksql_program.specs.Sound.{IsSound, IsSoundItem, IsSoundQuery, IsWindowed, Makes, Reads, grouped, joined, one, plain, query}
+use Rattle.ksql_program.specs.Sound.{HasFewAggregates, IsSound, IsSoundItem, IsSoundQuery, IsWindowed, ItemHasFewAggregates, Makes, Reads, grouped, joined, one, plain, query}
 use Rattle.ksql_program.specs.declared.program.Item.{Item}
 use Rattle.ksql_program.specs.declared.program.Item.TheVariants.{Declared, Started}
 use Rattle.ksql_program.specs.declared.query.Agg.{Agg}
@@ -26,7 +26,7 @@ use Rattle.ksql_nodes.specs.declared.node.Node.TheVariants as node
 use Rattle.ksql_nodes.proofs.Lists.{All-append}
 use Rattle.query_meaning.specs.Queries.{after_aggregate, filter_of, join_of, join_over, key_columns, kind_at, lanes_of, leftmost, side_at}
 use Rattle.meaning_laws.proofs.EachRelation.{AreAmong}
-use Rattle.meaning_laws.proofs.Lists.{All-weaker}
+use Rattle.meaning_laws.proofs.Lists.{All-both, All-weaker}
 use Rattle.meaning_laws.proofs.RelationTables.{reads-kind}
 use Rattle.meaning_laws.proofs.Sizes.{growth}
 use Rattle.topology.specs.Stages.{aggregate_nodes, are_own_key, input_nodes, inputs_of, is_column, is_rekeyed, rekey_from, rekey_stages, shape_stages, stages_of, table_of}
@@ -37,17 +37,18 @@ use Rattle.topology.specs.declared.stage.Link.{Link}
 use Rattle.topology.specs.declared.stage.Link.TheVariants as link
 use Rattle.topology.specs.declared.stage.Stage.{Stage}
 use Rattle.topology.specs.declared.topology.Sub.{Sub}
-use Rattle.topology_laws.proofs.ItemLists.{before-among, item-at, sound-at}
-use Rattle.topology_laws.proofs.SentSizes.{all-at, table_over}
+use Rattle.sending_laws.proofs.ItemLists.{before-among, item-at, sound-at}
+use Rattle.sending_laws.proofs.SentSizes.{all-at, table_over}
 use Rattle.storing_laws.proofs.Along.{sub_growth, total, total-append}
 
 -- ---- the form of a stage
 
--- a node after the first: it has one input and keeps no table
+-- a node after the first: it has one input, keeps no table, and has fewer aggregates than four bytes can count
 abbrev pub IsLater : Node → Type 0
 IsLater (node.Table relation) = ⊥
 IsLater (node.JoinStreamTable kind on l r) = ⊥
 IsLater (node.JoinTables kind l r) = ⊥
+IsLater (node.Aggregate over aggs w) = suc (length aggs) < 2 ^ 32
 IsLater _ = Unit {0}
 
 -- the relation with whose number the places of a link's topic are compared
@@ -154,9 +155,9 @@ module _ (items : List Item) (sound : IsSound items) where
           subst (HasForm items (inputs_of items q.from)) (sym (regroup (table_of items q.from) (join_of items q.from) (filter_of q.filter) rest))
           (read-form q.from reads (filter_of q.filter ++ rest) (All-append IsLater (filter_of q.filter) rest (filter-later q.filter) later))
 
-      shape-formed : (s : Shape) → AllByRecursion IsFormed (shape_stages items q s)
-      shape-formed (shape.Plain ks vs) = (reading-form (node.Select ks vs ∷ []) (tt, tt), tt)
-      shape-formed (shape.Group ks w gs having vs) = by (are_own_key items q.from ks)
+      shape-formed : (s : Shape) → HasFewAggregates s → AllByRecursion IsFormed (shape_stages items q s)
+      shape-formed (shape.Plain ks vs) few = (reading-form (node.Select ks vs ∷ []) (tt, tt), tt)
+      shape-formed (shape.Group ks w gs having vs) few = by (are_own_key items q.from ks)
         where
           rest : List Node
           rest = aggregate_nodes items q (shape.Group ks w gs having vs)
@@ -165,7 +166,7 @@ module _ (items : List Item) (sound : IsSound items) where
           grouping = input_nodes items q ++ node.Group ks ∷ []
 
           later : AllByRecursion IsLater rest
-          later = (tt, after-later having vs)
+          later = (few, after-later having vs)
 
           by : (b : Bool) → AllByRecursion IsFormed
               (if b then record { inputs = inputs_of items q.from; nodes = grouping ++ rest; partitions = lanes_of items q; output = link.Relation q.out.number } ∷ []
@@ -174,10 +175,10 @@ module _ (items : List Item) (sound : IsSound items) where
           by true = (subst (HasForm items (inputs_of items q.from)) (sym (append_assoc (input_nodes items q) (node.Group ks ∷ []) rest)) (reading-form (node.Group ks ∷ rest) (tt, later)), tt)
           by false = (reading-form (node.Group ks ∷ []) (tt, tt), (of_one later, tt))
 
-    query-formed : (q : Query) → IsSoundQuery before q → AllByRecursion IsFormed (stages_of items q)
+    query-formed : (q : Query) → IsSoundQuery before q → HasFewAggregates q.shape → AllByRecursion IsFormed (stages_of items q)
     unfolding stages_of
-    query-formed q (query reads _ _ _ _) =
-        All-append IsFormed (rekey_stages items q) (shape_stages items q q.shape) (rekey-formed q q.from) (shape-formed q reads q.shape)
+    query-formed q (query reads _ _ _ _) few =
+        All-append IsFormed (rekey_stages items q) (shape_stages items q q.shape) (rekey-formed q q.from) (shape-formed q reads q.shape few)
 
 -- ---- paths
 
@@ -284,7 +285,7 @@ module _ (items : List Item) where
 
 -- ---- sub-topologies
 
--- what is known of a sub-topology
+-- the facts about a sub-topology
 pub record IsFormedSub (items : List Item) (s : Sub) : Type 0 where
   pub first : ℕ
   pub cuts : List CutName
@@ -293,7 +294,7 @@ pub record IsFormedSub (items : List Item) (s : Sub) : Type 0 where
   pub form : HasForm items links s.nodes
   pub grows : sub_growth s ≤ 2
 
--- what is known of the stages of an item
+-- the facts about the stages of an item
 abbrev IsFormedItem : List Item → Item → Type 0
 IsFormedItem items i = AllByRecursion (λ s. HasForm items s.inputs s.nodes) (stages_at items i) × (total stage_growth (stages_at items i) ≤ 2)
 
@@ -334,17 +335,22 @@ subs-grow items k first number (i ∷ is) formed =
 module _ (items : List Item) (sound : IsSound items) where
   all-formed : AllByRecursion (IsFormedItem items) items
   all-formed =
-      All-weaker Sound (IsFormedItem items) formed items
-      (all-at Sound items (λ number i at. (take number items, before-among items number, sound-at items number i sound.sound at)))
+      All-weaker Known (IsFormedItem items) formed items
+      (All-both Sound ItemHasFewAggregates items
+      (all-at Sound items (λ number i at. (take number items, before-among items number, sound-at items number i sound.sound at))) sound.few_aggregates)
     where
       Sound : Item → Type 0
       Sound i = (before : List Item) × AreAmong before items × IsSoundItem before i
 
-      formed : (i : Item) → Sound i → IsFormedItem items i
-      formed (Declared r) sound = (tt, omega arith)
-      formed (Started q) (before, among, is) = (query-formed items sound before among q is.1, query-grows items before among q is.1)
+      Known : Item → Type 0
+      Known i = Sound i × ItemHasFewAggregates i
 
-  -- each sub-topology has its form, and all of them make paths longer by at most twice as many numbers as there are items
+      formed : (i : Item) → Known i → IsFormedItem items i
+      formed (Declared r) known = (tt, omega arith)
+      formed (Started q) ((before, among, is), few) = (query-formed items sound before among q is.1 few, query-grows items before among q is.1)
+
+  -- each sub-topology has its form, and together they lengthen paths by at most twice as many numbers as there are
+  -- items
   pub subs-formed : AllByRecursion (IsFormedSub items) (subs items)
   subs-formed = items-formed items 0 (length items) 0 items all-formed
 

@@ -32,10 +32,10 @@ use Rattle.topology.specs.declared.stage.CutName.TheVariants as cut
 use Rattle.topology.specs.declared.stage.Link.TheVariants as link
 use Rattle.topology.specs.declared.stage.Stage.{Stage}
 use Rattle.topology.specs.declared.topology.Sub.{Sub}
-use Rattle.topology_laws.proofs.ItemLists.{before-among, sound-at}
-use Rattle.topology_laws.proofs.SentShapes.{joins-stream}
-use Rattle.topology_laws.proofs.SentSizes.{all-at, table_over}
-use Rattle.storing_laws.specs.Short.{HoldTexts, HoldsInFrom, HoldsInItem, HoldsInShape, HoldsProperTexts, HoldsTexts, KeepsProper}
+use Rattle.sending_laws.proofs.ItemLists.{before-among, sound-at}
+use Rattle.sending_laws.proofs.SentShapes.{joins-stream}
+use Rattle.sending_laws.proofs.SentSizes.{all-at, table_over}
+use Rattle.short_laws.specs.Short.{HoldTexts, HoldsInFrom, HoldsInItem, HoldsInShape, HoldsProperTexts, HoldsTexts, KeepsProper}
 
 -- ---- expressions
 

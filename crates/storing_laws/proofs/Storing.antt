@@ -37,14 +37,14 @@ use Rattle.topology.specs.Topologies.{input_of, subs, topology_of}
 use Rattle.topology.specs.declared.stage.CutName.{CutName}
 use Rattle.topology.specs.declared.stage.Link.{Link}
 use Rattle.topology.specs.declared.stage.Link.TheVariants as link
-use Rattle.topology_laws.specs.Fed.{IsFed}
-use Rattle.topology_laws.proofs.SentColumns.{sent-filled}
+use Rattle.short_laws.specs.Fed.{IsFed}
+use Rattle.sending_laws.proofs.SentColumns.{sent-filled}
 use Rattle.op_chain.specs.Chain.{AreStorable}
-use Rattle.storing_laws.specs.Short.{HasFewAggregates, HoldTexts, HoldsProperTexts, IsProper, IsShortRecord, IsTextRecord, KeepsProper}
+use Rattle.short_laws.specs.Short.{HoldTexts, HoldsProperTexts, IsProper, IsShortRecord, IsTextRecord, KeepsProper}
 use Rattle.storing_laws.specs.Stored.{CanBeStored}
 use Rattle.storing_laws.proofs.Along.{cells-hold, contents-hold, passed-hold, reads-hold, sub_growth, total}
 use Rattle.storing_laws.proofs.ProperContents.{IsProperRecord, source-tame, whole-tame}
-use Rattle.storing_laws.proofs.ShortChanges.{HasProperRow, IsProperRow, IsTame, argument-proper, in-proper, node-tame}
+use Rattle.short_laws.proofs.ShortChanges.{HasProperRow, IsProperRow, IsTame, argument-proper, in-proper, node-tame}
 use Rattle.storing_laws.proofs.StageForms.{HasForm, IsFormedSub, IsLater, IsNarrow, all-get, of_one, of_stream, of_table, of_tables, subs-bound, subs-formed}
 use Rattle.storing_laws.proofs.StageTexts.{KeepsTexts, subs-keep}
 
@@ -89,7 +89,7 @@ source-sized items order h topic part = All-filter (IsSized (2 ^ 53) 0) (λ c. c
 
 -- ---- whole rows of a relation
 
--- the row that a change brings has at most so many values
+-- the row that a change brings has at most n values
 abbrev pub Fits : ℕ → Change → Type 0
 Fits n c = IfSome (row_in c.body) (λ row. length row ≤ n)
 
@@ -181,21 +181,21 @@ arguments-short aggs keeps c h = by (row_in c.body) (in-proper c.body h.1.0)
         (All-weaker (λ (a : Agg). IfSome a.arg HoldsProperTexts) (λ a. IsShort (argument a.arg (record { row = row; time = c.time })))
         (λ a held. (argument-proper a.arg row c.time held proper).0) aggs keeps)
 
-later-short : (x : Node) → IsLater x → KeepsProper x → HasFewAggregates x → (e : Entry) → IsTame e.change → IsShortAt x e.side e.change
-later-short (node.Rekey key) later keeps few e h = tt
-later-short (node.Table relation) later keeps few e h = absurd later
-later-short (node.JoinStreamTable kind on l r) later keeps few e h = absurd later
-later-short (node.JoinTables kind l r) later keeps few e h = absurd later
-later-short (node.Filter on) later keeps few e h = tt
-later-short (node.Group keys) later keeps few e h = tt
-later-short (node.Aggregate over aggs w) later keeps few e h = (few, arguments-short aggs keeps e.change h)
-later-short (node.Having on) later keeps few e h = tt
-later-short (node.Select keys values) later keeps few e h = tt
+later-short : (x : Node) → IsLater x → KeepsProper x → (e : Entry) → IsTame e.change → IsShortAt x e.side e.change
+later-short (node.Rekey key) later keeps e h = tt
+later-short (node.Table relation) later keeps e h = absurd later
+later-short (node.JoinStreamTable kind on l r) later keeps e h = absurd later
+later-short (node.JoinTables kind l r) later keeps e h = absurd later
+later-short (node.Filter on) later keeps e h = tt
+later-short (node.Group keys) later keeps e h = tt
+later-short (node.Aggregate over aggs w) few keeps e h = (few, arguments-short aggs keeps e.change h)
+later-short (node.Having on) later keeps e h = tt
+later-short (node.Select keys values) later keeps e h = tt
 
 storable : (x : Node) (m : ℕ) → m ≤ 512 → (e : Entry) → IsBounded m e.change → IsShortAt x e.side e.change → IsStorable x e.side e.change
 storable x m few e h short = record { time = h.0.0; path = let own = h.0.1 in omega (arith, few, own); key = short-key e.change.key h.1.0; short = short }
 
--- entries of a node, and what it passes on, where all of them are short at it
+-- a node's entries, and what it passes on, if all of them are short at it
 first-storable : (x : Node) (rest : List Node) → KeepsProper x → (m : ℕ) → m ≤ 512 → (es : List Entry) → AllByRecursion (λ e. IsBounded m e.change) es →
     AllByRecursion (λ e. IsShortAt x e.side e.change) es →
     (AllByRecursion (λ e. IsBounded (m + growth x) e.change) (from_side 0 (results (gives 1 x) [] es)) → AreStorable rest [] (from_side 0 (results (gives 1 x) [] es))) →
@@ -207,13 +207,13 @@ first-storable x rest keeps m few es h short after = (
   after (passed-hold IsBounded wider KeepsProper node-bounded whole-bounded x keeps m es h),
 )
 
-nodes-storable : (nodes : List Node) → AllByRecursion IsLater nodes → AllByRecursion KeepsProper nodes → AllByRecursion HasFewAggregates nodes → (m : ℕ) → m + total growth nodes ≤ 512 →
+nodes-storable : (nodes : List Node) → AllByRecursion IsLater nodes → AllByRecursion KeepsProper nodes → (m : ℕ) → m + total growth nodes ≤ 512 →
     (es : List Entry) → AllByRecursion (λ e. IsBounded m e.change) es → AreStorable nodes [] es
-nodes-storable [] later keeps few m bound es h = tt
-nodes-storable (x ∷ xs) later keeps few m bound es h =
+nodes-storable [] later keeps m bound es h = tt
+nodes-storable (x ∷ xs) later keeps m bound es h =
     first-storable x xs keeps.0 m (omega (arith, bound)) es h
-    (All-weaker (λ (e : Entry). IsBounded m e.change) (λ e. IsShortAt x e.side e.change) (λ e p. later-short x later.0 keeps.0 few.0 e p.1) es h)
-    (nodes-storable xs later.1 keeps.1 few.1 (m + growth x) (omega (arith, bound)) (from_side 0 (results (gives 1 x) [] es)))
+    (All-weaker (λ (e : Entry). IsBounded m e.change) (λ e. IsShortAt x e.side e.change) (λ e p. later-short x later.0 keeps.0 e p.1) es h)
+    (nodes-storable xs later.1 keeps.1 (m + growth x) (omega (arith, bound)) (from_side 0 (results (gives 1 x) [] es)))
 
 zero-apart : zero ≡ suc zero → ⊥
 zero-apart is = omega (arith, is)
@@ -249,26 +249,26 @@ module _ (items : List Item) (first : ℕ) (cuts : List CutName) (has : Contents
       (All-map P (λ c. record { side = 0; change = c }) (read_at l) lefts)
       (All-map P (λ c. record { side = 1; change = c }) (read_at (link.Relation right)) rights))
 
-  form-storable : (links : List Link) (nodes : List Node) → HasForm items links nodes → AllByRecursion KeepsProper nodes → AllByRecursion HasFewAggregates nodes → total growth nodes ≤ 2 →
+  form-storable : (links : List Link) (nodes : List Node) → HasForm items links nodes → AllByRecursion KeepsProper nodes → total growth nodes ≤ 2 →
       AreStorable nodes [] (task_entries (map (input_of items first cuts) links) has part)
-  form-storable links nodes (of_one {l = l} later) keeps few grows =
-      nodes-storable nodes later keeps few 400 (omega (arith, grows)) (task_entries (map (input_of items first cuts) (l ∷ [])) has part) (entries-bounded (l ∷ []))
-  form-storable links nodes (of_table {number = number} {nodes = rest} narrow later) keeps few grows =
+  form-storable links nodes (of_one {l = l} later) keeps grows =
+      nodes-storable nodes later keeps 400 (omega (arith, grows)) (task_entries (map (input_of items first cuts) (l ∷ [])) has part) (entries-bounded (l ∷ []))
+  form-storable links nodes (of_table {number = number} {nodes = rest} narrow later) keeps grows =
       first-storable (node.Table number) rest keeps.0 400 (omega arith) (from_side 0 (read_at (link.Relation number))) (entries-bounded (link.Relation number ∷ []))
       (All-map (λ (e : Entry). HasShortRow e.change) (λ c. record { side = 0; change = c }) (read_at (link.Relation number)) (relation-rows number narrow))
-      (nodes-storable rest later keeps.1 few.1 (400 + 0) (omega (arith, grows)) _)
-  form-storable links nodes (of_stream {k = k} {on = on} {right = right} {l = l} {nodes = rest} narrow later) keeps few grows =
+      (nodes-storable rest later keeps.1 (400 + 0) (omega (arith, grows)) _)
+  form-storable links nodes (of_stream {k = k} {on = on} {right = right} {l = l} {nodes = rest} narrow later) keeps grows =
       first-storable _ rest keeps.0 400 (omega arith) (task_entries (map (input_of items first cuts) (l ∷ link.Relation right ∷ [])) has part) (entries-bounded (l ∷ link.Relation right ∷ []))
       (sides (λ e. e.side ≡ 1 → HasShortRow e.change) l right (All-of (read_at l) (λ c is. absurd (zero-apart is)))
       (All-weaker HasShortRow (λ c. 1 ≡ 1 → HasShortRow c) (λ c h is. h) (read_at (link.Relation right)) (relation-rows right narrow)))
-      (nodes-storable rest later keeps.1 few.1 (400 + 0) (omega (arith, grows)) _)
-  form-storable links nodes (of_tables {k = k} {left = left} {right = right} {nodes = rest} apart narrow_left narrow_right later) keeps few grows =
+      (nodes-storable rest later keeps.1 (400 + 0) (omega (arith, grows)) _)
+  form-storable links nodes (of_tables {k = k} {left = left} {right = right} {nodes = rest} apart narrow_left narrow_right later) keeps grows =
       first-storable _ rest keeps.0 400 (omega arith) (task_entries (map (input_of items first cuts) (link.Relation left ∷ link.Relation right ∷ [])) has part)
       (entries-bounded (link.Relation left ∷ link.Relation right ∷ []))
       (sides (λ e. (e.side < 2) × HasShortRow e.change) (link.Relation left) right
       (All-weaker HasShortRow (λ c. (0 < 2) × HasShortRow c) (λ c h. (omega arith, h)) (read_at (link.Relation left)) (relation-rows left narrow_left))
       (All-weaker HasShortRow (λ c. (1 < 2) × HasShortRow c) (λ c h. (omega arith, h)) (read_at (link.Relation right)) (relation-rows right narrow_right)))
-      (nodes-storable rest later keeps.1 few.1 (400 + 1) (omega (arith, grows)) _)
+      (nodes-storable rest later keeps.1 (400 + 1) (omega (arith, grows)) _)
 
 -- ---- all sub-topologies
 
@@ -292,8 +292,8 @@ module _ (items : List Item) (order : List SourceRecord) (sound : IsSound items)
           (source-sized items order (recursion_from_All IsInTime order small) topic part) (source-tame items order records topic part)
 
   pub can-be-stored : CanBeStored items (topology_of items) order
-  can-be-stored number s at few part =
+  can-be-stored number s at part =
       let formed = all-get (IsFormedSub items) (subs items) (subs-formed items sound) number s at in
       subst (λ inputs. AreStorable s.nodes [] (task_entries inputs has part)) (sym formed.inputs)
       (form-storable items formed.first formed.cuts has bounded (sent-filled items order sound fed.columns).relations part formed.links s.nodes formed.form
-      (all-get KeepsTexts (subs items) (subs-keep items sound texts) number s at) (recursion_from_All HasFewAggregates s.nodes few) formed.grows)
+      (all-get KeepsTexts (subs items) (subs-keep items sound texts) number s at) formed.grows)

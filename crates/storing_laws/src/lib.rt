@@ -1,4 +1,5 @@
-//! Laws of what is stored: whatever comes to a node in a topology of a sound program can be stored by the node's operator.
+//! Laws of stored values: the operator of a node can store whatever comes to the node in the topology of a sound
+//! program.
 #![tactic(auto)]
 
 mod laws;

@@ -1,4 +1,4 @@
-//! The commit of a task's proposal: all at once, or fenced.
+//! The commit of a task's proposal, which takes effect at once or is fenced.
 #![tactic(auto)]
 
 mod verdict;

@@ -1,4 +1,5 @@
--- Entries in the order of their places stand by their feeds, so those of some feeds are one part of them.
+-- Entries in the order of their places are also in the order of their feeds, so those of some feeds are a contiguous
+-- part.
 use Rattle.std.proofs.Common.{◌≡◌, ◌∙◌, ap, ap₂, sym, refl, ℕ, zero, suc, List, [], ◌∷◌, ◌+◌, ◌-◌, ◌<◌, ◌≤◌, Bool, true, false, cond, length, take, drop, get_or, arith, inl, inr, ◌⊎◌}
 use denote.Param.Members.{Mut}
 use denote.Ref.{Bor}
@@ -139,7 +140,7 @@ module _ {A : Type 0} (feed : A → ℕ) where
       filter-gone (is_between feed a b) x xs (gone-low a b x (lows.low 0 x (omega arith) (omega arith)))
       ∙ between-part a b xs low high ab (CutsAt-tail a x xs low lows) (CutsAt-tail b x xs high highs)
 
-  -- what a binary search answers is such a place
+  -- what a binary search returns is such a place
   pub CutsAt-from_point : (n : ℕ) (xs : List A) (place : ℕ) → place ≤ length xs →
       IsPartitionPoint (λ x. nat_le (feed x) n ≡ true) (λ x. nat_le (feed x) n ≡ false) xs place → CutsAt n xs place
   CutsAt-from_point n xs place within point = record { low = point.0; high = point.1; within = within }

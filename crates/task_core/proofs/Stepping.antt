@@ -8,7 +8,7 @@ use Rattle.task_core.specs.declared.reader.Reader.{Reader}
 use Rattle.task_core.specs.declared.reader.Rest.{Rest}
 use Rattle.task_core.proofs.Merging.{both, order-drop, step-left, step-right}
 
--- what is left of an input without its first entry
+-- the rest of an input without its first entry
 pub record IsRestOf (old next : Rest) : Type 0 where
   pub kind : next.kind ≡ old.kind
   pub input : next.input ≡ old.input
@@ -17,7 +17,7 @@ pub record IsRestOf (old next : Rest) : Type 0 where
 abbrev next_is_left : Reader → Bool
 next_is_left r = goes_left r.left.input.relation r.right.input.relation (entries_left r.left) (entries_left r.right)
 
--- entries go from those that are left to those that were taken
+-- entries move from the remaining ones to those that were taken
 carried : (before after made later all : List Entry) → after ≡ before ++ made → made ++ later ≡ all → after ++ later ≡ before ++ all
 carried before after made later all put split = ap (λ es. es ++ later) put ∙ append_assoc before made later ∙ ap (λ es. before ++ es) split
 

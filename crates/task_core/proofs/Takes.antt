@@ -24,7 +24,7 @@ taken-same : (nodes : List Node) (side : ℕ) (input : SubInput) (xs : List LogE
 taken-same nodes side input [] = refl
 taken-same nodes side input (x ∷ xs) = ap₂ (λ (us vs : List Entry). us ++ vs) (taken-one nodes side input x) (taken-same nodes side input xs)
 
--- what is left of an input, as it is read
+-- the rest of an input, as it is read
 pub record Shows (kind : Kind) (input : SubInput) (shown : List LogEntry) (r : Rest) : Type 0 where
   pub kind_is : r.kind ≡ kind
   pub input_is : r.input ≡ input

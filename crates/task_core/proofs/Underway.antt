@@ -22,7 +22,7 @@ given-none (n ∷ ns) earlier = given-none ns (passed n [] earlier)
 
 -- ---- some of the entries
 
--- operators took some of all entries, so that these are left, and gave what comes of them
+-- operators took some of the entries, these remain, and they gave their results
 pub record IsUnderWay (nodes : List Node) (old now : List Maps) (before out : List Change) (all left : List Entry) : Type 0 where
   pub taken : List Entry
   pub parts : taken ++ left ≡ all
@@ -63,7 +63,7 @@ all-taken nodes old new before out all left under none =
     let same : under.taken ≡ all = sym (append-nil under.taken) ∙ ap (λ (es : List Entry). under.taken ++ es) (sym none) ∙ under.parts in
     subst (Goes nodes old new before out) same under.stands
 
--- the next of them can be stored, where all can
+-- the next of them can be stored, if all can
 abbrev pub CanGo : List Node → List Maps → List Entry → Type 0
 CanGo nodes maps more = (earlier : List Entry) × StandAlong nodes maps earlier × AreStorable nodes earlier more
 

@@ -1,4 +1,4 @@
--- The code by which proofs tell tasks apart.
+-- The code that lets proofs tell tasks apart.
 use Rattle.std.specs.Prelude.{ℕ, List, refl}
 use Rattle.std.specs.Coded.{Coded, code_by, coded×, coded_list, coded_ℕ}
 use Rattle.ksql_types.specs.declared.relation.TaskName.{TaskName}
@@ -8,7 +8,7 @@ use Rattle.topology.specs.declared.topology.SubInput.{SubInput}
 use Rattle.op_chain.specs.Codes.{maps_code, nodes_code}
 use Rattle.task_core.specs.Tasks.{TaskView}
 
--- each is stored as its fields
+-- each is coded as its fields
 abbrev pub name_code : Coded TaskName
 name_code = code_by (ℕ × ℕ) (coded× coded_ℕ coded_ℕ) (λ n. (n.sub, n.part)) (λ p. record { sub = p.0; part = p.1 }) (λ _. refl)
 

@@ -1,4 +1,4 @@
--- What is left of the entries that a task takes.
+-- The remaining entries that a task takes.
 use Rattle.std.specs.Prelude.{ℕ, zero, suc, ◌+◌, Bool, true, false, not, List, [], ◌∷◌, ◌++◌, length, map, flat_map}
 use Rattle.std.specs.Ordering.{is_gt}
 use Rattle.ksql_types.specs.declared.relation.Kind.{Kind}
@@ -21,19 +21,19 @@ use Rattle.task_core.specs.declared.reader.Rest.{Rest}
 
 -- ---- rows
 
--- a row as a task reads it: after so many key columns; it is whole already where that is none
+-- a row as a task reads it: after this many key columns; with none it is whole already
 abbrev pub whole_row : ℕ → List Value → List Value → List Value
 whole_row zero key row = row
 whole_row (suc columns) key row = key_cells (suc columns) key ++ row
 
 -- ---- entries
 
--- what a task takes of an entry on a side, where it reads the records as those of a kind
+-- what a task takes of an entry on a side, if it reads the records as those of a kind
 abbrev pub taken_as : Kind → ℕ → SubInput → LogEntry → List Entry
 taken_as kind side input (Fed r) = from_side side (map (with_cells input.keys) (saying kind r))
 taken_as kind side input (Said c) = from_side side (with_cells input.keys c ∷ [])
 
--- what is left of an input: the entries that are lent, and then the changes that were given
+-- the rest of an input: borrowed entries, then owned changes
 abbrev pub entries_left : Rest → List LogEntry
 entries_left r = entries_in r.entries ++ map Said r.given.items
 
@@ -41,25 +41,25 @@ entries_left r = entries_in r.entries ++ map Said r.given.items
 abbrev pub rest_on : ℕ → Rest → List Entry
 rest_on side r = flat_map (taken_as r.kind side r.input) (entries_left r)
 
--- what is left of all that a reader gives
+-- everything left in a reader
 abbrev pub pending : Reader → List Entry
 pending r = ascending (entry_cmp r.left.input.relation r.right.input.relation) (rest_on 0 r.left ++ rest_on 1 r.right)
 
--- how many entries are left
+-- the number of entries left
 abbrev pub left_len : Reader → ℕ
 left_len r = length (entries_left r.left) + length (entries_left r.right)
 
--- what is left of both inputs stands in the order of places
+-- the rest of both inputs is in the order of places
 pub record IsOrdered (r : Reader) : Type 0 where
   pub left : IsInPlaceOrder (entries_left r.left)
   pub right : IsInPlaceOrder (entries_left r.right)
 
--- whether the first of the left entries goes next: it isn't after the first of the right ones
+-- whether the first entry on the left goes next: it isn't after the first one on the right
 abbrev pub goes_left : ℕ → ℕ → List LogEntry → List LogEntry → Bool
 goes_left left right [] ys = false
 goes_left left right (x ∷ xs) [] = true
 goes_left left right (x ∷ xs) (y ∷ ys) = not (is_gt (between_cmp (place_of x) left (place_of y) right))
 
--- the place whose stamp and path are lent
+-- a place with borrowed stamp and path
 abbrev pub place_at : Front → Place
 place_at front = record { stamp = front.stamp.now; path = front.path.now }

@@ -1,4 +1,4 @@
--- What a task is, and what it proposes.
+-- Tasks, and what they propose.
 use Rattle.std.specs.Prelude.{◌≡◌, ℕ, ◌≤◌, List, [], ◌∷◌, map, All, Option, Some, None, IsSome, length}
 use Rattle.ksql_types.specs.declared.relation.TaskName.{TaskName}
 use Rattle.ksql_nodes.specs.declared.node.Node.{Node}
@@ -15,7 +15,8 @@ use Rattle.topic_log.specs.declared.shelves.Shelves.{Shelves}
 use Rattle.op_chain.specs.Chain.{AreStorable, Runs, StandAlong}
 use Rattle.task_core.specs.Reading.{takes}
 
--- a task as contracts see it: its generation, the last feed that it went over, what it reads, its nodes, and what is in their stores
+-- a task as contracts see it: its generation, the last feed that it processed, what it reads, its nodes, and the
+-- content of their stores
 pub record TaskView : Type 0 where
   pub name : TaskName
   pub generation : ℕ
@@ -57,20 +58,20 @@ pub record CanRead (b : Shelves) (t : TaskView) : Type 0 where
 abbrev pub CanTake : TaskView → List Entry → Type 0
 CanTake t es = (earlier : List Entry) × StandAlong t.nodes t.maps earlier × AreStorable t.nodes earlier es
 
--- the same of those that it takes next
+-- the same for the entries that it takes next
 abbrev pub CanStore : Routes → Shelf → TaskView → Type 0
 CanStore r s t = CanTake t (next_entries r s t)
 
 -- ---- steps
 
--- it is the same task, perhaps further on
+-- the same task, perhaps further on
 pub record IsSameTask (t next : TaskView) : Type 0 where
   pub name : next.name ≡ t.name
   pub generation : next.generation ≡ t.generation
   pub inputs : next.inputs ≡ t.inputs
   pub nodes : next.nodes ≡ t.nodes
 
--- what a task proposes once it went over some entries, up to a feed
+-- what a task proposes after processing some entries, up to a feed
 pub record IsProposedOver (bound : ℕ) (es : List Entry) (t next : TaskView) (p : Proposal) : Type 0 where
   pub task : p.task ≡ t.name
   pub generation : p.generation ≡ t.generation
@@ -78,6 +79,6 @@ pub record IsProposedOver (bound : ℕ) (es : List Entry) (t next : TaskView) (p
   pub to : p.to ≡ bound
   pub runs : Runs t.nodes t.maps es p.outputs p.entries next.maps
 
--- the same of its next entries
+-- the same for its next entries
 abbrev pub IsProposedBy : Routes → Shelf → TaskView → TaskView → Proposal → Type 0
 IsProposedBy r s t next p = IsProposedOver (bound_of r s t) (next_entries r s t) t next p

@@ -1,4 +1,4 @@
-//! The entries of some feeds, where entries stand in the order of their places.
+//! The entries of some feeds, among entries in the order of their places.
 ghost use Rattle.std.specs.Prelude.{◌≡◌, ◌≤◌};
 ghost use Rattle.std.specs.List.Sorted.{IsNonDecreasingBy};
 ghost use Rattle.core_state.specs.State.{feed_of};
@@ -9,7 +9,7 @@ ghost use Rattle.topic_log.specs.Order.{IsInPlaceOrder};
 use ksql_place::{Change, SourceRecord};
 use topic_log::Entries;
 
-/// The entries of the feeds after a number up to another. Takes of the order of log n steps.
+/// The entries of the feeds after `from` up to `to`. Takes O(log n) steps.
 pub fn fed_between<'a>(entries: Entries<'a>, from: u64, to: u64) -> Entries<'a>
     requires order { IsInPlaceOrder (entries_in entries) }
     requires forward { from ≤ to }
@@ -21,7 +21,7 @@ pub fn fed_between<'a>(entries: Entries<'a>, from: u64, to: u64) -> Entries<'a>
     }
 }
 
-/// The records of the feeds after a number up to another.
+/// The records of the feeds after `from` up to `to`.
 fn records_between(records: &[SourceRecord], from: u64, to: u64) -> &[SourceRecord]
     requires order { IsNonDecreasingBy (λ r. r.stamp.feed) records.now }
     requires forward { from ≤ to }
@@ -32,7 +32,7 @@ fn records_between(records: &[SourceRecord], from: u64, to: u64) -> &[SourceReco
     &records[first..end]
 }
 
-/// The changes of the feeds after a number up to another.
+/// The changes of the feeds after `from` up to `to`.
 fn changes_between(changes: &[Change], from: u64, to: u64) -> &[Change]
     requires order { IsNonDecreasingBy feed_of changes.now }
     requires forward { from ≤ to }

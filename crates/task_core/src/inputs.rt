@@ -20,7 +20,7 @@ use std::collections::VecDeque;
 use topic_log::{Broker, Entries};
 use topology::SubInput;
 
-/// The feeds after `from` up to `to`, in the partitions of a number.
+/// The feeds after `from` up to `to`, in partition `part` of each input.
 #[derive(Clone, Copy)]
 pub struct Feeds {
     pub part: u32,
@@ -28,14 +28,14 @@ pub struct Feeds {
     pub to: u64,
 }
 
-/// The kinds as which the first node of a task reads the records of its sides.
+/// The kinds of relation as which a task's first node reads the records of its sides.
 #[derive(Clone, Copy)]
 pub struct Kinds {
     pub left: Kind,
     pub right: Kind,
 }
 
-/// As what the first node reads the records on a side.
+/// The kind of relation as which the first node reads the records on a side.
 pub fn kind_read(nodes: &[Node], side: u32) -> Kind
     ensures { result ≡ kind_read nodes.now side }
 {
@@ -46,7 +46,7 @@ pub fn kind_read(nodes: &[Node], side: u32) -> Kind
     }
 }
 
-/// The feed up to which all of one or two inputs are closed.
+/// The feed up to which all inputs (one or two) are closed.
 pub fn bound_of(inputs: &[SubInput], broker: &Broker) -> u64
     requires some { 1 ≤ length inputs.now }
     requires two { length inputs.now ≤ 2 }
@@ -60,7 +60,7 @@ pub fn bound_of(inputs: &[SubInput], broker: &Broker) -> u64
     }
 }
 
-/// All that one or two inputs show in some feeds.
+/// Everything that the inputs (one or two) show in some feeds.
 pub fn reader_of<'a>(
     alloc: Global,
     broker: &'a Broker,
@@ -92,7 +92,7 @@ pub fn reader_of<'a>(
     }
 }
 
-/// The same of one input, whose changes were given in the order of their places. Takes no memory.
+/// The same for one input whose changes are passed in, in the order of their places. Takes no memory.
 pub fn reader_over<'a>(
     alloc: Global,
     feeds: Feeds,
@@ -149,7 +149,7 @@ fn rest_over<'a>(feeds: Feeds, kind: Kind, input: SubInput, mut changes: Vec<Cha
     rest_given(kind, input, VecDeque::from_vec(changes))
 }
 
-/// Nothing left of an input that isn't there.
+/// The empty rest of a missing input.
 fn nothing<'a>(alloc: Global, kind: Kind) -> Rest<'a>
     ensures kind { result.kind ≡ kind }
     ensures input { result.input.relation ≡ 0 }
@@ -163,7 +163,7 @@ fn nothing<'a>(alloc: Global, kind: Kind) -> Rest<'a>
     rest_given(kind, input, VecDeque::new(alloc))
 }
 
-/// What is left of an input where no entries are lent.
+/// The rest of an input with no borrowed entries.
 fn rest_given<'a>(kind: Kind, input: SubInput, given: VecDeque<Change>) -> Rest<'a>
     ensures kind { result.kind ≡ kind }
     ensures input { result.input ≡ input }

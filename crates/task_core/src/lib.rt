@@ -1,4 +1,4 @@
-//! Tasks: what a sub-topology makes of the entries of one partition, from the stores of its nodes.
+//! Tasks: what a sub-topology makes of the entries of one partition, with the stores of its nodes.
 #![tactic(auto)]
 
 mod feeds;

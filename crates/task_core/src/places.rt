@@ -6,7 +6,7 @@ ghost use Rattle.task_core.specs.Readers.{place_at};
 use ksql_place::{Change, Stamp};
 use std::cmp::Ordering;
 
-/// The place of an entry, lent: its stamp and its path.
+/// The place of an entry, borrowed: its stamp and its path.
 #[derive(Clone, Copy, Drop)]
 pub struct Front<'a> {
     pub stamp: &'a Stamp,
@@ -23,7 +23,7 @@ pub fn front_of(change: &Change) -> Front<'_>
     }
 }
 
-/// The order of places of the relations numbered `ra` and `rb`: by stamp, then by relation, then by path.
+/// Compares places of the relations `ra` and `rb`: by stamp, then by relation, then by path.
 pub fn cmp_fronts(a: &Front<'_>, ra: u32, b: &Front<'_>, rb: u32) -> Ordering
     ensures { result ≡ between_cmp (place_at a.now) ra (place_at b.now) rb }
 {

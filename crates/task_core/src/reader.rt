@@ -1,4 +1,4 @@
-//! What a task takes of what its inputs show, in the order of the places.
+//! What a task reads of its inputs, in the order of the places.
 ghost use Rattle.std.specs.Prelude.{◌≡◌, ◌++◌, ◌+◌, ◌<◌, ◌==◌, IfOk, OnOk, drop, flat_map, length, option_map, slice_get, take};
 ghost use Rattle.op_chain.specs.Chain.{entries_of};
 ghost use Rattle.topic_log.specs.Order.{place_of};
@@ -15,11 +15,12 @@ use std::collections::VecDeque;
 use topic_log::Entries;
 use topology::SubInput;
 
-/// The most entries that a reader gives at once: few, so that they stay in the processor's cache while they go through the nodes.
+/// The most entries that a reader returns at once: few, so that they stay in the processor's cache on their way through
+/// the nodes.
 const MOST: usize = 32;
 
-/// What is left of what an input of a task shows, and the kind of relation to which its records speak: entries that are
-/// lent, and after them changes that were given.
+/// The rest of what an input of a task shows, and the kind of relation that its records speak to: borrowed entries, and
+/// after them changes that the task owns.
 #[derive(Drop)]
 pub struct Rest<'a> {
     pub kind: Kind,
@@ -28,7 +29,7 @@ pub struct Rest<'a> {
     pub given: VecDeque<Change>,
 }
 
-/// What is left of the inputs of a task. One that has no second input has nothing on the right.
+/// The rest of a task's inputs. Without a second input, the right side is empty.
 #[derive(Drop)]
 pub struct Reader<'a> {
     pub left: Rest<'a>,
@@ -43,7 +44,7 @@ impl Reader<'_> {
         self.left.is_done() && self.right.is_done()
     }
 
-    /// How many entries are left; out of memory where a usize can't count them.
+    /// The number of entries left; fails with out of memory if a usize can't count them.
     pub fn len(&self) -> Result<usize, AllocError>
         ensures { IfOk result (λ count. count ≡ left_len self.now) }
     {
@@ -52,7 +53,7 @@ impl Reader<'_> {
         left.checked_add(right).ok_or(AllocError)
     }
 
-    /// Takes the next entries of those that are left, some of them at once.
+    /// Takes the next entries, several at once.
     pub fn next(&mut self, alloc: Global) -> Result<Vec<Entry>, AllocError>
         requires order { IsOrdered self.old }
         ensures taken { IfOk result (λ made. entries_of made.items ++ pending self.new ≡ pending self.old) }
@@ -66,8 +67,8 @@ impl Reader<'_> {
         Ok(taken)
     }
 
-    /// Takes the entry whose place is next off those that are left, and adds what the task takes of it. On equal places
-    /// of one relation the left one goes first.
+    /// Takes the entry with the next place, and appends what the task reads of it. On equal places of one relation, the
+    /// left one goes first.
     fn step(&mut self, alloc: Global, taken: &mut Vec<Entry>) -> Result<(), AllocError>
         requires some { 0 < left_len self.old }
         requires order { IsOrdered self.old }
@@ -82,7 +83,7 @@ impl Reader<'_> {
         }
     }
 
-    /// Whether the first of the left entries goes next.
+    /// Whether the first entry on the left goes next.
     fn is_left_next(&self) -> bool
         ensures { let r = self.now in
             result ≡ goes_left r.left.input.relation r.right.input.relation (entries_left r.left) (entries_left r.right) }
@@ -107,7 +108,7 @@ impl Rest<'_> {
         self.entries.fed.is_empty() && self.entries.said.is_empty() && self.given.is_empty()
     }
 
-    /// How many entries are left; out of memory where a usize can't count them.
+    /// The number of entries left; fails with out of memory if a usize can't count them.
     fn len(&self) -> Result<usize, AllocError>
         ensures { IfOk result (λ count. count ≡ length (entries_left self.now)) }
     {
@@ -115,7 +116,7 @@ impl Rest<'_> {
         lent.checked_add(self.given.len()).ok_or(AllocError)
     }
 
-    /// The place of the first entry that is left, where there is one: a record has the empty path.
+    /// The place of the first entry left, if any: a record has the empty path.
     fn front(&self) -> Option<Front<'_>>
         ensures { option_map place_at result ≡ option_map place_of (slice_get (entries_left self.now) 0) }
     {
@@ -129,7 +130,7 @@ impl Rest<'_> {
         }
     }
 
-    /// Takes the first entry off, and adds what a task takes of it on a side.
+    /// Takes the first entry, and appends what a task reads of it on a side.
     fn take_first(
         &mut self,
         alloc: Global,

@@ -1,4 +1,4 @@
-//! What the operators of a task make of all that its inputs show.
+//! What the operators of a task make of everything that its inputs show.
 ghost use Rattle.std.specs.Prelude.{◌≡◌, ◌++◌, List, IfOk, OnOk};
 ghost use Rattle.ksql_nodes.specs.Entries.{Entry as OneEntry};
 ghost use Rattle.operator.specs.Holding.{Maps};
@@ -11,14 +11,14 @@ use ksql_types::StoreEntry;
 use op_chain::Chain;
 use std::alloc::{AllocError, Global};
 
-/// What became of a task's entries: its results, and what changed in its stores.
+/// The results of a task's entries, and what changed in its stores.
 #[derive(Drop)]
 pub struct Made {
     pub outputs: Vec<Change>,
     pub entries: Vec<StoreEntry>,
 }
 
-/// What operators make of all that a reader gives. After an error they are to be given up.
+/// What operators make of everything from a reader. After an error they must be dropped.
 pub fn made_of(chain: &mut Chain, alloc: Global, reader: Reader) -> Result<Made, AllocError>
     requires rest { chain.old ≡ at_rest chain.old.nodes (maps_in chain.old) }
     requires order { IsOrdered reader }
@@ -33,7 +33,7 @@ pub fn made_of(chain: &mut Chain, alloc: Global, reader: Reader) -> Result<Made,
     Ok(Made { outputs, entries })
 }
 
-/// Takes all that a reader gives through operators, some of it at once.
+/// Runs everything from a reader through operators, several entries at a time.
 fn run_all(
     chain: &mut Chain,
     alloc: Global,
@@ -58,7 +58,7 @@ fn run_all(
     Ok(())
 }
 
-/// Makes room for what the entries that are left, of so many in all, give if they give as much as those before.
+/// Reserves room for the results of the remaining entries, `left` of `all`, if they give as many as those before.
 fn reserve_rest(out: &mut Vec<Change>, all: usize, left: usize) -> Result<(), AllocError>
     ensures { out.new.items ≡ out.old.items }
 {

@@ -19,7 +19,7 @@ use std::marker::Model;
 use topic_log::Broker;
 use topology::{Sub, SubInput, SubInputs};
 
-/// A task of a sub-topology: its generation, the last feed that it went over, and an operator for each of its nodes.
+/// A task of a sub-topology: its generation, the last feed that it processed, and an operator for each of its nodes.
 #[derive(Drop)]
 pub struct Task {
     name: TaskName,
@@ -62,8 +62,8 @@ pub struct Moved {
 }
 
 impl Task {
-    /// A task that went over nothing yet. Each node of the sub-topology has an operator: a window is sound, and
-    /// over a stream.
+    /// A task that has processed nothing yet. Each node of the sub-topology must have an operator: a window is valid,
+    /// and over a stream.
     pub fn fresh(
         alloc: Global,
         sub: &Sub,
@@ -98,7 +98,7 @@ impl Task {
         })
     }
 
-    /// The task with the stores that a changelog makes of empty ones, done with this feed. After an error the task is given up.
+    /// The task with the stores from replaying a changelog, done with feed `done`. After an error the task is gone.
     pub fn load(self, alloc: Global, logs: &[StoreEntry], done: u64) -> Result<Task, AllocError>
         requires { All (MayLoad self.nodes) logs.now }
         ensures { IfOk result (λ task. task ≡ record self { done = done; maps = maps_after self.nodes logs.now }) }
@@ -122,8 +122,8 @@ impl Task {
         })
     }
 
-    /// The task after all entries of its inputs up to the feed up to which they are closed, and what it then proposes to
-    /// commit: nothing where it is done with that feed. The task isn't done with a later one.
+    /// The task after all entries of its inputs up to the feed up to which they are closed, and what it then proposes
+    /// to commit: nothing if it is already done with that feed. The task isn't done with a later one.
     pub fn advance(self, alloc: Global, broker: &Broker) -> Result<Moved, AllocError>
         requires readable { CanRead broker.now self }
         requires within { self.done ≤ bound_of (routes_in broker.now) (shelf_of broker.now) self }
@@ -144,7 +144,7 @@ impl Task {
         self.moved(alloc, reader, bound)
     }
 
-    /// As `advance`, for a task with one input that is given what the input shows: changes in the order of their places.
+    /// As `advance`, for a task with one input whose changes are passed in, in the order of their places.
     pub fn advance_over(
         self,
         alloc: Global,
@@ -173,7 +173,7 @@ impl Task {
         self.moved(alloc, reader, bound)
     }
 
-    /// The task as it is, which proposes nothing.
+    /// The unchanged task, which proposes nothing.
     fn still(self) -> Moved
         ensures task { result.task ≡ self }
         ensures proposal { result.proposal ≡ None }
@@ -184,7 +184,7 @@ impl Task {
         }
     }
 
-    /// The feeds after those that the task went over, up to a feed.
+    /// The feeds after those that the task processed, up to `to`.
     fn feeds(&self, to: u64) -> Feeds
         ensures { result ≡ record { part = self.now.name.part; from = self.now.done; to = to } }
     {
@@ -195,7 +195,7 @@ impl Task {
         }
     }
 
-    /// The task after all that a reader gives, up to a feed, and what it then proposes to commit.
+    /// The task after everything from a reader, up to feed `bound`, and what it then proposes to commit.
     fn moved(self, alloc: Global, reader: Reader, bound: u64) -> Result<Moved, AllocError>
         requires order { IsOrdered reader }
         requires stores { HaveOwnStores self.nodes }
@@ -243,7 +243,7 @@ impl Task {
         self.name
     }
 
-    /// The task's input, where it has only one.
+    /// The task's input, if it has only one.
     pub fn only_input(&self) -> Option<SubInput>
         ensures { result ≡ only self.now.inputs }
     {
@@ -253,7 +253,7 @@ impl Task {
         }
     }
 
-    /// The last feed that the task went over.
+    /// The last feed that the task processed.
     pub fn done(&self) -> u64
         ensures { result ≡ self.now.done }
     {

@@ -1,20 +1,20 @@
-//! Entries as a task reads them: with the cells of their keys in front of their rows.
+//! Entries as a task reads them: their rows begin with the cells of their keys.
 ghost use Rattle.std.specs.Prelude.{◌≡◌, ◌<◌, ◌++◌, ◌∷◌, [], IfOk, OnOk, map, option_map, vec_capacity, vec_len};
 ghost use Rattle.ksql_place.specs.Said.{saying};
 ghost use Rattle.ksql_nodes.specs.Entries.{from_side};
-ghost use Rattle.query_meaning.specs.Plain.{raw_body};
+ghost use Rattle.query_meaning.specs.Parts.{raw_body};
 ghost use Rattle.topology.specs.Contents.{with_cells};
 ghost use Rattle.op_chain.specs.Chain.{entries_of};
 ghost use Rattle.task_core.specs.Readers.{whole_row};
 
 use ksql_place::{Body, Change, Path, Place, SourceRecord, said_by};
 use ksql_types::{CopyOf, Items, Key, Kind, Row, Value};
-use node_steps::{push_copies, push_nulls};
 use op_chain::Entry;
+use row_steps::{push_copies, push_nulls};
 use std::alloc::{AllocError, Global};
 
-/// Adds an entry of a side: what a record says to a relation of a kind, with so many key columns in front of its row. Adds
-/// none where the record is skipped.
+/// Appends an entry on a side: what a record says to a relation of a kind, with `columns` key columns in front of its
+/// row. Appends nothing if the record is skipped.
 pub fn push_said(
     alloc: Global,
     taken: &mut Vec<Entry>,
@@ -47,7 +47,7 @@ pub fn push_said(
     Ok(())
 }
 
-/// Adds an entry of a side to those that have room for it.
+/// Appends an entry on a side to a list with room for it.
 fn put_entry(taken: &mut Vec<Entry>, side: u32, change: Change)
     requires { vec_len taken.old < vec_capacity taken.old }
     ensures { entries_of taken.new.items ≡ entries_of taken.old.items ++ from_side side (change ∷ []) }
@@ -55,7 +55,7 @@ fn put_entry(taken: &mut Vec<Entry>, side: u32, change: Change)
     taken.push_reserved(Entry { side, change });
 }
 
-/// What a row, or that there is none, says to a relation of a kind, with so many key columns in front of the row.
+/// The body of a record's change to a relation of a kind, given its row, if any, with `columns` key columns in front.
 fn said_body(
     alloc: Global,
     kind: Kind,
@@ -79,7 +79,7 @@ fn said_body(
     }
 }
 
-/// Adds an entry of a side: a change with so many key columns in front of its rows, or as it is where that is none.
+/// Appends an entry on a side: a change with `columns` key columns in front of its rows, or unchanged if that is none.
 pub fn push_whole(
     alloc: Global,
     taken: &mut Vec<Entry>,
@@ -103,7 +103,7 @@ pub fn push_whole(
     Ok(())
 }
 
-/// Adds an entry of a side: a change that was given, with so many key columns in front of its rows. Copies nothing where that
+/// Appends an entry on a side: an owned change, with `columns` key columns in front of its rows. Copies nothing if that
 /// is none.
 pub fn push_given(
     alloc: Global,
@@ -123,7 +123,7 @@ pub fn push_given(
     Ok(())
 }
 
-/// What a change says, with so many key columns in front of its rows, or as it is where that is none.
+/// The body of a change, with `columns` key columns in front of its rows, or unchanged if that is none.
 fn whole_body(alloc: Global, columns: u32, change: &Change) -> Result<Body, AllocError>
     ensures { IfOk result (λ made. made ≡ (with_cells columns change.now).body) }
 {
@@ -137,7 +137,7 @@ fn whole_body(alloc: Global, columns: u32, change: &Change) -> Result<Body, Allo
     }
 }
 
-/// A row after so many key columns, where there is one.
+/// A row after `columns` key columns, if there is a row.
 fn perhaps_whole(
     alloc: Global,
     columns: u32,
@@ -152,7 +152,7 @@ fn perhaps_whole(
     }
 }
 
-/// A row after so many key columns, or as it is where that is none. A change without a key has NULL there.
+/// A row after `columns` key columns, or unchanged if that is none. If the change has no key, they are NULL.
 fn whole_row(alloc: Global, columns: u32, key: &Key, row: &Row) -> Result<Row, AllocError>
     ensures { IfOk result (λ made. made ≡ whole_row columns key.now row.now) }
 {

@@ -1,4 +1,4 @@
-//! Tasks made anew from their changelogs.
+//! Tasks restored from their changelogs.
 #![tactic(auto)]
 
 mod restoring;

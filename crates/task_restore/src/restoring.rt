@@ -6,8 +6,8 @@ use std::alloc::{AllocError, Global};
 use task_core::Task;
 use topology::Sub;
 
-/// A task of a sub-topology made anew from its changelog alone: its stores are what the changelog makes of empty ones, and it
-/// is done with this feed. Each node has an operator, and each entry may be loaded.
+/// A task of a sub-topology restored from its changelog alone: its stores are the replay of the changelog, and it is
+/// done with feed `done`. Each node must have an operator, and each entry must be loadable.
 pub fn restore(
     alloc: Global,
     sub: &Sub,

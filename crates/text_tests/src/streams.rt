@@ -1,6 +1,6 @@
-//! What several of the tests build on: short texts, and streams over their topics.
+//! What several of the tables build on: short texts, streams over their topics, and columns.
 
-use ksql_types::{Chars, Format, Items, Kind, Relation, Schema};
+use ksql_types::{Chars, Column, Format, Items, Kind, Relation, Schema, SqlType};
 use std::alloc::{AllocError, Global};
 
 #[tactic(auto, unfolding(ksql_types::specs::Text::longest_text))]
@@ -11,7 +11,7 @@ pub fn chars(alloc: Global, text: &str) -> Result<Chars, AllocError> {
     Ok(Chars::of(String::from_str(alloc, text)?)?)
 }
 
-/// A declared stream of this number over a topic, in two partitions and without columns.
+/// A declared stream with this number over a topic, with two partitions and no columns.
 pub fn stream(alloc: Global, number: u32, topic: &str) -> Result<Relation, AllocError> {
     Ok(Relation {
         number,
@@ -26,4 +26,29 @@ pub fn stream(alloc: Global, number: u32, topic: &str) -> Result<Relation, Alloc
         format: Format::Json,
         declared: true,
     })
+}
+
+/// The column of a text `NAME:TYPE`, where the type is `int`, `big`, `bool` or `text`.
+fn column(alloc: Global, text: &str) -> Result<Column, AllocError> {
+    let (name, ty) = text.split_once(':').unwrap_or((text, "text"));
+    let ty = match ty {
+        "int" => SqlType::Int,
+        "big" => SqlType::Big,
+        "bool" => SqlType::Bool,
+        _ => SqlType::Text,
+    };
+    let name = chars(alloc, name)?;
+    Ok(Column { name, ty })
+}
+
+/// A stream with the text key K and these columns, with a blank between each two.
+pub fn stream_with(alloc: Global, columns: &str) -> Result<Relation, AllocError> {
+    let mut stream = stream(alloc, 3, "r")?;
+    let mut values = Vec::new(alloc);
+    for text in columns.split(' ') {
+        values.push(column(alloc, text)?)?;
+    }
+    stream.schema.keys = Items::of(vec![in alloc; column(alloc, "K:text")?]?);
+    stream.schema.values = Items::of(values);
+    Ok(stream)
 }

@@ -1,193 +1,87 @@
 use core_state::JournalEntry;
 use ksql_types::TaskName;
 use std::alloc::{AllocError, Global};
-use std::test::Fail;
 use topology::{Lined, Step};
 use trace_text::push_trace;
 
-fn task(sub: u32, part: u32) -> TaskName {
-    TaskName { sub, part }
+/// The first word of a text, and the numbers after it.
+fn words(text: &str) -> (&str, [u32; 4]) {
+    let (word, rest) = text.split_once(' ').unwrap_or((text, ""));
+    let mut numbers = [0; 4];
+    for (number, digits) in numbers.iter_mut().zip(rest.split(' ')) {
+        *number = digits.parse::<u32>().unwrap_or(0);
+    }
+    (word, numbers)
 }
 
-fn step(line: u32) -> JournalEntry {
-    JournalEntry::Step { line }
-}
-
-fn committed(sub: u32, part: u32) -> JournalEntry {
-    JournalEntry::Committed {
-        task: task(sub, part),
-        from: 0,
-        to: 1,
+/// The entry of a text as `restored SUB PART WORKER GENERATION`.
+fn entry(text: &str) -> JournalEntry {
+    let (word, [first, part, third, fourth]) = words(text);
+    let task = TaskName { sub: first, part };
+    match word {
+        "step" => JournalEntry::Step { line: first },
+        "fed" => JournalEntry::Fed {
+            feed: u64::from(first),
+            records: u64::from(part),
+        },
+        "round" => JournalEntry::Round { number: first },
+        "committed" => JournalEntry::Committed {
+            task,
+            from: 0,
+            to: 1,
+        },
+        "fenced" => JournalEntry::Fenced {
+            task,
+            held: u64::from(third),
+            newest: u64::from(fourth),
+        },
+        "left" => JournalEntry::Left {
+            task,
+            generation: u64::from(third),
+        },
+        _ => JournalEntry::Restored {
+            task,
+            worker: third,
+            generation: u64::from(fourth),
+            done: 0,
+        },
     }
 }
 
-fn left(sub: u32, part: u32, generation: u64) -> JournalEntry {
-    JournalEntry::Left {
-        task: task(sub, part),
-        generation,
-    }
-}
-
-fn restored(sub: u32, part: u32, worker: u32, generation: u64) -> JournalEntry {
-    JournalEntry::Restored {
-        task: task(sub, part),
-        worker,
-        generation,
-        done: 0,
-    }
-}
-
-fn lined(line: u32, step: Step) -> Lined {
+/// The step of a text as `lose LINE SUB PART`.
+fn lined(text: &str) -> Lined {
+    let (word, [line, first, part, _]) = words(text);
+    let step = match word {
+        "feed" => Step::FeedAll,
+        "lost" => Step::Round {
+            lost: Some(first),
+            stalled: None,
+        },
+        "stalled" => Step::Round {
+            lost: None,
+            stalled: Some(first),
+        },
+        "start" => Step::Start(first),
+        "stop" => Step::Stop(first),
+        "wake" => Step::Wake(first),
+        "lose" => Step::Lose(TaskName { sub: first, part }),
+        _ => Step::Drain,
+    };
     Lined { line, step }
 }
 
-fn round(number: u32) -> JournalEntry {
-    JournalEntry::Round { number }
-}
-
-fn trace(alloc: Global, journal: &[JournalEntry], steps: &[Lined]) -> Result<String, AllocError> {
+/// The trace of a text `STEPS | ENTRIES`, with `, ` between each two.
+pub fn trace(alloc: Global, text: &str) -> Result<String, AllocError> {
+    let (steps, entries) = text.split_once(" | ").unwrap_or(("", text));
+    let mut lines = Vec::new(alloc);
+    for step in steps.split(", ") {
+        lines.push(lined(step))?;
+    }
+    let mut journal = Vec::new(alloc);
+    for text in entries.split(", ") {
+        journal.push(entry(text))?;
+    }
     let mut out = String::new(alloc);
-    push_trace(&mut out, journal, steps)?;
+    push_trace(&mut out, &journal, &lines)?;
     Ok(out)
-}
-
-/// A feed, a round in which the only worker is lost, another worker, and a drain.
-fn of_four_steps() -> [JournalEntry; 25] {
-    [
-        step(0),
-        restored(0, 0, 1, 1),
-        restored(0, 1, 1, 1),
-        restored(1, 0, 1, 1),
-        restored(1, 1, 1, 1),
-        step(1),
-        JournalEntry::Fed {
-            feed: 1,
-            records: 2,
-        },
-        step(2),
-        round(1),
-        left(0, 0, 2),
-        left(0, 1, 2),
-        left(1, 0, 2),
-        left(1, 1, 2),
-        step(3),
-        restored(0, 0, 2, 2),
-        restored(0, 1, 2, 2),
-        restored(1, 0, 2, 2),
-        restored(1, 1, 2, 2),
-        step(4),
-        round(2),
-        committed(0, 0),
-        committed(0, 1),
-        round(3),
-        committed(1, 0),
-        committed(1, 1),
-    ]
-}
-
-const FOUR_STEPS: &str = "trace\nstep 0\nrestore 0_0 worker 1 generation 1 at 0\n\
-        restore 0_1 worker 1 generation 1 at 0\nrestore 1_0 worker 1 generation 1 at 0\n\
-        restore 1_1 worker 1 generation 1 at 0\nstep 1\nfeed 1 records 2\nstep 2\nround 1\n\
-        gone 1\nstep 3\nstart 2\nrestore 0_0 worker 2 generation 2 at 0\n\
-        restore 0_1 worker 2 generation 2 at 0\nrestore 1_0 worker 2 generation 2 at 0\n\
-        restore 1_1 worker 2 generation 2 at 0\nstep 4\nround 2\ncommit 0_0 0 1\n\
-        commit 0_1 0 1\nround 3\ncommit 1_0 0 1\ncommit 1_1 0 1\n";
-
-#[test]
-fn a_worker_is_lost_and_another_one_comes(rt: HostRuntime) -> Result<(), Fail> {
-    let alloc = rt.alloc();
-    let lose = Step::Round {
-        lost: Some(1),
-        stalled: None,
-    };
-    let steps = [
-        lined(1, Step::FeedAll),
-        lined(2, lose),
-        lined(3, Step::Start(2)),
-        lined(4, Step::Drain),
-    ];
-    assert_eq!(rt;
-        trace(alloc, &of_four_steps(), &steps)?.as_str(),
-        FOUR_STEPS
-    );
-    Ok(())
-}
-
-#[test]
-fn a_task_moves_to_a_worker_that_comes(rt: HostRuntime) -> Result<(), Fail> {
-    let alloc = rt.alloc();
-    let journal = [
-        step(0),
-        restored(0, 0, 1, 1),
-        restored(0, 1, 2, 1),
-        restored(0, 2, 1, 1),
-        restored(0, 3, 2, 1),
-        restored(0, 4, 1, 1),
-        step(1),
-        left(0, 4, 2),
-        restored(0, 4, 3, 2),
-    ];
-    let steps = [lined(1, Step::Start(3))];
-    let expected = "trace\nstep 0\nrestore 0_0 worker 1 generation 1 at 0\n\
-        restore 0_1 worker 2 generation 1 at 0\nrestore 0_2 worker 1 generation 1 at 0\n\
-        restore 0_3 worker 2 generation 1 at 0\nrestore 0_4 worker 1 generation 1 at 0\n\
-        step 1\nstart 3\nrestore 0_4 worker 3 generation 2 at 0\n";
-    assert_eq!(rt; trace(alloc, &journal, &steps)?.as_str(), expected);
-    Ok(())
-}
-
-#[test]
-fn a_task_is_lost_where_it_has_an_owner(rt: HostRuntime) -> Result<(), Fail> {
-    let alloc = rt.alloc();
-    let journal = [
-        step(0),
-        restored(0, 0, 1, 1),
-        step(3),
-        left(0, 0, 2),
-        restored(0, 0, 1, 2),
-        step(5),
-        left(0, 0, 3),
-        step(12),
-    ];
-    let steps = [
-        lined(3, Step::Lose(task(0, 0))),
-        lined(5, Step::Stop(1)),
-        lined(12, Step::Lose(task(0, 0))),
-    ];
-    let expected = "trace\nstep 0\nrestore 0_0 worker 1 generation 1 at 0\n\
-        step 3\nlose 0_0\nrestore 0_0 worker 1 generation 2 at 0\nstep 5\nstop 1\nstep 12\n";
-    assert_eq!(rt; trace(alloc, &journal, &steps)?.as_str(), expected);
-    Ok(())
-}
-
-#[test]
-fn a_worker_stalls_and_wakes(rt: HostRuntime) -> Result<(), Fail> {
-    let alloc = rt.alloc();
-    let fenced = JournalEntry::Fenced {
-        task: task(0, 1),
-        held: 1,
-        newest: 2,
-    };
-    let journal = [
-        step(0),
-        step(1),
-        round(1),
-        committed(0, 0),
-        left(0, 1, 2),
-        restored(0, 1, 1, 2),
-        step(2),
-        fenced,
-        left(0, 1, 3),
-        restored(0, 1, 2, 3),
-    ];
-    let stall = Step::Round {
-        lost: None,
-        stalled: Some(2),
-    };
-    let steps = [lined(1, stall), lined(2, Step::Wake(2))];
-    let expected = "trace\nstep 0\nstep 1\nround 1\ncommit 0_0 0 1\nstall 2\n\
-        restore 0_1 worker 1 generation 2 at 0\nstep 2\nwake 2\n\
-        fenced 0_1 held 1 newest 2\nrestore 0_1 worker 2 generation 3 at 0\n";
-    assert_eq!(rt; trace(alloc, &journal, &steps)?.as_str(), expected);
-    Ok(())
 }

@@ -35,7 +35,7 @@ module _ (x : Stamp) where
       by true is = absurd (apart (ap (λ (t : Stamp). t.part) (stamps-tied x s is)))
       by false is = is
 
-  -- they stand in x's own partition
+  -- they are in x's own partition
   own-part : (part : ℕ) (rs : List SourceRecord) → x.part ≡ part → filter (same x) (stamps (in_part part rs)) ≡ filter (same x) (stamps rs)
   own-part part [] own = refl
   own-part part (r ∷ rs) own = by (r.stamp.part == part) refl (own-part part rs own)
@@ -65,7 +65,7 @@ module _ (x : Stamp) where
       let below : r.stamp.part < n = within.0 in
       ap₂ (λ (b : Bool) (ss : List Stamp). cond b (r.stamp ∷ ss) ss) (untied r.stamp (λ own. absurd (omega (arith, own)))) (beyond n rs within.1 over)
 
-  -- partitions from a on, none of which is x's
+  -- partitions from a on, without x's
   outside : (rs : List SourceRecord) (a n : ℕ) → ((part : ℕ) → a ≤ part → part < a + n → x.part ≡ part → ⊥) →
       filter (same x) (flat_map (λ part. stamps (in_part part rs)) (range_with_len a n)) ≡ []
   outside rs a zero apart = refl
@@ -75,7 +75,7 @@ module _ (x : Stamp) where
       (other-part a rs (apart a (omega arith) (omega arith)))
       (outside rs (a + 1) n (λ part low below. apart part (omega (arith, low)) (omega (arith, below))))
 
-  -- partitions from a on, one of which is x's
+  -- partitions from a on, including x's
   inside : (rs : List SourceRecord) (a n : ℕ) → a ≤ x.part → x.part < a + n →
       filter (same x) (flat_map (λ part. stamps (in_part part rs)) (range_with_len a n)) ≡ filter (same x) (stamps rs)
   inside rs a zero low below = absurd (omega arith)
@@ -160,7 +160,7 @@ distinct-topic number f a (suc n) rest own topic others distinct =
     (others-after (f a) f (a + 1) n rest own (omega (arith, own a)) (subst (λ (t : ℕ). AllByRecursion (λ (q : PartTimes). t ≢ q.topic) rest) (sym (topic a)) others)))
     (distinct-topic number f (a + 1) n rest own topic others distinct)
 
--- a topic is none of others' topics
+-- a topic isn't one of the others' topics
 part-topics : (number : ℕ) (f : ℕ → PartTimes) (a n : ℕ) (rest : List PartTimes) → ((part : ℕ) → number ≢ (f part).topic) →
     AllByRecursion (λ q. number ≢ q.topic) rest → AllByRecursion (λ q. number ≢ q.topic) (map f (range_with_len a n) ++ rest)
 part-topics number f a zero rest other others = others

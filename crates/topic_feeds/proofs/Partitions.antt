@@ -110,7 +110,7 @@ part-stamped feed relation before feds part none =
     fed-stamped feed relation part first before feds (omega (arith, ap length nothing))
     ∙ ap (λ (ts : List ℕ). stamped feed relation.number part first ts (times_of (in_part part (fed_from feed relation before feds)))) nothing
 
--- each record stands in one of so many partitions
+-- each record is in one of n partitions
 abbrev pub AreWithin : ℕ → List SourceRecord → Type 0
 AreWithin n [] = Unit {0}
 AreWithin n (r ∷ rs) = (r.stamp.part < n) × AreWithin n rs

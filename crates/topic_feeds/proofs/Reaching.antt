@@ -17,7 +17,7 @@ use Rattle.topic_feeds.specs.Reaching.{Reaches}
 use Rattle.topic_feeds.proofs.Feeds.{fed-length}
 use Rattle.topic_feeds.proofs.Partitions.{feed_times, feed_times-own, in_part-own, in_part-other, none_before, times_of}
 
--- numbers of partitions, one of which is written
+-- numbers of partitions, where one is written
 each-set : (n own next : ℕ) (f g : ℕ → ℕ) (xs : List ℕ) → length xs ≡ n → own < n → next ≡ g own →
     ((part : ℕ) → (own == part) ≡ false → f part ≡ g part) → ((part d : ℕ) → part < n → get_or xs part d ≡ f part) →
     (part d : ℕ) → part < n → get_or (set xs own next) part d ≡ g part
@@ -131,7 +131,7 @@ module _ (feed : ℕ) (relation : Relation) (feds : List Fed) (before since : Li
     };
   }
 
--- one more record after those that were there before the feed
+-- one more record after those from before the feed
 pub since-next : (old items new : List SourceRecord) (r : SourceRecord) → items ≡ old ++ drop (length old) items → new ≡ items ++ r ∷ [] →
     (new ≡ old ++ drop (length old) new) × (drop (length old) new ≡ drop (length old) items ++ r ∷ [])
 since-next old items new r kept new-is =

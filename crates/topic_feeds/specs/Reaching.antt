@@ -5,7 +5,7 @@ use Rattle.ksql_place.specs.declared.change.SourceRecord.{SourceRecord}
 use Rattle.topic_feeds.specs.declared.feeding.Reached.{Reached}
 use Rattle.topic_feeds.specs.Feeding.{in_part}
 
--- a relation's topic has been fed so far where it has these records: their number, and that of each partition
+-- a relation's topic has been fed these records so far: their number, in all and in each partition
 pub record Reaches (relation : Relation) (before : List SourceRecord) (reached : Reached) : Type 0 where
   pub count : reached.count ≡ length before
   pub long : length reached.parts.items ≡ relation.partitions

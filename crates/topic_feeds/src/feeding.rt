@@ -9,7 +9,7 @@ use ksql_types::{Key, Relation, lane};
 use std::alloc::{AllocError, Global};
 use topic_files::Feds;
 
-/// How far a topic has been fed: its records, in all and in each partition.
+/// How far a topic has been fed: the number of its records, in all and in each partition.
 #[derive(Drop)]
 pub struct Reached {
     count: u64,
@@ -25,9 +25,9 @@ impl Reached {
         Ok(Reached { count: 0, parts })
     }
 
-    /// Adds the records that the feed of this number brings: each with its partition, its offset, which goes on from
-    /// the feeds before, and the greatest time of its partition in this feed up to it. The relation has 1 to 64
-    /// partitions, and no record before is of this feed. Takes steps in proportion to the records.
+    /// Appends the records that feed `feed` brings: each with its partition, its offset, which continues from the
+    /// earlier feeds, and the greatest time in its partition in this feed up to it. The relation has 1 to 64
+    /// partitions, and no earlier record is of this feed. Takes time linear in the records.
     pub fn feed(
         &mut self,
         alloc: Global,

@@ -1,4 +1,4 @@
-//! Laws of the records that are fed. None of these functions does anything.
+//! Laws of the records that are fed. These functions do nothing.
 ghost use Rattle.std.specs.Prelude.{◌≡◌, ◌≢◌, ◌≤◌, ℕ, All, List, map};
 ghost use Rattle.std.specs.List.{AllPairs};
 ghost use Rattle.ksql_types.specs.declared.relation.Relation.{Relation as OneRelation};
@@ -9,10 +9,9 @@ ghost use Rattle.ksql_place.specs.Order.{part_stamps, record_cmp, stamps_of};
 ghost use Rattle.topic_files.specs.declared.topic.Fed.{Fed as OneFed};
 ghost use Rattle.topic_feeds.specs.Feeding.{fed_from, feed_of, in_part, part_of, parts_of, Feeding};
 
-/// The stamps of the records that a feed brings to a partition are those of their times, from the offset on that the
-/// feeds before left. The order of a feed has the stamps of all partitions of its topics, where each relation has a
-/// partition. Where the numbers of the relations differ, it is what comes of taking again and again the head with the
-/// smallest time.
+/// The stamps of the records that a feed brings to a partition are those of their times, from the offset where the
+/// earlier feeds ended. If each relation has a partition, the order of a feed has the stamps of all partitions of its
+/// topics. If the relations have different numbers, it results from repeatedly taking the head with the smallest time.
 pub fn feeds_are_merged()
     ensures parts { (feed : ℕ) (relation : OneRelation) (before : List OneRecord) (feds : List OneFed) (part : ℕ) →
         All (λ r. r.stamp.feed ≢ feed) before →

@@ -1,4 +1,4 @@
-//! The records of topic files as they are fed: partitions, offsets and stamps.
+//! The records of topic files when they are fed: partitions, offsets and stamps.
 #![tactic(auto)]
 
 mod feeding;

@@ -84,13 +84,13 @@ whole-parsed field (Err e) none parsed = elim (cases_Bool (are_digits (without_m
 
 -- ---- truth values
 
--- a field is like a text where they are equal in small letters
+-- a field matches a text if they are equal in lower case
 pub is_like-text : (text field : List ℕ) (b : Bool) → IsTrue b ↔ (map to_ascii_lowercase field ≡ map to_ascii_lowercase text) → is_like text field ≡ b
 is_like-text text field b test = is_like-is text field b (λ t. sym (test.0 t), λ e. test.1 (sym e))
 
 -- ---- rows
 
--- fields that are not as many as the columns are no row
+-- if there are more or fewer fields than columns, they are no row
 pub row_of-lengths : (columns : List Column) (fields : List (List ℕ)) → length fields ≢ length columns → row_of columns fields ≡ None
 row_of-lengths [] [] other = absurd (other refl)
 row_of-lengths [] (field ∷ fields) other = refl

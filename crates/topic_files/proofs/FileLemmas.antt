@@ -99,7 +99,7 @@ feds_of-record relation lines line fed e is =
 
 -- ---- faults
 
--- a line is a topic line where it says a record
+-- a line is a topic line if it has a record
 is_topic_line-is : (relation : Relation) (line : List ℕ) → is_topic_line line ≡ is_some (fed_of relation line)
 is_topic_line-is relation line = by_data (data_of line)
   where
@@ -162,7 +162,7 @@ refused_is refusal number why found said is line cause e =
     let alike : why ≡ cause = cc in
     is ∙ ap₂ (λ n w. Some (n, w)) same alike
 
--- and so it is what is answered
+-- so it is the result
 pub refused_answers : (refusal : FileFault) (number : ℕ) (why : LineWhy) (found : Option (ℕ × LineWhy)) (lines : TopicLines)
     → refusal ≡ Refused number why → found ≡ Some (number, why) → ◌≡◌ {A = Result TopicLines FileFault} (Err refusal) (answer found lines)
 refused_answers refusal number why found lines said is = ap Err said ∙ ap (λ f. answer f lines) (sym is)

@@ -74,7 +74,7 @@ module _ (p : Parse json.Json) (all : List Token) (fields : Fields) (left : List
 
 -- ---- a whole text
 
--- the fields of a value that is read of these tokens, where no token is left
+-- the fields of a value read from these tokens, if no token remains
 abbrev whole : List Token → Option Fields
 whole ts = option_and_then fields_of (option_and_then of_json (option_and_then (λ p. if_last p.0 p.1) (value 127 ts)))
 
@@ -113,7 +113,7 @@ no_object text none = by_tokens (tokens text) none
     by_tokens (Token.null ∷ ts) e = no_fields_last json.null ts refl
     by_tokens (Token.bad ∷ ts) e = refl
 
--- fields, where no token is left
+-- fields, if no token remains
 abbrev if_end : Fields → List Token → Option Fields
 if_end fields [] = Some fields
 if_end fields (t ∷ ts) = None
@@ -182,7 +182,7 @@ module _ (text : List ℕ) (left : List Token) (opens : after_begin_object (toke
   more_follows t rest found is =
       not_ended found t rest ∙ ap (option_and_then (λ (p : Fields × List Token). if_end p.0 p.1)) is ∙ sym (begun text left opens)
 
-  -- the fields of an object's members are the text's where no token comes next
+  -- the fields of an object's members are the text's if no token comes next
   pub if_last_read : (rest new : List Token) (next : Option Read) (ends : Bool) (fields : Fields) → Some (fields, rest) ≡ parse_map fields_in (members_within 126 left)
       → MatchOption next ((rest ≡ []) × (new ≡ [])) (λ t. rest ≡ token_of t ∷ new) → is_some next ≡ not ends → if_read ends fields ≡ option_and_then fields_of (read text)
   if_last_read rest new None true fields is left_over e = whole_object rest (Some fields) is left_over.0

@@ -24,7 +24,7 @@ lines_of-at xs i inside feed before =
     ∙ without_empty_end-cons _ _ (omega (arith, length-slice_split is_line_feed (after_first is_line_feed xs)))
     ∙ ap (λ n. take n xs ∷ lines_of (drop (n + 1) xs)) at
 
--- a file without a line feed is one line
+-- a file without a line feed is a single line
 pub lines_of-whole : (xs : List ℕ) → 0 < length xs → ((k : ℕ) → k < length xs → get_or xs k 0 ≢ 10) → lines_of xs ≡ xs ∷ []
 lines_of-whole xs some none =
     ap without_empty_end (slice_split_none is_line_feed xs (All-from_get_or (λ x. is_line_feed x ≡ false) xs 0 (λ k below. ne_eqb _ 10 (none k below))))

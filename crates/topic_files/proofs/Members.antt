@@ -1,4 +1,4 @@
--- Members that are put one after another: which of those that are like a name is the least.
+-- Members added one by one: the least among those that match a name.
 use Rattle.std.proofs.Common.{◌≡◌, ℕ, ◌+◌, ◌<◌, List, [], ◌∷◌, length, get_or, take, map, Bool, true, false, cond, ◌↔◌, IsTrue, Option, Some, None, Bor, refl, sym, ap, ◌∙◌, arith}
 use Rattle.std.specs.Char.{to_ascii_lowercase, to_ascii_uppercase}
 use Rattle.std.specs.declared.cmp.Ordering.{Ordering}
@@ -16,7 +16,7 @@ use Rattle.topic_files.specs.Tree.{members_view, named, view}
 use Rattle.topic_files.specs.declared.tree.Json.{Json}
 use Rattle.topic_files.proofs.TreeLemmas.{members_view-take}
 
--- ---- names that are alike
+-- ---- names that match
 
 upper-lower : (x y : ℕ) → to_ascii_lowercase x ≡ to_ascii_lowercase y → to_ascii_uppercase x ≡ to_ascii_uppercase y
 upper-lower x y e = grind (arith, nat_tests)
@@ -34,7 +34,7 @@ same_maps f g each (x ∷ xs) (y ∷ ys) e =
     let rest : map f xs ≡ map f ys = cc in
     cc (each x y first, same_maps f g each xs ys rest)
 
--- two names are alike where they are equal in lower case
+-- two names match if they are equal in lower case
 pub is_like-is : (name other : List ℕ) (b : Bool) → IsTrue b ↔ (map to_ascii_lowercase name ≡ map to_ascii_lowercase other) → is_like name other ≡ b
 is_like-is name other b test =
     let decides = bytes_eq-Decides (map to_ascii_uppercase name) (map to_ascii_uppercase other) in
@@ -121,14 +121,14 @@ least_like-put name key d (member l e ms) = by_order (order key l) refl (least_l
         one_more-replaced name l d e (least_like name ms) ∙ ap (λ k. one_more name (k, d) (one_more name (l, e) (least_like name ms))) (sym same)
     by_order Greater is later = ap (one_more name (l, e)) later ∙ one_more-swap name key l d e (least_like name ms) is
 
--- the member at this place, where it is like the name: the lesser of it and of what was found before
+-- the member at this place, if it matches the name: the lesser of it and what was found before
 pub least_like-here : (name : List ℕ) (ms : List (Bor (List ℕ) × Json)) (i : ℕ) (m : Bor (List ℕ) × Json) → i < length ms → m ≡ get_or ms i m → is_like m.0.now name ≡ true
     → least_like name (members_view (take (i + 1) ms)) ≡ Some (lesser (named m) (least_like name (members_view (take i ms))))
 least_like-here name ms i m inside is like =
     let before = least_like name (members_view (take i ms)) in
     ap (least_like name) (members_view-take ms i m inside is) ∙ least_like-put name m.0.now (view m.1) (members_view (take i ms)) ∙ ap (λ b. cond b (Some (lesser (named m) before)) before) like
 
--- where it isn't like the name, it is passed over
+-- if it doesn't match the name, it is skipped
 pub least_like-elsewhere : (name : List ℕ) (ms : List (Bor (List ℕ) × Json)) (i : ℕ) (m : Bor (List ℕ) × Json) → i < length ms → m ≡ get_or ms i m → is_like m.0.now name ≡ false
     → least_like name (members_view (take (i + 1) ms)) ≡ least_like name (members_view (take i ms))
 least_like-elsewhere name ms i m inside is unlike =

@@ -23,7 +23,7 @@ data_read {A} {B} f (Some p) b rest e = by_data (f p.0) refl e
     by_data None is e = absurd (cc)
     by_data (Some y) is e = let same : ◌≡◌ {A = B × List Token} (y, p.1) (b, rest) = cc in (p.0, ap (λ q. Some (p.0, q.1)) same, is ∙ ap (λ q. Some q.0) same)
 
--- where none was read, there is no JSON, or it is no data
+-- if none was read, there is no JSON, or it is no data
 no_data_read : {A B : Type 0} (f : A → Option B) (p : A × List Token) → None ≡ converted f (Some p) → f p.0 ≡ None
 no_data_read {A} {B} f p e = by_data (f p.0) e
   where

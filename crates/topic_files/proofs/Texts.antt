@@ -13,7 +13,7 @@ use Rattle.topic_files.specs.Printed.{after_commas, comma_joined, fields_of, lab
 -- one text after another, in any grouping
 pub ruleset appends = (append_assoc)
 
--- a text without quotes, backslashes and controls stands as it is
+-- a text without quotes, backslashes and controls needs no escapes
 pub escape-plain : (text : List ℕ) → list_all is_plain text ≡ true → escape text ≡ text
 escape-plain [] plain = refl
 escape-plain (x ∷ xs) plain =
@@ -24,10 +24,10 @@ escape-plain (x ∷ xs) plain =
     let rest = escape-plain xs parts.1 in
     λ i. first i ++ rest i
 
--- one text after another, and texts that stand as they are
+-- one text after another, and texts without escapes
 pub ruleset plain_texts = (append_assoc, escape-plain)
 
--- what stands between these pieces and a next one
+-- what comes between these pieces and a next one
 unfoldable pub comma_after : List (List ℕ) → List ℕ
 comma_after [] = []
 comma_after (piece ∷ pieces) = 44 ∷ []
@@ -106,7 +106,7 @@ fields_of-min (l ∷ labels) [] (suc n) e = absurd (omega arith)
 fields_of-min (l ∷ labels) (v ∷ row) (suc n) e =
     ap (λ fields. (l ++ printed v) ∷ fields) (fields_of-min labels row n (omega arith))
 
--- the fields of one more label and value, which stand at place n
+-- the fields with one more label and value, at place n
 pub fields_of-next : (labels : List (List ℕ)) (row : List Value) (n next : ℕ) (label : List ℕ) (value : Value)
     → next ≡ n + 1 → n < length labels → n < length row → label ≡ get_or labels n label → value ≡ get_or row n value
     → fields_of (take next labels) (take next row) ≡ fields_of (take n labels) (take n row) ++ (label ++ printed value) ∷ []

@@ -46,7 +46,7 @@ pub members_view-take : (ms : List (Bor (List ℕ) × Json)) (i : ℕ) (m : Bor 
 members_view-take ms i m inside is =
     ap members_view (take_more ms i m inside ∙ ap (λ k. take i ms ++ k ∷ []) (sym is)) ∙ members_view-push (take i ms) m
 
--- where it has this name, it is what is found
+-- if it has this name, it is what is found
 pub get_member-here : (name : List ℕ) (ms : List (Bor (List ℕ) × Json)) (i : ℕ) (m : Bor (List ℕ) × Json) → i < length ms → m ≡ get_or ms i m
     → bytes_eq m.0.now name ≡ true → get_member name (members_view (take (i + 1) ms)) ≡ Some (view m.1)
 get_member-here name ms i m inside is same =
@@ -54,7 +54,7 @@ get_member-here name ms i m inside is same =
     ap (get_member name) (members_view-take ms i m inside is ∙ ap (λ k. put k (view m.1) (members_view (take i ms))) named)
     ∙ get_member-put name (view m.1) (members_view (take i ms))
 
--- where it has another name, it changes nothing
+-- if it has another name, it changes nothing
 pub get_member-elsewhere : (name : List ℕ) (ms : List (Bor (List ℕ) × Json)) (i : ℕ) (m : Bor (List ℕ) × Json) → i < length ms → m ≡ get_or ms i m
     → bytes_eq m.0.now name ≡ false → get_member name (members_view (take (i + 1) ms)) ≡ get_member name (members_view (take i ms))
 get_member-elsewhere name ms i m inside is other =

@@ -17,12 +17,12 @@ use Rattle.topic_files.specs.Cells.{as_int, is_like, text_value, truth_text}
 
 -- ---- reading
 
--- the fields of a row, None where there is none or another row comes after it
+-- the fields of the only row, None if there is none or another row follows
 abbrev alone : Option Read → Option (List (List ℕ))
 alone None = None
 alone (Some row) = if is_some (next_record default_config row.1 [] [] row.2) then None else Some row.0
 
--- the fields of a text that is exactly one row, None of any other text
+-- the fields of a text that is exactly one row, None for any other text
 abbrev pub fields_of : List ℕ → Option (List (List ℕ))
 fields_of text = alone (next_record default_config StartRecord [] [] (strip_bom text))
 
@@ -31,31 +31,31 @@ abbrev pub without_minus : List ℕ → List ℕ
 without_minus [] = []
 without_minus (byte ∷ more) = if byte == 45 then more else byte ∷ more
 
--- the whole number that a field writes: an optional minus sign and digits
+-- the whole number in a field: an optional minus sign and digits
 abbrev pub whole : List ℕ → Option ℤ
 whole field = if are_digits (without_minus field) then Some (signed_digits_value 10 field) else None
 
--- a number as one of 64 bits signed, None where it isn't in their range
+-- a number as a signed 64-bit number, None if it is out of range
 abbrev pub as_big : ℤ → Option ℤ
 as_big (pos n) = if nat_lt n (2 ^ 63) then Some (pos n) else None
 as_big (negsuc n) = if nat_lt n (2 ^ 63) then Some (negsuc n) else None
 
--- the truth value that a field writes, in small or large letters
+-- the truth value in a field, in lower or upper case
 abbrev pub truth_in : List ℕ → Option Bool
 truth_in field = if is_like (codes "true") field then Some true else (if is_like (codes "false") field then Some false else None)
 
--- the value of this type that a field writes, None where it writes none
+-- the value of a field that isn't empty, None if it isn't of this type
 abbrev pub written : SqlType → List ℕ → Option Value
 written types.Int field = option_map values.Int (option_and_then as_int (whole field))
 written types.Big field = option_map values.Big (option_and_then as_big (whole field))
 written types.Text field = text_value field
 written types.Bool field = option_map values.Bool (truth_in field)
 
--- the value of a field: NULL of an empty one, None where it isn't of its column's type
+-- the value of a field: NULL if it is empty, None if it isn't of its column's type
 abbrev pub field_value : SqlType → List ℕ → Option Value
 field_value ty field = if length field == 0 then Some values.Null else (if is_utf8 field then written ty field else None)
 
--- the row that fields write: one field for each column
+-- the row of these fields: one field for each column
 abbrev pub row_of : List Column → List (List ℕ) → Option (List Value)
 row_of [] [] = Some []
 row_of [] (field ∷ fields) = None
@@ -63,7 +63,7 @@ row_of (column ∷ columns) [] = None
 row_of (column ∷ columns) (field ∷ fields) =
     option_and_then (λ value. option_map (λ more. value ∷ more) (row_of columns fields)) (field_value column.ty field)
 
--- the row that a text writes, None where it isn't one row of these columns
+-- the row in a text, None if it isn't exactly one row of these columns
 abbrev pub text_row : List Column → List ℕ → Option (List Value)
 text_row columns text = option_and_then (row_of columns) (fields_of text)
 

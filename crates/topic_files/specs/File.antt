@@ -1,4 +1,4 @@
--- What a topic file says: its records, or its first bad line.
+-- The content of a topic file: its records, or its first bad line.
 use Rattle.std.specs.Prelude.{ℕ, ◌+◌, List, [], ◌∷◌, ◌++◌, length, min, Bool, ◌||◌, nat_lt, if◌then◌else◌, Option, Some, None, Result, Ok, Err, option_map, option_and_then, is_some}
 use Rattle.std.specs.List.{filter_map}
 use Rattle.std.specs.Option.{option_or}
@@ -14,16 +14,16 @@ use Rattle.topic_files.specs.Lines.{is_blank, lines_of, record_lines}
 use Rattle.topic_files.specs.Record.{fed_of}
 use Rattle.topic_files.specs.TopicLine.{data_of, topic_time}
 
--- how many bytes lines have, a line feed after each counted
+-- the number of bytes of lines, including a line feed after each
 abbrev pub bytes_of : List (List ℕ) → ℕ
 bytes_of [] = 0
 bytes_of (line ∷ lines) = length line + 1 + bytes_of lines
 
--- how many bytes of a file its first lines take; the last line may lack its line feed
+-- the number of bytes that the first lines of a file take; the last line may lack its line feed
 abbrev pub bytes_taken : List ℕ → List (List ℕ) → ℕ
 bytes_taken file lines = min (bytes_of lines) (length file)
 
--- whether the first lines of a file hold more records or more bytes than the room
+-- whether the first lines of a file exceed the room, in records or bytes
 abbrev pub passes : Room → List ℕ → List (List ℕ) → Bool
 passes room file lines = nat_lt room.records (length (record_lines lines)) || nat_lt room.bytes (bytes_taken file lines)
 
@@ -31,18 +31,18 @@ passes room file lines = nat_lt room.records (length (record_lines lines)) || na
 abbrev pub is_topic_line : List ℕ → Bool
 is_topic_line line = is_some (option_and_then topic_time (data_of line))
 
--- what is wrong with a line of a file after these lines: that the room is passed there, or else that it is neither blank nor a
+-- what is wrong with a line of a file after these lines: the room is exceeded there, or else it is neither blank nor a
 -- topic line
 abbrev pub fault : Room → List ℕ → List (List ℕ) → List ℕ → Option LineWhy
 fault room file before line = if passes room file (before ++ line ∷ []) then Some TooLarge else (if is_blank line || is_topic_line line then None else Some BadLine)
 
--- the first fault of these lines, which stand after those before them, with the number of its line
+-- the first fault in these lines, which come after earlier ones, with its line number
 abbrev pub first_fault_behind : Room → List ℕ → List (List ℕ) → List (List ℕ) → Option (ℕ × LineWhy)
 first_fault_behind room file before [] = None
 first_fault_behind room file before (line ∷ more) =
     option_or (option_map (λ why. (length before + 1, why)) (fault room file before line)) (first_fault_behind room file (before ++ line ∷ []) more)
 
--- the first fault of a file, with the number of its line, counted from 1; None where the file is good
+-- the first fault of a file, with its line number, counted from 1; None if the file is good
 abbrev pub first_fault : Room → List ℕ → Option (ℕ × LineWhy)
 first_fault room file = first_fault_behind room file [] (lines_of file)
 
@@ -54,11 +54,11 @@ feds_of relation lines = filter_map (fed_of relation) (record_lines lines)
 abbrev pub topic_lines : Relation → List ℕ → TopicLines
 topic_lines relation file = record { relation = relation.number; feds = feds_of relation (lines_of file) }
 
--- what is answered where the first fault is this, and the records are these
+-- the result, given the first fault, if any, and the records
 abbrev pub answer : Option (ℕ × LineWhy) → TopicLines → Result TopicLines FileFault
 answer None lines = Ok lines
 answer (Some found) lines = Err (Refused found.0 found.1)
 
--- what is answered for a file, unless memory runs out: its records where no line has a fault, else the first fault
+-- the result for a file, unless memory runs out: its records if no line has a fault, else the first fault
 abbrev pub reading : Relation → Room → List ℕ → Result TopicLines FileFault
 reading relation room file = answer (first_fault room file) (topic_lines relation file)

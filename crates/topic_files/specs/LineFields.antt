@@ -18,19 +18,19 @@ pub record Fields : Type 0 where
   pub key : Option Data
   pub value : Option Data
 
--- those among members
+-- the fields among members
 abbrev pub fields_in : Members → Fields
 fields_in members = record { time = get_member (codes "t") members; key = get_member (codes "k") members; value = get_member (codes "v") members }
 
--- those of JSON, None where it is no object
+-- the fields of a JSON object, None if it is no object
 abbrev pub fields_of : Data → Option Fields
 fields_of json = option_map fields_in (as_object json)
 
--- fields that were read, None where they make no object
+-- the fields that were read, None if they make no object
 abbrev pub if_read : Bool → Fields → Option Fields
 if_read is fields = if is then Some fields else None
 
--- what follows the brace that opens an object, where one stands
+-- what follows the brace that opens an object, if there is one
 abbrev pub after_begin_object : List Token → Option (List Token)
 after_begin_object [] = None
 after_begin_object (Token.begin_object ∷ ts) = Some ts
@@ -44,7 +44,7 @@ after_begin_object (Token.boolean b ∷ ts) = None
 after_begin_object (Token.null ∷ ts) = None
 after_begin_object (Token.bad ∷ ts) = None
 
--- the members of an object whose tokens these are after the opening brace, nested no deeper than the number
+-- the members of an object, from its tokens after the opening brace, nested no deeper than the number
 abbrev pub members_within : ℕ → json.Parse Members
 members_within depth tokens = converted (λ ms. of_members ms no_members) (json.members (json.value depth) (length tokens) tokens)
 
@@ -52,7 +52,7 @@ members_within depth tokens = converted (λ ms. of_members ms no_members) (json.
 abbrev pub seen : LineFields → Fields
 seen fields = record { time = option_map view fields.time; key = option_map view fields.key; value = option_map view fields.value }
 
--- the time of a topic line with these fields, None where they make none
+-- the time of a topic line with these fields, None if they make none
 abbrev pub time_in : Fields → Option ℕ
 time_in fields =
     if is_key (option_and_then unless_null fields.key) && is_value (option_and_then unless_null fields.value)
@@ -63,6 +63,6 @@ abbrev pub fed_in : Relation → Fields → Option Fed
 fed_in relation fields =
     option_map (λ time. keyed time (field_value relation (option_and_then unless_null fields.value)) (key_of relation.schema.keys (option_and_then unless_null fields.key))) (time_in fields)
 
--- a field after a member: that of the member where it has the name, else what was there
+-- a field after one more member: that member if it has the name, else the field before
 abbrev pub field_after : List ℕ → Data → List ℕ → Option Data → Option Data
 field_after name json own before = if bytes_eq name own then Some json else before

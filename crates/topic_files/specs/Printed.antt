@@ -21,11 +21,11 @@ printed (values.Big number) = signed_decimal number
 printed (values.Txt text) = quoted text
 printed (values.Bool truth) = if truth then codes "true" else codes "false"
 
--- pieces with a comma between each two
+-- pieces separated by commas
 abbrev pub comma_joined : List (List ℕ) → List ℕ
 comma_joined pieces = join_with_byte 44 pieces
 
--- what stands before the value of a column: its name and a colon
+-- what precedes the value of a column: its name and a colon
 unfoldable pub label_of : Column → List ℕ
 label_of column = quoted column.name ++ codes ":"
 
@@ -42,11 +42,11 @@ fields_of (label ∷ labels) (value ∷ row) = (label ++ printed value) ∷ fiel
 unfoldable pub labelled_text : List (List ℕ) → List Value → List ℕ
 labelled_text labels row = codes "{" ++ (comma_joined (fields_of labels row) ++ codes "}")
 
--- a row as JSON: an object of these columns in their order
+-- a row as a JSON object of these columns, in order
 abbrev pub object_text : List Column → List Value → List ℕ
 object_text columns row = labelled_text (labels_of columns) row
 
--- a row in a format: an object, or the text of its fields with commas between, as JSON
+-- a row in a format: an object, or its comma-separated fields as a JSON text
 unfoldable pub row_in : Format → List Column → List Value → List ℕ
 row_in Json columns row = object_text columns row
 row_in Delimited columns row = quoted (line_of row)
@@ -55,12 +55,12 @@ row_in Delimited columns row = quoted (line_of row)
 abbrev pub value_text : Relation → List Value → List ℕ
 value_text relation row = row_in relation.format relation.schema.values row
 
--- labels, each but the first after a comma
+-- labels, each after a comma except the first
 unfoldable pub after_commas : List (List ℕ) → List (List ℕ)
 after_commas [] = []
 after_commas (label ∷ labels) = label ∷ map (λ next. codes "," ++ next) labels
 
--- an object that has these texts before its values, without blanks
+-- an object with these texts before its values, without blanks
 abbrev pub led_text : List (List ℕ) → List Value → List ℕ
 led_text labels row = codes "{" ++ (concat (fields_of labels row) ++ codes "}")
 

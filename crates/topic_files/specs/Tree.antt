@@ -1,4 +1,4 @@
--- The data that the JSON of a line is.
+-- The data of a line's JSON.
 use Rattle.std.specs.Prelude.{ℕ, List, [], ◌∷◌, map}
 use Rattle.std.specs.Borrow.{Bor}
 use Rattle.serde_json.specs.Data.{Data, null, boolean, number, string, array, object, Items, Members, no_members, put}
@@ -6,12 +6,12 @@ use Rattle.serde_json.specs.View.{items_of, number_view}
 use Rattle.topic_files.specs.declared.tree.Json.{Json, fold-Json}
 use Rattle.topic_files.specs.declared.tree.Json.TheOpen.{Json-F}
 
--- members, put one after another among those before them: the last of a name stays
+-- members added one by one to those before them: the last one with a name stays
 abbrev pub put_all : List (Bor (List ℕ) × Data) → Members → Members
 put_all [] before = before
 put_all (m ∷ ms) before = put_all ms (put m.0.now m.1 before)
 
--- one level, with all JSON inside already seen as its data
+-- one level, where all JSON inside is already data
 abbrev pub view_step : Json-F Data → Data
 view_step Json-F.Null = null
 view_step (Json-F.Bool b) = boolean b

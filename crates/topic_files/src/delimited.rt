@@ -1,4 +1,4 @@
-//! Rows of fields with commas between, by `csv`.
+//! Rows of comma-separated fields, by `csv`.
 
 ghost use Rattle.std.specs.Prelude.{◌≡◌, ◌∷◌, ◌++◌, [], IfOk, OnOk, map, option_and_then, option_map, string_bytes};
 ghost use Rattle.std.specs.Str.{IsUtf8};
@@ -12,7 +12,7 @@ use csv::{ByteRecord, ReaderBuilder, StringRecord, WriterBuilder};
 use ksql_types::{Column, Items, Row, SqlType, Value};
 use std::alloc::{AllocError, Global};
 
-/// The row that a text writes, None where it isn't exactly one row with a field of its type for each column.
+/// The row in a text, or None unless the text is exactly one row whose fields have the types of the columns.
 pub(crate) fn text_row(
     alloc: Global,
     columns: &[Column],
@@ -26,7 +26,7 @@ pub(crate) fn text_row(
     }
 }
 
-/// The fields of a text that is exactly one row, None of any other text.
+/// The fields of a text that is exactly one row, or None for any other text.
 fn fields_of(alloc: Global, text: &str) -> Result<Option<ByteRecord>, AllocError>
     ensures { IfOk result (λ fields. option_map record_fields fields ≡ fields_of text.now) }
 {
@@ -45,7 +45,7 @@ fn fields_of(alloc: Global, text: &str) -> Result<Option<ByteRecord>, AllocError
     }
 }
 
-/// The row that fields write, None where they aren't one of its type for each column.
+/// The row of these fields, or None unless there is one field per column, of its type.
 fn row_of(alloc: Global, columns: &[Column], fields: &ByteRecord) -> Result<Option<Row>, AllocError>
     ensures { IfOk result (λ row. row ≡ row_of columns.now (record_fields fields.now)) }
 {
@@ -65,7 +65,7 @@ fn row_of(alloc: Global, columns: &[Column], fields: &ByteRecord) -> Result<Opti
     Ok(Some(Items::of(values)))
 }
 
-/// The value of a field: NULL of an empty one, None where it isn't of this type.
+/// The value of a field: NULL if it is empty, or None if it isn't of the type.
 fn field_value(alloc: Global, ty: SqlType, field: &[u8]) -> Result<Option<Value>, AllocError>
     ensures { IfOk result (λ value. value ≡ field_value ty field.now) }
 {
@@ -78,7 +78,7 @@ fn field_value(alloc: Global, ty: SqlType, field: &[u8]) -> Result<Option<Value>
     }
 }
 
-/// The value of this type that a field writes, None where it writes none.
+/// The value of a field that isn't empty, or None if it isn't of the type.
 fn written(alloc: Global, ty: SqlType, field: &str) -> Result<Option<Value>, AllocError>
     ensures { IfOk result (λ value. value ≡ written ty field.now) }
 {
@@ -90,14 +90,14 @@ fn written(alloc: Global, ty: SqlType, field: &str) -> Result<Option<Value>, All
     }
 }
 
-/// The whole number of 32 bits that a field writes.
+/// The 32-bit whole number in a field.
 fn int_in(field: &str) -> Option<i32>
     ensures { result ≡ option_and_then as_int (whole field.now) }
 {
     i32::try_from(big_in(field)?).ok()
 }
 
-/// The whole number of 64 bits that a field writes: an optional minus sign and digits.
+/// The 64-bit whole number in a field: an optional minus sign and digits.
 fn big_in(field: &str) -> Option<i64>
     ensures { result ≡ option_and_then as_big (whole field.now) }
 {
@@ -107,7 +107,7 @@ fn big_in(field: &str) -> Option<i64>
     field.parse::<i64>().ok()
 }
 
-/// The truth value that a field writes, in small or large letters.
+/// The truth value in a field, in lower or upper case.
 fn truth_in(field: &str) -> Option<bool>
     ensures { result ≡ truth_in field.now }
 {
@@ -120,7 +120,7 @@ fn truth_in(field: &str) -> Option<bool>
     }
 }
 
-/// A row as the text that `csv` writes by default, without the line end.
+/// A row as text, as `csv` writes it by default, without the line end.
 pub(crate) fn line_of(alloc: Global, row: &[Value]) -> Result<String, AllocError>
     ensures { IfOk result (λ text. string_bytes text ≡ line_of row.now) }
 {
@@ -130,7 +130,7 @@ pub(crate) fn line_of(alloc: Global, row: &[Value]) -> Result<String, AllocError
     Ok(String::from_utf8(line).unwrap())
 }
 
-/// A record as the line that `csv` writes by default.
+/// A record as a line, as `csv` writes it by default.
 fn write_fields(alloc: Global, fields: &StringRecord) -> Result<Vec<u8>, AllocError>
     ensures { IfOk result (λ line. line.items ≡ row_text default_writer (record_fields fields.now)) }
 {
@@ -141,7 +141,7 @@ fn write_fields(alloc: Global, fields: &StringRecord) -> Result<Vec<u8>, AllocEr
     writer.into_inner().map_err(|_| AllocError)
 }
 
-/// The values of a row as fields.
+/// The values of a row as the fields of a record.
 fn record_of(alloc: Global, row: &[Value]) -> Result<StringRecord, AllocError>
     ensures fields { IfOk result (λ made. record_fields made ≡ map field_text row.now) }
     ensures utf8 { IfOk result (λ made. AllText (record_fields made)) }

@@ -1,4 +1,4 @@
-//! The values that the fields of a line stand for, by the types of their columns.
+//! The values of a line's fields, by the types of their columns.
 
 ghost use Rattle.std.specs.Prelude.{◌≡◌, IfOk, IfSome, option_and_then, option_map, false};
 ghost use Rattle.serde_json.specs.Data.{object};
@@ -10,7 +10,7 @@ use crate::tree::{Json, Member, member_of};
 use ksql_types::{Chars, Column, LONGEST_VALUE, SqlType, Value};
 use std::alloc::{AllocError, Global};
 
-/// The values of these columns in an object of these members, in their order, None where a field isn't of its column's
+/// The values of these columns in an object with these members, in order, or None if a field isn't of its column's
 /// type.
 pub(crate) fn cells(
     alloc: Global,
@@ -30,7 +30,7 @@ pub(crate) fn cells(
     Ok(Some(values))
 }
 
-/// The value of a column in an object, None where its field isn't of its type.
+/// The value of a column in an object, or None if its field isn't of its type.
 fn cell(alloc: Global, column: &Column, members: &[Member]) -> Result<Option<Value>, AllocError>
     ensures { IfOk result (λ value. value ≡ cell column.now (object (members_view members.now))) }
 {
@@ -40,14 +40,14 @@ fn cell(alloc: Global, column: &Column, members: &[Member]) -> Result<Option<Val
     }
 }
 
-/// The field of a column of this name, None where it is missing or null.
+/// The field of the column with this name, or None if it is missing or null.
 fn column_field<'t, 'a>(members: &'t [Member<'a>], name: &str) -> Option<&'t Json<'a>>
     ensures { option_map (λ field. view field.now) result ≡ column_field name.now (object (members_view members.now)) }
 {
     named_field(members, name).filter(|field| !field.is_null())
 }
 
-/// The field of exactly this name, else the least of those whose names differ from it in case alone.
+/// The field with exactly this name, or else the one with the least name among those that differ only in case.
 fn named_field<'t, 'a>(members: &'t [Member<'a>], name: &str) -> Option<&'t Json<'a>>
     ensures { option_map (λ field. view field.now) result ≡ named_field name.now (object (members_view members.now)) }
 {
@@ -57,7 +57,7 @@ fn named_field<'t, 'a>(members: &'t [Member<'a>], name: &str) -> Option<&'t Json
     }
 }
 
-/// Of the members whose names differ from this one in case alone, the value of the one of the least name.
+/// Among the members whose names differ from this one only in case, the value of the one with the least name.
 fn least_like<'t, 'a>(members: &'t [Member<'a>], name: &str) -> Option<&'t Json<'a>>
     ensures { option_map (λ field. view field.now) result
         ≡ option_map (λ found. found.1) (least_like name.now (members_view members.now)) }
@@ -71,7 +71,7 @@ fn least_like<'t, 'a>(members: &'t [Member<'a>], name: &str) -> Option<&'t Json<
     least.map(|member| &member.1)
 }
 
-/// The member of the lesser name: the one, where there is no other or it has the same name.
+/// The member with the lesser name: `one` if there is no other or both names are the same.
 fn lesser<'t, 'a>(one: &'t Member<'a>, other: Option<&'t Member<'a>>) -> &'t Member<'a>
     ensures { named result.now ≡ lesser (named one.now) (option_map (λ member. named member.now) other.entry) }
 {
@@ -81,7 +81,7 @@ fn lesser<'t, 'a>(one: &'t Member<'a>, other: Option<&'t Member<'a>>) -> &'t Mem
     }
 }
 
-/// The value of this type that a field stands for in a row, None where it stands for none.
+/// The value of this type that a field stands for in a row, or None if it stands for none.
 fn value_of_type(alloc: Global, ty: SqlType, field: &Json) -> Result<Option<Value>, AllocError>
     ensures { IfOk result (λ value. value ≡ value_of_type ty (view field.now)) }
 {
@@ -91,7 +91,7 @@ fn value_of_type(alloc: Global, ty: SqlType, field: &Json) -> Result<Option<Valu
     }
 }
 
-/// The value of this type that a field is, None where it isn't of the type.
+/// The value of a field, or None if it isn't of this type.
 pub(crate) fn typed(alloc: Global, ty: SqlType, field: &Json) -> Result<Option<Value>, AllocError>
     ensures value { IfOk result (λ value. value ≡ typed ty (view field.now)) }
     ensures present { IfOk result (λ value. IfSome value (λ v. is_null v ≡ false)) }
@@ -107,7 +107,7 @@ pub(crate) fn typed(alloc: Global, ty: SqlType, field: &Json) -> Result<Option<V
     }
 }
 
-/// A whole number of 32 bits.
+/// The 32-bit whole number of a field.
 fn int_of(field: &Json) -> Option<i32>
     ensures { result ≡ int_of (view field.now) }
 {
@@ -131,7 +131,7 @@ fn text_form(alloc: Global, field: &Json) -> Result<Option<Value>, AllocError>
     }
 }
 
-/// A text as a value, None where it has more than 65,536 bytes.
+/// A text as a value, or None if it has more than 65,536 bytes.
 #[tactic(auto, unfolding(ksql_types::specs::Text::longest_text))]
 pub(crate) fn text_value(alloc: Global, text: &str) -> Result<Option<Value>, AllocError>
     ensures value { IfOk result (λ value. value ≡ text_value text.now) }

@@ -8,8 +8,8 @@ use json::Scratch;
 use ksql_types::{Items, Relation};
 use std::alloc::Global;
 
-/// The records of the topic file of a relation, in the order of its lines, or the first line that isn't a
-/// topic line or that passes the room, counted from 1: it is too large where it does both.
+/// The records of a relation's topic file, in the order of its lines, or the first line, counted from 1, that isn't a
+/// topic line or exceeds the room; a line that does both is reported as too large.
 pub fn read_topic(
     alloc: Global,
     relation: &Relation,
@@ -51,12 +51,12 @@ pub fn read_topic(
     })
 }
 
-/// How many records a file of so many bytes can have at most: `{"t":0}` and a line feed are 8 bytes.
+/// The most records that a file of `bytes` bytes can have: `{"t":0}` and a line feed are 8 bytes.
 fn most_records(room: Room, bytes: usize) -> usize {
     room.records.min(bytes as u64 / 8 + 1) as usize
 }
 
-/// The refusal of the line with this number.
+/// The refusal of line number `line`.
 fn refused(line: usize, why: LineWhy) -> FileFault
     requires { line < 2 ^ 32 }
     ensures { result ≡ FileFault.Refused line why }

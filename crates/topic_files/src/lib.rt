@@ -1,5 +1,5 @@
-//! Topic files: their lines, the records that these say by the schema and the format of a relation, and the printed text of
-//! a value.
+//! Topic files: their lines, the records in those by the schema and the format of a relation, and the printed text of a
+//! value.
 #![tactic(auto)]
 
 mod delimited;

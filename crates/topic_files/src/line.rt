@@ -1,4 +1,4 @@
-//! What a topic line says: its time, and the fields of its key and its value.
+//! The content of a topic line: its time, and the fields of its key and its value.
 
 ghost use Rattle.std.specs.Prelude.{◌≡◌, IfSome, codes, option_and_then, option_map};
 ghost use Rattle.serde_json.specs.Data.{no_members};
@@ -11,7 +11,7 @@ use crate::tree::{Json, is_named};
 /// The greatest time of a record, in milliseconds.
 const LAST_TIME: u64 = 1 << 53;
 
-/// The time of a topic line, and the fields of its key and its value where they are there and not null.
+/// The time of a topic line, and the fields of its key and its value unless they are missing or null.
 #[derive(Drop)]
 pub(crate) struct TopicLine<'t, 'a> {
     pub(crate) time: u64,
@@ -19,7 +19,7 @@ pub(crate) struct TopicLine<'t, 'a> {
     pub(crate) value: Option<&'t Json<'a>>,
 }
 
-/// The fields `t`, `k` and `v` of a line's object: of the members of one name the last counts.
+/// The fields `t`, `k` and `v` of a line's object. Of several members with one name, the last counts.
 #[derive(Drop)]
 pub(crate) struct LineFields<'a> {
     pub(crate) time: Option<Json<'a>>,
@@ -39,7 +39,7 @@ impl<'a> LineFields<'a> {
         }
     }
 
-    /// Takes in one more member of the object.
+    /// Adds one more member of the object.
     pub(crate) fn put(&mut self, name: &str, field: Json<'a>)
         ensures time { (seen self.new).time ≡ field_after name.now (view field.entry) (codes "t") (seen self.old).time }
         ensures key { (seen self.new).key ≡ field_after name.now (view field.entry) (codes "k") (seen self.old).key }
@@ -55,14 +55,14 @@ impl<'a> LineFields<'a> {
     }
 }
 
-/// A field, None where it is missing or null.
+/// A field, or None if it is missing or null.
 fn present<'t, 'a>(field: &'t Option<Json<'a>>) -> Option<&'t Json<'a>>
     ensures { option_map (λ f. view f.now) result ≡ option_and_then unless_null (option_map view field.now) }
 {
     field.as_ref().filter(|json| !json.is_null())
 }
 
-/// What a topic line of these fields says, None where they make none.
+/// The topic line with these fields, or None if they make none.
 pub(crate) fn topic_line<'t, 'a>(fields: &'t LineFields<'a>) -> Option<TopicLine<'t, 'a>>
     ensures time { option_map (λ line. line.time) result ≡ time_in (seen fields.now) }
     ensures key { IfSome result (λ line. option_map (λ field. view field.now) line.key
@@ -80,7 +80,7 @@ pub(crate) fn topic_line<'t, 'a>(fields: &'t LineFields<'a>) -> Option<TopicLine
     }
 }
 
-/// The field `t` where it is a time.
+/// The field `t` if it is a time.
 fn time_of(field: Option<&Json>) -> Option<u64>
     ensures { result ≡ option_and_then as_time (option_and_then whole_number (option_map (λ f. view f.now) field.entry)) }
 {
@@ -88,7 +88,7 @@ fn time_of(field: Option<&Json>) -> Option<u64>
     u64::try_from(number).ok().filter(|time| *time <= LAST_TIME)
 }
 
-/// Whether this may stand in the field `k`.
+/// Whether this is allowed in the field `k`.
 fn is_key(field: Option<&Json>) -> bool
     ensures { result ≡ is_key (option_map (λ f. view f.now) field.entry) }
 {
@@ -100,7 +100,7 @@ fn is_key(field: Option<&Json>) -> bool
     }
 }
 
-/// Whether this may stand in the field `v`.
+/// Whether this is allowed in the field `v`.
 fn is_value(field: Option<&Json>) -> bool
     ensures { result ≡ is_value (option_map (λ f. view f.now) field.entry) }
 {

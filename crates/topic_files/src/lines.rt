@@ -5,8 +5,8 @@ ghost use Rattle.topic_files.specs.Lines.{is_blank, lines_of};
 use memchr::memchr;
 use std::marker::Model;
 
-/// The lines of a file, one after another, without their line feeds: the pieces between these, and what stands after the
-/// last of them unless it is empty. Contracts see the list of the lines that are left. Takes no memory.
+/// The lines of a file without their line feeds, one by one: the pieces between line feeds, and what follows the last
+/// one unless it is empty. Contracts see the list of the remaining lines. Takes no memory.
 #[derive(Drop)]
 pub struct Lines<'a> {
     rest: &'a [u8],
@@ -55,7 +55,7 @@ impl<'a> Iterator for Lines<'a> {
     }
 }
 
-/// Whether a line has blanks alone: spaces, tabs and carriage returns.
+/// Whether a line has only blanks: spaces, tabs and carriage returns.
 pub(crate) fn is_blank(line: &[u8]) -> bool
     ensures { result ≡ is_blank line.now }
 {

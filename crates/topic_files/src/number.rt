@@ -1,4 +1,4 @@
-//! The number that a text of JSON is.
+//! The number that a JSON text spells.
 
 ghost use Rattle.std.specs.Prelude.{◌≡◌, ◌<◌, ◌==◌, IfSome, IsTrue, Some, true, false, length, option_map, slice_index};
 ghost use Rattle.serde_json.specs.Data.{unsigned};
@@ -8,10 +8,10 @@ ghost use Rattle.serde_json.specs.View.{number_view};
 use fast_float::Numeral;
 use serde_json::Number;
 
-/// How many digits always write a number of 64 bits.
+/// The most digits that always fit in 64 bits.
 const MOST_DIGITS: usize = 18;
 
-/// The number that a token of JSON writes, None where it is too large for a float.
+/// The number that a JSON token spells, or None if it is too large for a float.
 pub(crate) fn number_of(text: &str) -> Option<Number>
     ensures { option_map number_view result ≡ number_of text.now }
 {
@@ -26,7 +26,7 @@ pub(crate) fn number_of(text: &str) -> Option<Number>
     }
 }
 
-/// The number of a text that is 1 to 18 digits.
+/// The number that a text of 1 to 18 digits spells.
 fn few_digits(text: &[u8]) -> Option<u64>
     ensures { IfSome result (λ number. number_of text.now ≡ Some (unsigned number)) }
 {
@@ -71,7 +71,7 @@ fn negative(numeral: &Numeral) -> Option<Number>
     }
 }
 
-/// The float nearest to a numeral, None where it is too large.
+/// The float nearest to a numeral, or None if it is too large.
 fn float(is_negative: bool, numeral: &Numeral) -> Option<Number>
     ensures { option_map number_view result ≡ float_of is_negative numeral.now }
 {

@@ -13,8 +13,8 @@ use ksql_types::{Bytes, Column, Format, Items, Relation, Value};
 use serde_json::Value as Json;
 use std::alloc::{AllocError, Global};
 
-/// How the rows of a relation are printed: as JSON objects with one of these texts before each value, which is the label of
-/// its field, after a comma but for the first; or as JSON texts of fields with commas between.
+/// How the rows of a relation are printed: as JSON objects, with one of these labels before each value (a label has its
+/// comma, except the first); or as JSON texts of comma-separated fields.
 #[derive(Drop)]
 pub enum Printer {
     Objects(Vec<String>),
@@ -32,8 +32,8 @@ impl Printer {
         }
     }
 
-    /// Appends a row: a JSON object of the value columns in their order, without blanks, or the JSON text of what `csv` writes
-    /// by default without the line end, NULL as an empty field.
+    /// Appends a row: a JSON object of the value columns in order, without blanks, or a JSON text of the line that
+    /// `csv` writes by default, without the line end, where NULL is an empty field.
     pub fn push_row(&self, out: &mut String, alloc: Global, row: &[Value]) -> Result<(), AllocError>
         ensures { OnOk result (string_bytes out.new ≡ string_bytes out.old ++ printed_by self.now row.now) }
     {
@@ -72,8 +72,8 @@ impl Printer {
     }
 }
 
-/// The printed value of a row of a relation: a JSON object, or a JSON text where the format is DELIMITED, as `Printer` appends
-/// them.
+/// The printed value of a row of a relation: a JSON object, or a JSON text if the format is DELIMITED, as `Printer`
+/// appends them.
 pub fn value_text(alloc: Global, relation: &Relation, row: &[Value]) -> Result<Bytes, AllocError>
     requires whole { length row.now ≡ length relation.now.schema.values }
     ensures { IfOk result (λ text. text ≡ value_text relation.now row.now) }
@@ -83,7 +83,7 @@ pub fn value_text(alloc: Global, relation: &Relation, row: &[Value]) -> Result<B
     Ok(Items::of(out.into_bytes()))
 }
 
-/// The labels of columns, each but the first after a comma.
+/// The labels of columns, each after a comma except the first.
 fn labels(alloc: Global, columns: &[Column]) -> Result<Vec<String>, AllocError>
     ensures { IfOk result (λ labels. map string_bytes labels.items ≡ after_commas (labels_of columns.now)) }
 {
@@ -96,7 +96,7 @@ fn labels(alloc: Global, columns: &[Column]) -> Result<Vec<String>, AllocError>
     Ok(labels)
 }
 
-/// The label of a column after a separator: its name as a JSON text and a colon.
+/// The label of a column after a separator: its name as a JSON text, and a colon.
 #[tactic(auto, using(crate::proofs::Texts::appends), unfolding(crate::specs::Printed::label_of))]
 fn label(alloc: Global, separator: &str, column: &Column) -> Result<String, AllocError>
     ensures { IfOk result (λ label. string_bytes label ≡ separator.now ++ label_of column.now) }
@@ -108,7 +108,7 @@ fn label(alloc: Global, separator: &str, column: &Column) -> Result<String, Allo
     Ok(label)
 }
 
-/// Appends a row as a JSON object with these texts before its values, without blanks.
+/// Appends a row as a JSON object without blanks, with these texts before its values.
 #[tactic(auto, using(crate::proofs::Texts::appends))]
 fn push_object(
     out: &mut String,
@@ -169,7 +169,7 @@ fn push_quoted(out: &mut String, alloc: Global, text: &str) -> Result<(), AllocE
     out.push_str(printed.as_str())
 }
 
-/// Whether a text has no quote, no backslash and no control character, so that it stands in JSON as it is.
+/// Whether a text has no quote, backslash or control character, so that JSON needs no escapes for it.
 fn is_plain(text: &str) -> bool
     ensures { result ≡ list_all is_plain text.now }
 {

@@ -1,4 +1,4 @@
-//! From a line to its fields, in one pass over its tokens.
+//! Reading the fields of a line in one pass over its tokens.
 
 ghost use Rattle.std.specs.Prelude.{◌≡◌, ◌<◌, IfOk, None, OnSome, Some, length, option_and_then, option_map};
 ghost use Rattle.std.specs.Bool.{MatchBool};
@@ -15,11 +15,11 @@ use crate::tree::Json;
 use json::{Reader, Scratch, Token};
 use std::alloc::{AllocError, Global};
 
-/// How deep lists and objects may stand in one another within a line's object.
+/// How deep lists and objects may nest within a line's object.
 const MEMBERS_DEPTH: usize = 126;
 
-/// Puts the fields of the object that a line is into these, which are none yet, and answers whether it is one: it isn't
-/// where it isn't UTF-8 or is no JSON, also where it is nested too deep or has a number too large for a float.
+/// Reads the object on a line into `fields`, which are empty, and returns whether the line is one. It isn't if it isn't
+/// UTF-8 or JSON, if it nests too deep, or if it has a number too large for a float.
 pub(crate) fn read_line<'a>(
     alloc: Global,
     line: &'a [u8],
@@ -35,7 +35,7 @@ pub(crate) fn read_line<'a>(
     }
 }
 
-/// Puts the fields of the object that a text is into these, which are none yet, and answers whether it is one.
+/// Reads the object in a text into `fields`, which are empty, and returns whether the text is one.
 fn read_text<'a>(
     alloc: Global,
     text: &'a str,
@@ -53,15 +53,14 @@ fn read_text<'a>(
     Ok(is_object && reader.next().is_none())
 }
 
-/// Takes the brace that opens an object, where it is next.
+/// Takes the brace that opens an object, if it is next.
 fn take_begin_object(reader: &mut Reader) -> bool
     ensures { MatchBool result (after_begin_object reader.old ≡ Some reader.new) (after_begin_object reader.old ≡ None) }
 {
     matches!(reader.next(), Some(Token::BeginObject))
 }
 
-/// Puts the fields of the object whose members come next into these, which are none yet, and answers whether they end
-/// as one.
+/// Reads the members of an object into `fields`, which are empty, and returns whether they end as an object.
 fn read_fields<'a>(
     alloc: Global,
     reader: &mut Reader<'a>,
@@ -85,7 +84,7 @@ fn read_fields<'a>(
     }
 }
 
-/// The value that comes next, None where none does.
+/// The next value, or None if none comes next.
 #[cycle(read)]
 #[inline(always)]
 fn read_value<'a>(
@@ -114,7 +113,7 @@ fn read_value<'a>(
     }
 }
 
-/// The array whose items come next, None where they don't end as one.
+/// The array whose items come next, or None if they don't end as one.
 #[cycle(read)]
 #[inline(never)]
 fn read_array<'a>(
@@ -136,7 +135,7 @@ fn read_array<'a>(
     Ok(Some(Json::Array(found)))
 }
 
-/// The object whose members come next, None where they don't end as one.
+/// The object whose members come next, or None if they don't end as one.
 #[cycle(read)]
 #[inline(never)]
 fn read_object<'a>(

@@ -17,7 +17,7 @@ use ksql_place::Decoded;
 use ksql_types::{Column, Format, Items, Key, Relation, Row, SqlType};
 use std::alloc::{AllocError, Global};
 
-/// The record of a line, None where it isn't a topic line.
+/// The record of a line, or None if it isn't a topic line.
 pub(crate) fn fed_of_line(
     alloc: Global,
     relation: &Relation,
@@ -34,7 +34,7 @@ pub(crate) fn fed_of_line(
     }
 }
 
-/// The record that the fields of a line say, None where they make no topic line.
+/// The record of a line's fields, or None if they make no topic line.
 fn fed_of_fields(
     alloc: Global,
     relation: &Relation,
@@ -59,8 +59,8 @@ fn fed_of_fields(
     }
 }
 
-/// The key that a field stands for, empty where there is no field or no key column; None where the field isn't of the
-/// type of the key.
+/// The key that a field stands for: empty if there is no field or no key column; None if the field isn't of the key's
+/// type.
 fn key_of(
     alloc: Global,
     columns: &[Column],
@@ -78,7 +78,7 @@ fn key_of(
     }
 }
 
-/// The key of one value of this type, None where the field isn't of the type.
+/// The key of one value of this type, or None if the field isn't of the type.
 fn single_key(alloc: Global, ty: SqlType, json: &Json) -> Result<Option<Key>, AllocError>
     ensures { IfOk result (λ key. key ≡ option_map (λ value. value ∷ []) (typed ty (view json.now))) }
 {
@@ -88,7 +88,7 @@ fn single_key(alloc: Global, ty: SqlType, json: &Json) -> Result<Option<Key>, Al
     }
 }
 
-/// The value that the field `v` stands for: a tombstone where it is missing or null.
+/// The value that the field `v` stands for: a tombstone if it is missing or null.
 fn field_value(
     alloc: Global,
     relation: &Relation,
@@ -103,7 +103,7 @@ fn field_value(
     }
 }
 
-/// The value that a field stands for: a row, or skipped where it stands for none.
+/// The value that a field stands for: a row, or a skipped value if it stands for none.
 fn decoded(alloc: Global, relation: &Relation, json: &Json) -> Result<Decoded, AllocError>
     ensures { IfOk result (λ value. value ≡ decoded relation.now (view json.now)) }
 {
@@ -113,7 +113,7 @@ fn decoded(alloc: Global, relation: &Relation, json: &Json) -> Result<Decoded, A
     }
 }
 
-/// The row that a field stands for in a format, None where it stands for none.
+/// The row that a field stands for in a format, or None if it stands for none.
 fn row_in(
     alloc: Global,
     format: Format,
@@ -128,7 +128,8 @@ fn row_in(
     }
 }
 
-/// The row of a text of fields with commas between, None where the field is no text or not one row of these columns.
+/// The row in a text of comma-separated fields, or None if the field is no text or not exactly one row of these
+/// columns.
 fn delimited_row(alloc: Global, columns: &[Column], json: &Json) -> Result<Option<Row>, AllocError>
     ensures { IfOk result (λ row. row ≡ delimited_row columns.now (view json.now)) }
 {
@@ -138,7 +139,7 @@ fn delimited_row(alloc: Global, columns: &[Column], json: &Json) -> Result<Optio
     }
 }
 
-/// The row of an object, None where the field is no object or one of its fields isn't of its column's type.
+/// The row in an object, or None if the field is no object or one of its members isn't of its column's type.
 fn object_row(alloc: Global, columns: &[Column], json: &Json) -> Result<Option<Row>, AllocError>
     ensures { IfOk result (λ row. row ≡ object_row columns.now (view json.now)) }
 {

@@ -3,9 +3,9 @@ use ksql_types::{CopyOf, Items, Key};
 use std::alloc::{AllocError, AllocFailed, Global};
 use thiserror::Error;
 
-/// A record as its topic file has it: its time in milliseconds from 0 to 2^53, its key and its value, which is a
-/// tombstone where the line has none. The key is empty where the line has none, and where it isn't of the type of the
-/// relation's key: there the value is skipped.
+/// A record of a topic file: its time in milliseconds from 0 to 2^53, its key and its value, a tombstone if the line
+/// has none. The key is empty if the line has none, or one that isn't of the type of the relation's key; in the latter
+/// case the value is skipped.
 #[derive(Debug, Drop)]
 pub struct Fed {
     pub time: u64,
@@ -23,21 +23,21 @@ pub struct TopicLines {
     pub feds: Feds,
 }
 
-/// How many records and how many bytes a file may have.
+/// The most records and bytes that a file may have.
 #[derive(Clone, Copy, Debug, PartialEq, Eq)]
 pub struct Room {
     pub records: u64,
     pub bytes: u64,
 }
 
-/// Why a line is refused: it is neither blank nor a topic line, or the file passes its room there.
+/// Why a line is refused: it is neither blank nor a topic line, or there the file exceeds its room.
 #[derive(Clone, Copy, Debug, PartialEq, Eq)]
 pub enum LineWhy {
     BadLine,
     TooLarge,
 }
 
-/// Why a file isn't read: its first bad line, counted from 1, or out of memory.
+/// Why a file can't be read: its first bad line, counted from 1, or out of memory.
 #[derive(Debug, Drop, Error)]
 pub enum FileFault {
     #[error("line {line}: {why:?}")]
@@ -49,7 +49,7 @@ pub enum FileFault {
 impl Room {
     ghost use Rattle.std.specs.Prelude.{◌≡◌, ◌||◌, nat_lt};
 
-    /// Whether so many records or so many bytes pass the room.
+    /// Whether this many records or bytes exceed the room.
     pub(crate) fn is_passed(self, records: usize, bytes: usize) -> bool
         ensures { result ≡ (nat_lt self.records records || nat_lt self.bytes bytes) }
     {

@@ -1,4 +1,4 @@
-//! JSON as a line has it, with its texts lent.
+//! The JSON of a line, with borrowed texts.
 
 ghost use Rattle.std.specs.Prelude.{◌≡◌, bytes_eq, is_some, option_and_then, option_map};
 ghost use Rattle.serde_json.specs.Find.{as_bool, as_i64, as_null, as_number, as_object, as_str, get_member};
@@ -9,7 +9,7 @@ use serde_json::Number;
 /// A member of an object: its name and its value.
 pub(crate) type Member<'a> = (&'a str, Json<'a>);
 
-/// Any JSON. An object has its members in the order of the line: of those of one name the last counts.
+/// Any JSON value. An object has its members in the order of the line; of several with one name, the last counts.
 #[derive(Drop)]
 pub(crate) enum Json<'a> {
     Null,
@@ -64,7 +64,7 @@ impl<'a> Json<'a> {
     }
 }
 
-/// The value of the last member of this name.
+/// The value of the last member with this name.
 pub(crate) fn member_of<'t, 'a>(members: &'t [Member<'a>], name: &str) -> Option<&'t Json<'a>>
     ensures { option_map (λ field. view field.now) result ≡ get_member name.now (members_view members.now) }
 {
@@ -79,7 +79,7 @@ pub(crate) fn member_of<'t, 'a>(members: &'t [Member<'a>], name: &str) -> Option
     None
 }
 
-/// Whether a key is this name. Most names that differ do so in length or in their first letter.
+/// Whether a key is this name. Most names differ in length or in their first letter.
 pub(crate) fn is_named(key: &str, name: &str) -> bool
     ensures { result ≡ bytes_eq key.now name.now }
 {

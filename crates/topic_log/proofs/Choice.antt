@@ -90,7 +90,7 @@ best_stays ds n (Some i) (Some x) d at h late = record {
     by j low (inl below) = h.behind j low below
     by j low (inr same) = subst (λ (o : Option Change). IfSome o (λ y. is_gt (change_cmp x y) ≡ false)) (sym (ap (λ k. get_or ds k None) same ∙ at)) (last d late)
 
--- the next one takes its place, where it goes before it
+-- the next one takes its place if it comes before it
 pub best_changes : (ds : List (Option Change)) (n : ℕ) (next : Option ℕ) (best d : Option Change) → get_or ds n None ≡ d → IsBest ds n next best → goes_before d best ≡ true → IsBest ds (n + 1) (Some n) d
 best_changes ds n next best None at h goes = absurd (false≢true goes)
 best_changes ds n None (Some x) (Some d) at h goes = absurd h

@@ -22,7 +22,7 @@ more-said : (rs : List SourceRecord) (xs more : List Change) → entries_of rs (
 more-said rs xs more =
     ap (λ (es : List LogEntry). map Fed rs ++ es) (map-append Said xs more) ∙ sym (append_assoc (map Fed rs) (map Said xs) (map Said more))
 
--- records that are fed, where there are any and no change is there
+-- records that are fed, if any and no change is there
 pub shows-fed : (was now : PartShelf) (more : List SourceRecord) → (more ≡ []) ⊎ (was.said.items ≡ []) → now.fed.items ≡ was.fed.items ++ more → now.said ≡ was.said →
     shown_in now ≡ shown_in was ++ map Fed more
 shows-fed was now more (inl none) fed said =

@@ -1,4 +1,4 @@
--- Counting the records of a feed by the partitions in which they stand.
+-- Counting the records of a feed by their partitions.
 use Rattle.std.proofs.Common.{◌≡◌, ◌≢◌, ◌∙◌, ℕ, ◌+◌, ◌<◌, ◌≤◌, true, false, cond, List, length, map, get_or, set, take, sym, ap, refl, subst, arith, Option, Some, None, ◌==◌}
 use Rattle.std.specs.Prelude.{All, IfSome, IsSome, option_and_then, slice_get}
 use Rattle.std.specs.Global.{Vec}
@@ -17,7 +17,7 @@ use Rattle.topic_log.proofs.OneTopic.{IfSome-at, slice_get-some}
 use Rattle.topic_log.proofs.Rooms.{filter-le}
 use Rattle.topic_log.proofs.ViewLemmas.{same_at, same_length}
 
--- ---- the partition in which a record stands
+-- ---- a record's partition
 
 pub record There (topics : List TopicShelf) (topic q : ℕ) : Type 0 where
   pub of : TopicShelf
@@ -101,7 +101,7 @@ module _ (records : List SourceRecord) (i : ℕ) (r : SourceRecord) (inside : i 
       subst (λ (xs : List ℕ). IsCounted topic (take (i + 1) records) t xs) (sym put-is) (counted-here t ns.items count part_within is h)))
       each
 
--- the numbers of the topic in which a record stands
+-- the numbers of a record's topic
 counted-at : (topics : List TopicShelf) (records : List SourceRecord) (counts : List (Vec ℕ)) (topic q : ℕ) (ns : Vec ℕ) → topic < length counts → ns ≡ get_or counts topic ns →
     (here : There topics topic q) → EachAt (λ topic of. IfSome (slice_get topics topic) (λ t. IsCounted topic records t of.items)) counts → IsCounted topic records here.of ns.items
 counted-at topics records counts topic q ns within is here each =
@@ -135,7 +135,7 @@ count-small records i topic q inside =
 
 -- ---- room
 
--- a topic has as many partitions as before
+-- a topic has the same number of partitions as before
 pub parts-same : (topics was : List TopicShelf) (i : ℕ) (t : TopicShelf) → map topic_view topics ≡ map topic_view was → i < length topics → t ≡ get_or topics i t → (n : ℕ) →
     IfSome (slice_get was i) (λ u. n ≡ length u.parts.items) → length t.parts.items ≡ n
 parts-same topics was i t views inside at n h =

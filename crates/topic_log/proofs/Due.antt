@@ -1,4 +1,4 @@
--- Lists that ascend are merged: what is due of them stands in order, and the rest stays.
+-- Lists that ascend are merged: what is due comes out in order, and the rest stays.
 use Rattle.std.proofs.Common.{subst, ap₂, sum, ◌+◌, ◌≡◌, ◌∙◌, ap, sym, refl, ℕ, zero, suc, List, [], ◌∷◌, ◌++◌, ◌<◌, Bool, true, false, cond, length, map, get_or, set, arith, append_assoc, Some, None, IfSome}
 use Rattle.std.specs.Prelude.{filter, if◌then◌else◌}
 use Rattle.std.proofs.lemmas.List.Sums.{sum-map, sum_by-set}
@@ -16,7 +16,8 @@ use Rattle.topic_log.specs.Commits.{first_if}
 abbrev pub AllAfter : {A : Type 0} → (A → A → Ordering) → A → List A → Type 0
 AllAfter cmp b us = AllByRecursion (λ u. is_gt (cmp u b) ≡ true) us
 
--- a list with this member, which goes before what is in front of it and not after what is behind it, and the list without it
+-- a list with this member, which goes before what is in front of it and not after what is behind it, and the list
+-- without it
 pub record Cut {A : Type 0} (cmp : A → A → Ordering) (b : A) (whole rest : List A) : Type 0 where
   pub front : List A
   pub back : List A
@@ -145,7 +146,7 @@ module _ {A : Type 0} {cmp : A → A → Ordering} (total : IsTotalOrder cmp) wh
           none = cut.none;
         }
 
-    -- a member that is not after one that passes does so itself
+    -- a member that is not after one that passes also passes
     module _ (downward : (a b : A) → is_gt (cmp a b) ≡ false → p b ≡ true → p a ≡ true) where
       fails-higher : (a b : A) → is_gt (cmp a b) ≡ false → p a ≡ false → p b ≡ false
       fails-higher a b low fails = by (p b) refl
@@ -237,7 +238,7 @@ module _ {A : Type 0} {cmp : A → A → Ordering} (total : IsTotalOrder cmp) (p
       by true passes h rest = absurd (cc (h))
       by false fails h rest = filter-kept total q x xs (other x fails) ∙ ap (λ us. x ∷ us) (rest h)
 
-  -- where no first member is due, nothing is, and all stays
+  -- if no first member is due, nothing is, and all stays
   pub nothing_passes : (ls : List (List A)) → EachAscends cmp ls → ((j : ℕ) → j < length ls → first_if p (get_or ls j []) ≡ None) → (passing p ls ≡ []) × (map (filter q) ls ≡ ls)
   nothing_passes [] up none = (refl, refl)
   nothing_passes (l ∷ ls) up none =

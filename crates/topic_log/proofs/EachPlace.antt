@@ -59,7 +59,7 @@ module _ {A : Type 0} where
   pub EachAt-weaker : (P Q : ℕ → A → Type 0) (xs : List A) → ((k : ℕ) (x : A) → k < length xs → P k x → Q k x) → EachAt P xs → EachAt Q xs
   EachAt-weaker P Q xs weaker each k d below = weaker k (get_or xs k d) below (each k d below)
 
-  -- the member at an index, where there is one
+  -- the member at an index, if any
   pub EachAt-IfSome : (P : ℕ → A → Type 0) (xs : List A) → EachAt P xs → (k : ℕ) → IfSome (slice_get xs k) (P k)
   EachAt-IfSome P [] each k = tt
   EachAt-IfSome P (x ∷ xs) each zero = each 0 x (omega arith)

@@ -136,7 +136,7 @@ order-next fed xs records ordered upto rises of_feed =
 not-in-topic : (topic q : ℕ) (r : SourceRecord) → ¬ (r.stamp.topic ≡ topic) → is_in topic q r ≡ false
 not-in-topic topic q r apart = and_left (r.stamp.topic == topic) (r.stamp.part == q) (ne_eqb r.stamp.topic topic apart)
 
--- whether a record stands in a partition, from what would follow if it did
+-- whether a record is in a partition, from what would follow if it were
 pub not-in : (topic q : ℕ) (r : SourceRecord) → ((r.stamp.topic ≡ topic) → (r.stamp.part ≡ q) → ⊥) → is_in topic q r ≡ false
 not-in topic q r elsewhere =
     let by : (b : Bool) → is_in topic q r ≡ b → is_in topic q r ≡ false =
@@ -169,7 +169,7 @@ none-written r records topic q written sources =
 abbrev shown_at : Option PartShelf → List LogEntry
 shown_at o = unwrap_or (option_map shown_in o) []
 
--- either no record stands in a partition, or no change is shown there
+-- either no record is for a partition, or no change is shown there
 abbrev Either : List SourceRecord → ℕ → ℕ → Option PartShelf → Type 0
 Either records topic q o = (filter (is_in topic q) records ≡ []) ⊎ IfSome o (λ p. p.said.items ≡ [])
 
@@ -244,7 +244,7 @@ module _ (records : List SourceRecord) (was now : List TopicShelf) (shows : Will
 
 -- ---- what the broker has afterwards
 
--- the records stand in sources, and so in partitions that are there
+-- the records are in sources, and so in partitions that exist
 pub sources-there : (s : Shelves) (records : List SourceRecord) → All (λ r. IsSourcePart s r.stamp.topic r.stamp.part) records → All (IsThere s.topics.items) records
 sources-there s records sources = All-weaker (λ r. IsSourcePart s r.stamp.topic r.stamp.part) (IsThere s.topics.items) (λ r h. h.1) records sources
 
@@ -354,11 +354,11 @@ shelves-next s next records shows fed rises of_feed sources h = record {
 
 -- ---- the order in which records come
 
--- records that rise also do so in each partition
+-- records that rise also rise in each partition
 pub rise_apart : (records : List SourceRecord) → Rises record_cmp records → RiseApart records
 rise_apart records rises = λ topic q. AllPairs-filter (λ a b. record_cmp a b ≡ Less) (is_in topic q) records rises
 
--- a partition shows the same whatever stands between its records
+-- a partition shows the same whatever comes between its records
 pub feeds-ordered : (r : Routes) (records : List SourceRecord) (b next : Shelf) → RiseApart records → ShelfFeeds r records b next → ShelfFeeds r (ascending record_cmp records) b next
 feeds-ordered r records b next rises f = record {
   fed = f.fed;

@@ -1,4 +1,4 @@
--- The topics of a broker to which nothing was fed: what must be kept of them is true, and they show nothing.
+-- The topics of a broker before the first feed: their invariants hold, and they show nothing.
 use Rattle.std.proofs.Common.{◌≡◌, ◌∙◌, ap, ap₂, sym, refl, subst, ℕ, zero, suc, ◌+◌, ◌<◌, ◌≤◌, List, [], ◌∷◌, ◌++◌, map, length, get_or, take, arith, Option, Some, None}
 use Rattle.std.specs.Prelude.{All, slice_get, option_map, unwrap_or}
 use Rattle.std.specs.Global.{Global}
@@ -70,7 +70,7 @@ topics-fresh [] (t ∷ ts) fresh = absurd fresh
 topics-fresh (topic ∷ topics) [] fresh = absurd fresh
 topics-fresh (topic ∷ topics) (t ∷ ts) fresh = All-cons (IsTopicShelf 0) t ts (fresh-topic topic t fresh.0) (topics-fresh topics ts fresh.1)
 
--- shelves of fresh topics, to which nothing was fed
+-- shelves of fresh topics, before the first feed
 pub record AreFresh (topics : List TopicSpec) (s : Shelves) : Type 0 where
   pub fed : s.fed ≡ 0
   pub topics_fresh : AllZip IsFreshTopic topics s.topics.items

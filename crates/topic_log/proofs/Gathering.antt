@@ -16,7 +16,7 @@ use Rattle.topic_log.specs.Ready.{waiting_len}
 use Rattle.topic_log.specs.Shelves.{waiting_in}
 use Rattle.topic_log.specs.declared.shelves.PartShelf.{PartShelf}
 
--- the partition in which this waits of a writer
+-- the partition where this waits from a writer
 abbrev pub with_waiting : PartShelf → ℕ → VecDeque Change Global → PartShelf
 with_waiting p writer w = record { fed = p.fed; said = p.said; waiting = with_item p.waiting writer w }
 

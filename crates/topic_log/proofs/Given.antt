@@ -1,4 +1,4 @@
--- The changes that a partition shows are given away, and nothing else changes.
+-- The changes that a partition shows are handed over, and nothing else changes.
 use Rattle.std.proofs.Common.{◌≡◌, ◌∙◌, ap, sym, refl, subst, ℕ, ◌==◌, ◌≤◌, get_or, List, [], ◌∷◌, ◌++◌, map, length, set, Option, Some, None, arith, ⊎_elim, append-nil, eq-eqb, rules}
 use Rattle.std.specs.Prelude.{All, IsSome, slice_get, option_and_then, option_map, unwrap_or, if◌then◌else◌}
 use Rattle.std.specs.Global.{Vec}
@@ -67,7 +67,7 @@ not-said [] said changes some same = some refl
 not-said (x ∷ xs) said [] some same = cc
 not-said (x ∷ xs) said (c ∷ cs) some same = cc
 
--- a partition to which records were fed doesn't show changes alone
+-- a partition with fed records doesn't show changes alone
 pub records-shown : (s : Shelves) (i q : ℕ) (t : TopicShelf) (p : PartShelf) → slice_get s.topics.items i ≡ Some t → slice_get t.parts.items q ≡ Some p →
     ¬ (p.fed.items ≡ []) → (changes : List Change) → ¬ ((shelf_of s).shown i q ≡ map Said changes)
 records-shown s i q t p topic part some changes same =
@@ -87,7 +87,7 @@ none-in_order : IsInPlaceOrder []
 none-in_order = λ i j d low below. absurd (omega (arith, below))
 
 module _ {s next : Shelves} {i q : ℕ} {t changed : TopicShelf} {p left : PartShelf} where
-  -- ---- what is left is kept well
+  -- ---- the rest keeps its invariants
 
   shows-none : Gives s next i q t changed p left → shown_in left ≡ []
   shows-none h = λ k. entries_of ((ap (λ (v : Vec SourceRecord). v.items) h.fed_left ∙ h.unfed) k) (h.said_left k)
@@ -129,7 +129,7 @@ module _ {s next : Shelves} {i q : ℕ} {t changed : TopicShelf} {p left : PartS
   part-apart h r apart =
       part-there h.replaces r ∙ ap (λ (ps : List PartShelf). slice_get ps r) h.parts ∙ slice_get-set_else t.parts.items q r left apart ∙ sym (part-was h.replaces r)
 
-  -- what f says of the partitions is as it was, where it says the same of what is left
+  -- the values of f on the partitions are unchanged if its value on the remaining part is
   parts-same : {X : Type 0} (f : PartShelf → X) → Gives s next i q t changed p left → f left ≡ f p → (j r : ℕ) → option_map f (part_at next j r) ≡ option_map f (part_at s j r)
   parts-same f h same j r = ⊎_elim
       (λ (topic : j ≡ i). subst (λ (j : ℕ). option_map f (part_at next j r) ≡ option_map f (part_at s j r)) (sym topic) (⊎_elim

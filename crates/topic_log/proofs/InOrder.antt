@@ -1,4 +1,4 @@
--- What is shown stands in the order of places, and what waits goes on ascending.
+-- What is shown is in the order of places, and what waits keeps ascending.
 use Rattle.std.proofs.Common.{◌≡◌, ap, refl, ℕ, suc, List, [], ◌∷◌, ◌++◌, ◌<◌, ◌≤◌, Bool, true, false, cond, map, arith}
 use Rattle.std.specs.Prelude.{All, filter, nat_lt, nat_le, if◌then◌else◌}
 use Rattle.std.specs.List.{AllByRecursion, AllPairs, flat_map}
@@ -114,7 +114,7 @@ All-ascending : (P : Change → Type 0) (bs : List Change) → All P bs → All 
 All-ascending P [] h = h
 All-ascending P (b ∷ bs) h = All-placed P b (ascending change_cmp bs) (All-head P b bs h) (All-ascending P bs (All-tail P b bs h))
 
--- what holds of all members of all lists holds of what is merged of them
+-- a property of all members of all lists holds of those that are merged
 All-merged : (closed now : ℕ) (ls : List (List Change)) → AllByRecursion (λ xs. All (λ x. closed < feed_of x) xs) ls → All (λ x. (closed < feed_of x) × (feed_of x ≤ now)) (merged (map (upto now) ls))
 All-merged closed now ls later = All-ascending (λ x. (closed < feed_of x) × (feed_of x ≤ now)) (flat_map (λ xs. xs) (map (upto now) ls)) (by ls later)
   where
@@ -125,7 +125,7 @@ All-merged closed now ls later = All-ascending (λ x. (closed < feed_of x) × (f
         (filter-both (λ x. nat_le (feed_of x) now) (λ x. closed < feed_of x) (λ x. (closed < feed_of x) × (feed_of x ≤ now)) (λ x passes h. (h, le_from (feed_of x) now passes)) xs later.0)
         (by ls later.1)
 
--- changes that ascend stand in place order as entries
+-- changes that ascend are in place order as entries
 in_order-said : (xs : List Change) → Ascends change_cmp xs → IsInPlaceOrder (map Said xs)
 in_order-said [] up = pairs-nil (λ x y. is_gt (place_cmp (place_of x) (place_of y)) ≡ false)
 in_order-said (x ∷ xs) up =
@@ -133,7 +133,7 @@ in_order-said (x ∷ xs) up =
     (All-map (λ y. is_gt (place_cmp x.place (place_of y)) ≡ false) Said xs (All-from_recursion (λ y. is_gt (change_cmp x y) ≡ false) xs up.0))
     (in_order-said xs up.1)
 
--- what is shown of later feeds is in order behind what was shown
+-- what is shown of later feeds comes after what was shown
 pub in_order_more : (closed now : ℕ) (shown : List LogEntry) (ls : List (List Change)) → IsInPlaceOrder shown → All (λ x. feed_in x ≤ closed) shown → AllByRecursion (λ xs. All (λ x. closed < feed_of x) xs) ls →
     IsInPlaceOrder (shown ++ map Said (merged (map (upto now) ls)))
 in_order_more closed now shown ls in_order is_closed later =

@@ -1,4 +1,5 @@
--- One topic of a broker is changed, and what that leaves of all others; and what is kept of the tasks that write a topic.
+-- One topic of a broker is changed, and what that leaves of all others; and what is kept of the tasks that write a
+-- topic.
 use Rattle.std.proofs.Common.{◌≡◌, ◌∙◌, ap, ap₂, sym, refl, subst, ℕ, zero, suc, ◌+◌, ◌<◌, true, false, List, [], ◌∷◌, map, length, get_or, set, arith, eq-eqb, Option, Some, None}
 use Rattle.std.specs.Prelude.{All, Contains, IfSome, min, slice_get, option_map, option_and_then, unwrap_or}
 use Rattle.std.specs.List.{AllPairs, range_with_len}
@@ -46,7 +47,7 @@ module _ {A : Type 0} where
   pub All-slice_get : (P : A → Type 0) (xs : List A) (i : ℕ) (x : A) → All P xs → slice_get xs i ≡ Some x → P x
   All-slice_get P xs i x all is = subst P (get_or_from_slice_get xs i x x is) (all i x (slice_get_within xs i x is))
 
-  -- a member is replaced by one of which f says the same
+  -- a member is replaced by one with the same value of f
   pub map-set_same : {B : Type 0} (f : A → B) (xs : List A) (i : ℕ) (x y : A) → slice_get xs i ≡ Some x → f y ≡ f x → map f (set xs i y) ≡ map f xs
   map-set_same {B = B} f [] i x y is same = refl
   map-set_same {B = B} f (z ∷ xs) zero x y is same = ap (λ (b : B). b ∷ map f xs) (same ∙ ap f (sym (same_Some z x is)))
@@ -64,7 +65,7 @@ pub record Replaces (s next : Shelves) (i : ℕ) (t changed : TopicShelf) : Type
   pub items : next.topics.items ≡ set s.topics.items i changed
   pub spec : changed.spec ≡ t.spec
 
--- a partition of a topic, and what is kept of one of its tasks, where there is the topic
+-- a partition of a topic, and the data kept for one of its tasks, if the topic exists
 abbrev pub part_in : ℕ → Option TopicShelf → Option PartShelf
 part_in q = option_and_then (λ t. slice_get t.parts.items q)
 
@@ -132,7 +133,7 @@ is-of_writer w part below =
       get_or-map-range_with_len make 0 w.partitions part part (make part) below (omega arith),
     )
 
--- there are as many as the writer has partitions
+-- there are as many tasks as the writer has partitions
 pub length-of_writer : (w : Writer) → length (tasks_of_writer (Some w)) ≡ w.partitions
 length-of_writer w =
     let make : ℕ → TaskName = λ part. record { sub = w.sub; part = part } in
@@ -147,7 +148,7 @@ writers_in o = tasks_of_writer (option_and_then (λ t. t.writer) o)
 pub writers-of : (s : Shelves) (i : ℕ) (t : TopicShelf) → slice_get s.topics.items i ≡ Some t → (routes_in s).writers i ≡ tasks_of_writer t.spec.writer
 writers-of s i t at = ap writers_in (spec-at s i t at)
 
--- what a task that writes a topic has: its topic, the writer of this, and what is kept of the task
+-- a task that writes a topic: its topic, the topic's writer, and the data kept for the task
 pub record Writes (s : Shelves) (u : TaskName) : Type 0 where
   pub topic : TopicShelf
   pub writer : Writer
@@ -207,7 +208,7 @@ same-sub s u v first second to =
     task-of_writer w v (subst (λ (i : ℕ). Contains ((routes_in s).writers i) v) (sym to) second) in
     sym a.2 ∙ ap (λ (x : Writer). x.sub) (same_Some a.0 b.0 (sym a.1 ∙ b.1)) ∙ b.2
 
--- so those of one partition are one task
+-- so tasks with the same partition are the same
 pub same-task : (s : Shelves) (u v : TaskName) → IsWriter (routes_in s) u → IsWriter (routes_in s) v → (routes_in s).output u ≡ (routes_in s).output v → u.part ≡ v.part → u ≡ v
 same-task s u v first second to part =
     let make : ℕ → ℕ → TaskName = λ sub part. record { sub = sub; part = part } in

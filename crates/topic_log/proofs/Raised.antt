@@ -25,7 +25,7 @@ use Rattle.topic_log.proofs.OneTopic.{All-slice_get, Replaces, lowest-map, map-s
 
 -- ---- a task is raised
 
--- the next shelves are these, where only the newest generation of a task is one more
+-- the next shelves are these, except that the newest generation of a task is one higher
 pub record Raises (s next : Shelves) (u : TaskName) (t changed : TopicShelf) (k raised : TaskShelf) : Type 0 where
   pub replaces : Replaces s next ((routes_in s).output u) t changed
   pub fed : next.fed ≡ s.fed
@@ -90,7 +90,7 @@ module _ {s next : Shelves} {u : TaskName} {t changed : TopicShelf} {k raised : 
     task-was h.replaces v output ∙ ap (slice_get t.tasks.items) part ∙ h.there,
   )
 
-  -- what f says of the tasks is as it was, where it says the same of the raised task
+  -- the values of f on the tasks are unchanged if its value on the raised task is
   pub said-same : {X : Type 0} (f : TaskShelf → X) → Raises s next u t changed k raised → f raised ≡ f k → (v : TaskName) → option_map f (task_at next v) ≡ option_map f (task_at s v)
   said-same f h same v = ⊎_elim
       (λ (output : (routes_in s).output v ≡ (routes_in s).output u). ⊎_elim
@@ -125,7 +125,7 @@ module _ {s next : Shelves} {u : TaskName} {t changed : TopicShelf} {k raised : 
         (task-apart h v (λ output part. apart (same-task s v u writes is output part)));
   }
 
--- ---- what is ready to be committed stays so
+-- ---- a prepared commit stays ready
 
 logs-room : (more : ℕ) (a b : Option TaskShelf) → option_map (λ (k : TaskShelf). k.logs) a ≡ option_map (λ (k : TaskShelf). k.logs) b →
     IfSome b (λ k. length k.logs.items + more ≤ vec_capacity k.logs) → IfSome a (λ k. length k.logs.items + more ≤ vec_capacity k.logs)

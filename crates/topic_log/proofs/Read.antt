@@ -1,5 +1,5 @@
--- The topic that a task writes and what is kept of the task, as they are read by index.
-use Rattle.std.proofs.Common.{◌≡◌, ◌∙◌, ap, sym, subst, ℕ, ◌<◌, List, length, get_or, arith, rules, Option, Some}
+-- The topic that a task writes and the data kept for the task, read by index.
+use Rattle.std.proofs.Common.{◌≡◌, ◌∙◌, ap, refl, sym, subst, ℕ, ◌<◌, List, length, get_or, arith, rules, Option, Some}
 use Rattle.std.specs.Prelude.{IsSome, slice_get, option_map, unwrap_or}
 use Rattle.std.proofs.lemmas.List.{length-map}
 use Rattle.std.proofs.lemmas.Option.{get_or_from_slice_get, same_Some}
@@ -14,7 +14,8 @@ use Rattle.topic_log.specs.declared.shelves.TopicShelf.{TopicShelf}
 use Rattle.topic_log.specs.Shelves.{AreShelves, IsTopicShelf, part_at, routes_in, task_at, topics_of}
 use Rattle.topic_log.proofs.OneTopic.{All-slice_get, Writes, part_in, slice_get-some, spec-at, task_in, writes}
 
--- a task writes in the shelves of which a broker's value is the view, and its output there is the one that was looked up
+-- a task writes in the shelves of which a broker's value is the view, and its output there is the one that was looked
+-- up
 pub writer-inside : (s now : Shelves) (u : TaskName) → s ≡ now → IsWriter (routes_in now) u → IsWriter (routes_in s) u
 writer-inside s now u same is = subst (λ (s : Shelves). IsWriter (routes_in s) u) (sym same) is
 
@@ -38,7 +39,7 @@ module _ (s : Shelves) (u : TaskName) (are : AreShelves s) (is : IsWriter (route
       let same : w.topic ≡ t = same_Some w.topic t (sym w.at ∙ read-topic) in
       subst (λ (t : TopicShelf). u.part < length t.tasks.items) same w.within
 
-  -- what is kept of the task, as it was read
+  -- the data kept for the task, as it was read
   pub read-task : (k : TaskShelf) → k ≡ get_or t.tasks.items u.part k → slice_get t.tasks.items u.part ≡ Some k
   read-task k held =
       let w : Writes s u = writes s u are is in
@@ -69,3 +70,9 @@ part-is_there s are i t at q below =
     let shelf : IsTopicShelf s.fed t = All-slice_get (IsTopicShelf s.fed) s.topics.items i t are.each at in
     let found : (p : PartShelf) × (slice_get t.parts.items q ≡ Some p) = slice_get-some t.parts.items q (subst (λ (n : ℕ). q < n) (sym shelf.parts) below) in
     subst (λ (o : Option PartShelf). IsSome o) (sym (ap (part_in q) at ∙ found.1)) (some-is found.0)
+
+-- each partition of each topic is there
+pub all-there : (s : Shelves) → AreShelves s → (i q : ℕ) → i < length (topics_of s) → q < partitions_of (topics_of s) i → IsSome (part_at s i q)
+all-there s are i q inside below =
+    let found : (t : TopicShelf) × (slice_get s.topics.items i ≡ Some t) = slice_get-some s.topics.items i (topic-inside s s i refl inside) in
+    part-is_there s are i found.0 found.1 q (subst (λ (n : ℕ). q < n) (partitions-at s i found.0 found.1) below)

@@ -22,7 +22,7 @@ IfSome-any : {A : Type 0} (X : Type 0) (o : Option A) → X → IfSome o (λ _. 
 IfSome-any X None x = tt
 IfSome-any X (Some y) x = x
 
--- a proposal and its outputs by the partitions that they go to among so many
+-- a proposal and its outputs sorted by their partitions among n
 pub record IsSorted (n : ℕ) (made : Prepared) (p : Proposal) : Type 0 where
   pub task : made.task ≡ p.task
   pub generation : made.generation ≡ p.generation

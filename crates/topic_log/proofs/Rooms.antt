@@ -17,7 +17,7 @@ use Rattle.topic_log.proofs.EachPlace.{EachAt-weaker, EachAt-written}
 pub filter-le : {A : Type 0} (p : A → Bool) (xs : List A) → length (filter p xs) ≤ length xs
 filter-le p xs = omega (arith, length-filter_both p (λ x. not (p x)) (λ x. refl) xs)
 
--- of the first changes no more go to a partition than there are
+-- among the first changes, no more go to a partition than there are
 pub count-front : (n : ℕ) (xs : List Change) (i q : ℕ) → i < length xs → count_to n (take i xs) q ≤ i
 count-front n xs i q inside =
     let few : count_to n (take i xs) q ≤ length (take i xs) = filter-le (is_to n q) (take i xs) in
@@ -40,13 +40,13 @@ rooms-counted n xs counts rooms len counted same whole each = record {
         let at = position-Some (λ (count : ℕ). count == length xs) counts part 0 (sym is) in
         (omega (arith, at.0, len), sym (counted part 0 at.0) ∙ eqb-true (get_or counts part 0) (length xs) at.1)
 
--- the partition to which a change goes
+-- the partition that a change goes to
 abbrev pub goes_to : ℕ → Change → ℕ
 goes_to n x = lane x.key n x.place.stamp.part
 
 -- ---- putting
 
--- a change is the first of those that are left for its partition
+-- a change is the first of the remaining ones for its partition
 first-there : (n : ℕ) (x : Change) (rest : List Change) → filter (is_to n (goes_to n x)) (x ∷ rest) ≡ x ∷ filter (is_to n (goes_to n x)) rest
 first-there n x rest = cond-true (is_to n (goes_to n x) x) (x ∷ filter (is_to n (goes_to n x)) rest) (filter (is_to n (goes_to n x)) rest) (eq-eqb (goes_to n x) (goes_to n x) refl)
 
@@ -81,7 +81,7 @@ put-next n all x rest rooms part room put lane-is within at items cap each =
 -- ---- one partition gets the whole
 
 module _ {A : Type 0} (p : A → Bool) where
-  -- where as many pass as there are, the first one does
+  -- if as many pass as there are, the first one passes
   whole-cons : (x : A) (xs : List A) → length (filter p (x ∷ xs)) ≡ length (x ∷ xs) → (p x ≡ true) × (length (filter p xs) ≡ length xs)
   whole-cons x xs = by (p x) refl
     where

@@ -15,7 +15,7 @@ use Rattle.topic_log.proofs.EachPlace.{EachAt-weaker, EachAt-written}
 use Rattle.topic_log.proofs.OneTopic.{IfSome-at}
 
 module _ (all : List SourceRecord) (r : SourceRecord) (rest : List SourceRecord) where
-  -- a record that stands elsewhere is passed over
+  -- a record for another partition is skipped
   passed : (topic q : ℕ) → is_in topic q r ≡ false → filter (is_in topic q) (r ∷ rest) ≡ filter (is_in topic q) rest
   passed topic q elsewhere = cond-false (is_in topic q r) (r ∷ filter (is_in topic q) rest) (filter (is_in topic q) rest) elsewhere
 
@@ -92,7 +92,7 @@ module _ (all : List SourceRecord) (r : SourceRecord) (rest : List SourceRecord)
             h.topics;
       }
 
--- ---- the partition in which a record stands
+-- ---- a record's partition
 
 module _ (all rest : List SourceRecord) (was now : List TopicShelf) (topic q : ℕ) (here : There was topic q) (h : WillShowAll all rest was now) where
   pub topic-inside : topic < length now

@@ -1,4 +1,4 @@
--- A partition in which only one writer's changes wait, and all of them are due.
+-- A partition where only one writer's changes wait, and all of them are due.
 use Rattle.std.proofs.Common.{◌≡◌, ◌∙◌, ◌⊎◌, inl, inr, ap, ap₂, sym, refl, subst, ℕ, zero, suc, List, [], ◌∷◌, ◌++◌, ◌+◌, ◌-◌, ◌<◌, ◌≤◌, true, false, length, map, get_or, set, arith, append-nil}
 use Rattle.std.specs.Prelude.{All, flat_map, nat_le, nat_lt}
 use Rattle.std.specs.Ordering.{is_gt}
@@ -29,7 +29,7 @@ upto-all c xs all = filter-all (λ x. nat_le (feed_of x) c) xs (All-weaker (λ x
 after-all : (c : ℕ) (xs : List Change) → All (λ x. feed_of x ≤ c) xs → after c xs ≡ []
 after-all c xs all = filter-none (λ x. nat_lt c (feed_of x)) xs (All-weaker (λ x. feed_of x ≤ c) (λ x. nat_lt c (feed_of x) ≡ false) (λ x low. not_late c (feed_of x) low) xs all)
 
--- ---- lists of which all but one are empty
+-- ---- lists, all but one of them empty
 
 alone-zero : (l : List Change) (ls : List (List Change)) → IsAlone (l ∷ ls) 0 → (k : ℕ) → get_or ls k [] ≡ []
 alone-zero l ls alone k = by (alone (suc k))
@@ -72,7 +72,7 @@ alone-after c (l ∷ ls) zero alone none = ap₂ (λ (us : List Change) (vs : Li
 alone-after c (l ∷ ls) (suc i) alone none =
     ap₂ (λ (us : List Change) (vs : List (List Change)). us ∷ vs) (ap (after c) (alone-first l ls i alone) ∙ sym (alone-first l ls i alone)) (alone-after c ls i (alone-rest l ls i alone) none)
 
--- ---- a partition in which they wait
+-- ---- a partition where they wait
 
 module _ (c : ℕ) (ls : List (List Change)) (i : ℕ) (xs : List Change) (at : xs ≡ get_or ls i []) (alone : IsAlone ls i) (due : All (λ x. feed_of x ≤ c) xs) (rises : Rises change_cmp xs) where
   pub whole-shown : merged (map (upto c) ls) ≡ xs

@@ -1,4 +1,4 @@
--- What of the changes that wait is due, and what a commit does to a partition.
+-- Which waiting changes are due, and what a commit does to a partition.
 use Rattle.std.specs.Prelude.{◌≡◌, ℕ, ◌+◌, ◌<◌, ◌≤◌, ◌⊎◌, Bool, true, false, List, [], ◌∷◌, ◌++◌, length, map, All, nat_le, if◌then◌else◌, Option, Some, None, IfSome, slice_get, slice_index_or, slice_set, vec_capacity}
 use Rattle.std.specs.Global.{Vec}
 use Rattle.std.specs.Ordering.{is_gt, is_lt}
@@ -20,50 +20,50 @@ use Rattle.topic_log.specs.Shelves.{closed_in, waiting_in}
 abbrev pub is_due : ℕ → Change → Bool
 is_due closed x = nat_le (feed_of x) closed
 
--- the first member, where it passes a test
+-- the first member, if it passes a test
 abbrev pub first_if : {A : Type 0} → (A → Bool) → List A → Option A
 first_if p [] = None
 first_if p (x ∷ xs) = if p x then Some x else None
 
--- the first of each list that waits, where it is due
+-- the first change of each waiting list, if it is due
 abbrev pub dues : ℕ → List (List Change) → List (Option Change)
 dues closed ls = map (first_if (is_due closed)) ls
 
--- whether a change is there and goes before another, or there is no other
+-- whether a change exists and comes before another, or there is no other
 abbrev pub goes_before : Option Change → Option Change → Bool
 goes_before None best = false
 goes_before (Some x) None = true
 goes_before (Some x) (Some y) = is_lt (change_cmp x y)
 
--- the change of the i-th of n lists goes before those of the lists in front of it, and not after those of the lists behind it
+-- the change of the i-th of n lists comes before those of the earlier lists, and not after those of the later ones
 pub record GoesFirst (ds : List (Option Change)) (n i : ℕ) (x : Change) : Type 0 where
   pub within : i < n
   pub at : slice_index_or ds i None ≡ Some x
   pub before : (j : ℕ) → j < i → IfSome (slice_index_or ds j None) (λ y. is_gt (change_cmp y x) ≡ true)
   pub behind : (j : ℕ) → i < j → j < n → IfSome (slice_index_or ds j None) (λ y. is_gt (change_cmp x y) ≡ false)
 
--- of the first n lists, the number of the one whose change goes first, and that change
+-- among the first n lists, the number of the one whose change comes first, and that change
 abbrev pub IsBest : List (Option Change) → ℕ → Option ℕ → Option Change → Type 0
 IsBest ds n None None = (j : ℕ) → j < n → slice_index_or ds j None ≡ None
 IsBest ds n None (Some x) = ⊥
 IsBest ds n (Some i) None = ⊥
 IsBest ds n (Some i) (Some x) = GoesFirst ds n i x
 
--- of the first n lists, the number of the one whose change goes first, where one is due
+-- among the first n lists, the number of the one whose change comes first, if one is due
 abbrev pub IsNext : List (Option Change) → ℕ → Option ℕ → Type 0
 IsNext ds n next = (best : Option Change) × IsBest ds n next best
 
 -- ---- partitions
 
--- what waits in a partition, by the partitions of its writer's tasks
+-- what waits in a partition, by the partition of the writer's task
 abbrev pub waiting_lists : PartShelf → List (List Change)
 waiting_lists p = map (λ w. w.items) p.waiting.items
 
--- of these lists all but this one are empty
+-- all of these lists but this one are empty
 abbrev pub IsAlone : List (List Change) → ℕ → Type 0
 IsAlone ls i = (k : ℕ) → (k ≡ i) ⊎ (slice_index_or ls k [] ≡ [])
 
--- nothing waits but of this writer, all of it is due, and no change is shown
+-- only this writer has waiting changes, all of them are due, and no change is shown
 pub record IsWholeDue (closed : ℕ) (p : PartShelf) (writer : ℕ) : Type 0 where
   pub within : writer < length p.waiting.items
   pub alone : IsAlone (waiting_lists p) writer
@@ -74,13 +74,13 @@ pub record IsWholeDue (closed : ℕ) (p : PartShelf) (writer : ℕ) : Type 0 whe
 abbrev pub gathered : ℕ → List Change → PartShelf → List (List Change)
 gathered writer sent p = slice_set (waiting_lists p) writer (waiting_in writer p ++ sent)
 
--- a partition has room for what a writer sends, and what waits then ascends
+-- a partition has room for what a writer sends, and then its waiting changes ascend
 pub record PartFits (writer : ℕ) (sent : List Change) (p : PartShelf) : Type 0 where
   pub writer_in : writer < length p.waiting.items
   pub room : HasRoom writer (length sent) p
   pub ascends : All (Rises change_cmp) (gathered writer sent p)
 
--- what a writer sent is put to what waits, and what is due of it is shown
+-- what a writer sent joins what waits, and what is due of it is shown
 pub record PartCommits (closed writer : ℕ) (sent : List Change) (old new : PartShelf) : Type 0 where
   pub fed : new.fed ≡ old.fed
   pub said : new.said.items ≡ old.said.items ++ merged (map (upto closed) (gathered writer sent old))
@@ -90,7 +90,7 @@ pub record PartCommits (closed writer : ℕ) (sent : List Change) (old new : Par
 abbrev pub EachFits : ℕ → List (Vec Change) → List PartShelf → Type 0
 EachFits writer sent parts = (q : ℕ) (p : PartShelf) (xs : Vec Change) → slice_get parts q ≡ Some p → slice_get sent q ≡ Some xs → PartFits writer xs.items p
 
--- to each partition is put what a writer sent there
+-- what a writer sent to each partition is committed there
 abbrev pub EachCommits : ℕ → ℕ → List (Vec Change) → List PartShelf → List PartShelf → Type 0
 EachCommits closed writer sent old new = (q : ℕ) (p : PartShelf) (xs : Vec Change) → slice_get old q ≡ Some p → slice_get sent q ≡ Some xs →
     (next : PartShelf) × (slice_get new q ≡ Some next) × PartCommits closed writer xs.items p next
@@ -103,12 +103,12 @@ pub record IsSent (made : Prepared) (sent : List Change) (p : PartShelf) : Type 
   pub within : All (λ x. (made.from < feed_of x) × (feed_of x ≤ made.to)) sent
   pub room : HasRoom made.task.part (length sent) p
 
--- a task begins where it is done, and its changelog has room
+-- a task begins where its last commit ended, and its changelog has room
 pub record TaskFits (made : Prepared) (k : TaskShelf) : Type 0 where
   pub begins : k.done ≡ made.from
   pub room : length k.logs.items + length made.entries.items ≤ vec_capacity k.logs
 
--- what was prepared fits a topic: the task is one of those that write it, and there is room
+-- what was prepared fits a topic: the task is one of its writers, and there is room
 pub record TopicFits (made : Prepared) (t : TopicShelf) : Type 0 where
   pub rises : made.from < made.to
   pub task : (k : TaskShelf) × (slice_get t.tasks.items made.task.part ≡ Some k) × TaskFits made k

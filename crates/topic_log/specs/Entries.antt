@@ -7,7 +7,7 @@ use Rattle.core_state.specs.declared.log.LogEntry.TheVariants.{Fed, Said}
 use Rattle.topic_log.specs.declared.shelves.Entries.{Entries}
 use Rattle.topic_log.specs.declared.shelves.PartShelf.{PartShelf}
 
--- the entries of records that were fed, and then those of changes that were sent
+-- the entries of records that were fed, then those of changes that were sent
 abbrev pub entries_of : List SourceRecord → List Change → List LogEntry
 entries_of records changes = map Fed records ++ map Said changes
 

@@ -1,4 +1,4 @@
--- The topics of a broker to which nothing was fed and nothing was committed.
+-- The topics of a broker before any feed and commit.
 use Rattle.std.specs.Prelude.{◌≡◌, ℕ, [], length, All}
 use Rattle.ksql_types.specs.declared.topic.TopicSpec.{TopicSpec}
 use Rattle.core_state.specs.Routes.{tasks_of_writer}
@@ -6,7 +6,7 @@ use Rattle.topic_log.specs.declared.shelves.PartShelf.{PartShelf}
 use Rattle.topic_log.specs.declared.shelves.TaskShelf.{TaskShelf}
 use Rattle.topic_log.specs.declared.shelves.TopicShelf.{TopicShelf}
 
--- nothing waits in a partition of what so many tasks may send
+-- a partition where nothing waits of n tasks
 pub record IsEmptyPart (tasks : ℕ) (p : PartShelf) : Type 0 where
   pub fed : p.fed.items ≡ []
   pub said : p.said.items ≡ []
@@ -19,7 +19,7 @@ pub record IsFreshTask (k : TaskShelf) : Type 0 where
   pub newest : k.newest ≡ 1
   pub logs : k.logs.items ≡ []
 
--- how many tasks write a topic
+-- the number of tasks that write a topic
 abbrev pub task_count : TopicSpec → ℕ
 task_count topic = length (tasks_of_writer topic.writer)
 

@@ -1,4 +1,4 @@
--- The order in which entries stand in a partition.
+-- The order of entries in a partition.
 use Rattle.std.specs.Prelude.{◌≡◌, ℕ, false, List, []}
 use Rattle.std.specs.List.{AllPairs}
 use Rattle.std.specs.Ordering.{is_gt}
@@ -7,7 +7,7 @@ use Rattle.ksql_place.specs.declared.stamp.Place.{Place}
 use Rattle.core_state.specs.declared.log.LogEntry.{LogEntry}
 use Rattle.core_state.specs.declared.log.LogEntry.TheVariants.{Fed, Said}
 
--- the place of an entry: of a record its stamp, with the empty path
+-- the place of an entry; for a record its stamp, with the empty path
 abbrev pub place_of : LogEntry → Place
 place_of (Fed r) = record { stamp = r.stamp; path = [] }
 place_of (Said x) = x.place

@@ -1,4 +1,4 @@
--- A commit that can be made without memory.
+-- A commit that takes no memory.
 use Rattle.std.specs.Prelude.{◌≡◌, ℕ, ◌+◌, ◌<◌, ◌≤◌, ◌⊎◌, [], length, map, sum, All, IfSome, slice_get, vec_capacity}
 use Rattle.std.specs.VecDeque.{deque_capacity}
 use Rattle.ksql_place.specs.Ascending.{Rises}
@@ -17,16 +17,16 @@ pub record IsProposal (p : Proposal) : Type 0 where
   pub ascends : Rises change_cmp p.outputs
   pub within : All (λ x. (p.from < feed_of x) × (feed_of x ≤ p.to)) p.outputs
 
--- how many changes wait in a partition
+-- the number of changes that wait in a partition
 abbrev pub waiting_len : PartShelf → ℕ
 waiting_len p = sum (map (λ w. length w.items) p.waiting.items)
 
--- a partition has room for what waits there and for so many changes of a task
+-- a partition has room for what waits there and n more changes of a task
 pub record HasRoom (writer more : ℕ) (p : PartShelf) : Type 0 where
   pub shown : length p.said.items + waiting_len p + more ≤ vec_capacity p.said
   pub waiting : IfSome (slice_get p.waiting.items writer) (λ w. (w.items ≡ []) ⊎ (length w.items + more ≤ deque_capacity w))
 
--- what was prepared is this proposal, its outputs by their partitions, and the broker has room for it
+-- what was prepared is this proposal, with its outputs by partition, and the broker has room for it
 pub record IsReady (s : Shelves) (made : Prepared) (p : Proposal) : Type 0 where
   pub writer : IsWriter (routes_in s) p.task
   pub proposal : IsProposal p

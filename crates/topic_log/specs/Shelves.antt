@@ -1,4 +1,4 @@
--- What the data of a broker stand for, and what is kept of them.
+-- The meaning of a broker's data, and its invariants.
 use Rattle.std.specs.Prelude.{◌≡◌, ℕ, ◌<◌, ◌≤◌, List, [], length, map, All, Option, IfSome, IsSome, option_and_then, option_map, unwrap_or, slice_get}
 use Rattle.std.specs.List.{AllPairs, AllZip}
 use Rattle.ksql_types.specs.declared.relation.TaskName.{TaskName}
@@ -29,15 +29,15 @@ routes_in s = routes_of (topics_of s)
 abbrev pub part_at : Shelves → ℕ → ℕ → Option PartShelf
 part_at s topic q = option_and_then (λ t. slice_get t.parts.items q) (slice_get s.topics.items topic)
 
--- what is kept of a task
+-- the data kept for a task
 abbrev pub task_at : Shelves → TaskName → Option TaskShelf
 task_at s t = option_and_then (λ k. slice_get k.tasks.items t.part) (slice_get s.topics.items ((routes_in s).output t))
 
--- what waits in a partition of what the task of a partition sent
+-- the waiting changes in a partition from the task of a partition
 abbrev pub waiting_in : ℕ → PartShelf → List Change
 waiting_in writer p = unwrap_or (option_map (λ w. w.items) (slice_get p.waiting.items writer)) []
 
--- what a broker has
+-- the broker's state
 abbrev pub shelf_of : Shelves → Shelf
 shelf_of s = record {
   fed = s.fed;
@@ -52,7 +52,7 @@ shelf_of s = record {
 abbrev pub IsSourcePart : Shelves → ℕ → ℕ → Type 0
 IsSourcePart s topic q = ((routes_in s).writers topic ≡ []) × IsSome (part_at s topic q)
 
--- ---- what is kept
+-- ---- invariants
 
 -- a topic has 1 to 64 partitions, and so has its writer
 pub record IsTopic (t : TopicSpec) : Type 0 where
@@ -61,17 +61,19 @@ pub record IsTopic (t : TopicSpec) : Type 0 where
   pub writer_some : IfSome t.writer (λ w. 1 ≤ w.partitions)
   pub writer_few : IfSome t.writer (λ w. w.partitions ≤ 64)
 
--- topics: the number of each is its index, and no two are written by one sub-topology
+-- topics: the number of each is its index, and a sub-topology writes at most one of them
 pub record AreTopics (topics : List TopicSpec) : Type 0 where
   pub numbered : (i : ℕ) → IfSome (slice_get topics i) (λ t. t.number ≡ i)
   pub each : All IsTopic topics
   pub apart : AllPairs (λ a b. IfSome a.writer (λ w. IfSome b.writer (λ v. ¬ (w.sub ≡ v.sub)))) topics
 
--- what waits of a task that is done up to a feed, where its topic is closed up to another, ascends and lies between these
+-- the waiting changes of a task that is done up to a feed, in a topic closed up to another, ascend and lie between the
+-- two
 abbrev pub Waits : ℕ → ℕ → List Change → Type 0
 Waits closed done xs = Rises change_cmp xs × All (λ x. (closed < feed_of x) × (feed_of x ≤ done)) xs
 
--- a partition of a topic that is closed up to a feed, and whose writers are done up to these; without writers no change is there
+-- a partition of a topic that is closed up to a feed, and whose writers are done up to these; without writers it has no
+-- change
 pub record IsPartShelf (closed : ℕ) (dones : List ℕ) (p : PartShelf) : Type 0 where
   pub in_order : IsInPlaceOrder (shown_in p)
   pub is_closed : All (λ x. feed_in x ≤ closed) (shown_in p)
@@ -81,7 +83,7 @@ pub record IsPartShelf (closed : ℕ) (dones : List ℕ) (p : PartShelf) : Type 
 abbrev pub dones_of : TopicShelf → List ℕ
 dones_of t = map (λ k. k.done) t.tasks.items
 
--- the feed up to which a topic is closed, where this is the last one
+-- the feed up to which a topic is closed, given the last feed
 abbrev pub closed_in : ℕ → TopicShelf → ℕ
 closed_in fed t = lowest fed (λ k. k.done) t.tasks.items
 

@@ -1,4 +1,4 @@
--- The memory that is taken before a commit.
+-- The memory allocated before a commit.
 use Rattle.std.specs.Prelude.{◌≡◌, ℕ, ◌+◌, ◌<◌, ◌≤◌, List, [], ◌++◌, length, filter, slice_get, Option, Some, None, IfSome, vec_capacity}
 use Rattle.std.specs.Global.{Vec}
 use Rattle.ksql_place.specs.Routing.{is_to}
@@ -9,15 +9,15 @@ use Rattle.topic_log.specs.declared.shelves.TopicShelf.{TopicShelf}
 use Rattle.topic_log.specs.Ready.{HasRoom}
 use Rattle.topic_log.specs.Views.{EachAt}
 
--- how many of some changes go to a partition among n
+-- the number of changes that go to a partition among n
 abbrev pub count_to : ℕ → List Change → ℕ → ℕ
 count_to n xs part = length (filter (is_to n part) xs)
 
--- an empty list with room for so many changes
+-- an empty list with room for n changes
 abbrev pub IsEmptyRoom : ℕ → Vec Change → Type 0
 IsEmptyRoom more xs = (xs.items ≡ []) × (more ≤ vec_capacity xs)
 
--- the room that a list needs for so many changes: none where one partition gets the list of all
+-- the room that a list of n changes needs: none if one partition gets the list of all
 abbrev pub room_beside : Option ℕ → ℕ → ℕ
 room_beside None count = count
 room_beside (Some part) count = 0
@@ -28,7 +28,7 @@ pub record AreRooms (n : ℕ) (xs : List Change) (rooms : Rooms) : Type 0 where
   pub whole : IfSome rooms.whole (λ part. (part < n) × (count_to n xs part ≡ length xs))
   pub lists : EachAt (λ q list. IsEmptyRoom (room_beside rooms.whole (count_to n xs q)) list) rooms.lists.items
 
--- a list becomes with those that are left what of all changes goes to its partition among n, and has room for them
+-- with the remaining changes, a list gets all that go to its partition among n, and has room for them
 pub record WillHave (n : ℕ) (all rest : List Change) (part : ℕ) (xs : Vec Change) : Type 0 where
   pub items : xs.items ++ filter (is_to n part) rest ≡ filter (is_to n part) all
   pub room : length xs.items + count_to n rest part ≤ vec_capacity xs

@@ -15,7 +15,7 @@ pub record PartView : Type 0 where
   pub said : List Change
   pub waiting : List (List Change)
 
--- what is kept of a task
+-- the data kept for a task
 pub record TaskView : Type 0 where
   pub done : ℕ
   pub newest : ℕ
@@ -39,6 +39,6 @@ topic_view t = record { spec = t.spec; parts = map part_view t.parts.items; task
 abbrev pub topic_views : Shelves → List TopicView
 topic_views s = map topic_view s.topics.items
 
--- what holds of each member at its index
+-- a property of each member at its index
 abbrev pub EachAt : {A : Type 0} → (ℕ → A → Type 0) → List A → Type 0
 EachAt {A} P xs = (k : ℕ) (d : A) → k < length xs → P k (slice_index_or xs k d)

@@ -1,4 +1,4 @@
-//! The broker and its calls.
+//! The broker and its operations.
 ghost use Rattle.std.specs.Prelude.{◌≡◌, ℕ, ◌+◌, ◌<◌, ◌≤◌, ◌^◌, [], All, IfErr, IfNone, IfOk, IfSome, IsSome, List, OnErr, OnOk, Some, length, map};
 ghost use Rattle.ksql_place.specs.Ascending.{ascending};
 ghost use Rattle.ksql_place.specs.Order.{record_cmp};
@@ -29,7 +29,7 @@ use std::collections::BTreeMap;
 use std::marker::Model;
 use std::mem;
 
-/// The topics of a topology, what was fed to them, and what the tasks committed.
+/// The topics of a topology, with what was fed to them and what the tasks committed.
 #[derive(Drop)]
 pub struct Broker {
     inner: Shelves,
@@ -54,8 +54,8 @@ impl Model for Broker {
 }
 
 impl Broker {
-    /// Topics to which nothing was fed. The number of each topic is its index, it and its writer have 1 to 64 partitions,
-    /// and no two are written by one sub-topology.
+    /// The topics before anything is fed. Each topic's number is its index, each topic and its writer have 1 to 64
+    /// partitions, and each sub-topology writes at most one topic.
     pub fn new(alloc: Global, topics: &[TopicSpec]) -> Result<Broker, AllocError>
         requires { AreTopics topics.now }
         ensures topics { IfOk result (λ broker. topics_of broker ≡ topics.now) }
@@ -70,9 +70,9 @@ impl Broker {
         Ok(Broker { inner, written })
     }
 
-    /// Makes a feed of records visible, and answers its number. The records stand in partitions of topics that no task writes,
-    /// and come in any order in which the stamps of each partition rise. They are of the feed after the last one. After an
-    /// error the broker has what it had.
+    /// Makes a feed of records visible, and returns the feed's number. The records belong to partitions of topics that
+    /// no task writes, to the feed after the last one, and come in any order in which the stamps of each partition
+    /// rise. After an error the broker is unchanged.
     pub fn feed(&mut self, alloc: Global, records: Vec<SourceRecord>) -> Result<u64, AllocError>
         requires room { self.old.fed + 1 < 2 ^ 64 }
         requires rises_apart { RiseApart records.items }
@@ -86,14 +86,14 @@ impl Broker {
         feed(&mut self.inner, alloc, records)
     }
 
-    /// The last feed.
+    /// The number of the last feed.
     pub fn fed(&self) -> u64
         ensures { result ≡ (shelf_of self.now).fed }
     {
         self.inner.fed
     }
 
-    /// How many partitions a topic has. The topic is one of the broker's.
+    /// The number of partitions of a topic.
     pub fn partitions(&self, topic: u32) -> u32
         requires { topic < length (topics_of self.now) }
         ensures number { result ≡ partitions_of (topics_of self.now) topic }
@@ -102,8 +102,15 @@ impl Broker {
         self.inner.topics[topic as usize].spec.partitions
     }
 
-    /// The feed up to which a topic is closed: the last one of a source, and the least that its writers committed of
-    /// another. The topic is one of the broker's.
+    /// Each partition of each topic is there. This does nothing.
+    pub fn has_parts(&self)
+        ensures { (topic part : ℕ) → topic < length (topics_of self.now) → part < partitions_of (topics_of self.now) topic → IsSome (part_at self.now topic part) }
+    {
+        let _shelves = &self.inner;
+    }
+
+    /// The feed up to which a topic is closed: for a source the last feed, for any other topic the least feed that its
+    /// writers committed.
     pub fn closed(&self, topic: u32) -> u64
         requires { topic < length (topics_of self.now) }
         ensures { result ≡ shelf_closed (routes_in self.now) (shelf_of self.now) topic }
@@ -111,8 +118,7 @@ impl Broker {
         closed_of(&self.inner.topics[topic as usize].tasks, self.inner.fed)
     }
 
-    /// The entries of a partition up to its topic's closed feed, in the order of their places. The topic is one of the
-    /// broker's, and the partition one of its partitions.
+    /// The entries of a partition up to its topic's closed feed, in the order of their places.
     pub fn visible(&self, topic: u32, part: u32) -> Entries<'_>
         requires { IsSome (part_at self.now topic part) }
         ensures value { entries_in result ≡ (shelf_of self.now).shown topic part }
@@ -125,8 +131,8 @@ impl Broker {
         }
     }
 
-    /// Gives away the changes that a partition shows, which then shows none; None where records were fed to it, and nothing is
-    /// given away. The topic is one of the broker's, and the partition one of its partitions. Takes no memory.
+    /// Hands over the changes that a partition shows, so that it then shows none; None if the partition holds fed
+    /// records, which stay. Takes no memory.
     pub fn take(&mut self, topic: u32, part: u32) -> Option<Vec<Change>>
         requires { IsSome (part_at self.old topic part) }
         ensures topics { topics_of self.new ≡ topics_of self.old }
@@ -171,8 +177,8 @@ impl Broker {
         self.task(task).logs.as_slice()
     }
 
-    /// Takes all memory of a proposal's commit. What the broker has stays as it is. After an error it hands the proposal
-    /// back.
+    /// Allocates all memory for the commit of a proposal. The broker's content is unchanged. On failure it hands the
+    /// proposal back.
     pub fn prepare(&mut self, alloc: Global, proposal: Proposal) -> Result<Prepared, Proposal>
         requires writer { IsWriter (routes_in self.old) proposal.task }
         requires proposal { IsProposal proposal }
@@ -185,9 +191,9 @@ impl Broker {
         prepare(&mut self.inner, alloc, number, proposal)
     }
 
-    /// Commits a proposal: what its task is done with, its outputs and its changelog entries become part of the broker at
-    /// once. Outputs wait until their topic's closed feed reaches them. The proposal begins where the task is done. Takes
-    /// no memory.
+    /// Commits a proposal: the task's progress, its outputs and its changelog entries take effect at once. Outputs wait
+    /// until their topic's closed feed reaches them. The proposal begins where the task's last commit ended. Takes no
+    /// memory.
     pub fn apply(&mut self, prepared: Prepared)
         requires ready { (p : OneProposal) × IsReady self.old prepared p }
         requires begins { (shelf_of self.old).done prepared.task ≡ prepared.from }
@@ -199,7 +205,7 @@ impl Broker {
         commit(&mut self.inner.topics[topic], self.inner.fed, prepared);
     }
 
-    /// Raises a task's newest generation, and answers it. Takes no memory; what is ready to be committed stays so.
+    /// Raises a task's newest generation, and returns it. Prepared commits stay prepared. Takes no memory.
     pub fn raise(&mut self, task: TaskName) -> u64
         requires writer { IsWriter (routes_in self.old) task }
         requires room { (shelf_of self.old).newest task + 1 < 2 ^ 64 }
@@ -214,7 +220,7 @@ impl Broker {
         kept.newest
     }
 
-    /// What is kept of a task.
+    /// The broker's data about a task.
     fn task(&self, task: TaskName) -> &TaskShelf
         requires { IsWriter (routes_in self.now) task }
         ensures { task_at self.now task ≡ Some result.now }
@@ -223,7 +229,7 @@ impl Broker {
         &self.inner.topics[topic].tasks[task.part as usize]
     }
 
-    /// The number of the topic that a task writes; the number of topics where it writes none.
+    /// The number of the topic that a task writes, or the number of topics if it writes none.
     fn output(&self, task: TaskName) -> usize
         ensures { result ≡ (routes_in self.now).output task }
     {

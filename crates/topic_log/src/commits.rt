@@ -1,4 +1,4 @@
-//! Commits to a topic: what a task sent is put to what waits, and what is due is shown in the order of places.
+//! Commits to a topic: outputs join those that wait, and what is due is shown in the order of places.
 ghost use Rattle.std.specs.Prelude.{◌≡◌, ◌∷◌, ◌+◌, ◌<◌, ◌≤◌, ◌++◌, ◌⊎◌, [], All, IfSome, IsTrue, length, map, option_map, slice_set, vec_capacity};
 ghost use Rattle.std.specs.VecDeque.{deque_capacity};
 ghost use Rattle.ksql_place.specs.Ascending.{Rises};
@@ -17,7 +17,7 @@ use std::cmp::Ordering;
 use std::collections::VecDeque;
 use std::mem;
 
-/// Commits what was prepared to the topic that its task writes.
+/// Commits a prepared proposal to the topic that its task writes.
 pub(crate) fn commit(topic: &mut TopicShelf, fed: u64, prepared: Prepared)
     requires shelf { IsTopicShelf fed topic.old }
     requires fits { TopicFits prepared topic.old }
@@ -30,7 +30,7 @@ pub(crate) fn commit(topic: &mut TopicShelf, fed: u64, prepared: Prepared)
     commit_parts(topic.parts.as_mut_slice(), writer, prepared.sent, closed);
 }
 
-/// Notes what a task is done with, and its changelog entries, for which there is room.
+/// Records the task's progress, and its changelog entries, for which room is reserved.
 fn commit_task(task: &mut TaskShelf, to: u64, mut entries: Vec<StoreEntry>)
     requires { length task.old.logs.items + length entries.items ≤ vec_capacity task.old.logs }
     ensures done { task.new.done ≡ to }
@@ -41,7 +41,7 @@ fn commit_task(task: &mut TaskShelf, to: u64, mut entries: Vec<StoreEntry>)
     task.logs.append(&mut entries).unwrap();
 }
 
-/// Puts what a writer sent to each partition, the last one first.
+/// Adds what a writer sent to each partition, the last partition first.
 fn commit_parts(parts: &mut [PartShelf], writer: usize, mut sent: Vec<Vec<Change>>, closed: u64)
     requires count { length sent.items ≡ length parts.old }
     requires fits { EachFits writer sent.items parts.old }
@@ -52,7 +52,7 @@ fn commit_parts(parts: &mut [PartShelf], writer: usize, mut sent: Vec<Vec<Change
     }
 }
 
-/// Puts what a writer sent to a partition to what waits there, and shows what is due.
+/// Adds what a writer sent to the partition's waiting changes, and shows what is due.
 fn commit_part(part: &mut PartShelf, writer: usize, sent: Vec<Change>, closed: u64)
     requires { PartFits writer sent.items part.old }
     ensures { PartCommits closed writer sent.items part.old part.new }
@@ -61,7 +61,7 @@ fn commit_part(part: &mut PartShelf, writer: usize, sent: Vec<Change>, closed: u
     show_due(part, closed);
 }
 
-/// Puts what was sent to what waits, for which there is room, or in its place where nothing waits.
+/// Appends what was sent to the waiting changes, for which room is reserved, or replaces them if nothing waits.
 fn gather(waiting: &mut VecDeque<Change>, sent: Vec<Change>)
     requires { (waiting.old.items ≡ []) ⊎ (length waiting.old.items + length sent.items ≤ deque_capacity waiting.old) }
     ensures { waiting.new.items ≡ waiting.old.items ++ sent.items }
@@ -74,7 +74,7 @@ fn gather(waiting: &mut VecDeque<Change>, sent: Vec<Change>)
     }
 }
 
-/// The first change that waits, where it is of a feed up to the closed one.
+/// The first waiting change, if its feed is closed.
 fn due(changes: &VecDeque<Change>, closed: u64) -> Option<&Change>
     ensures { option_map (λ x. x.now) result ≡ first_if (is_due closed) changes.now.items }
 {
@@ -86,7 +86,7 @@ fn due(changes: &VecDeque<Change>, closed: u64) -> Option<&Change>
     }
 }
 
-/// Whether a change is there and goes before the best one so far, if there is one.
+/// Whether a change exists and comes before the best one so far, if any.
 fn goes_before(change: Option<&Change>, best: Option<&Change>) -> bool
     ensures { result ≡ goes_before (option_map (λ x. x.now) change.entry) (option_map (λ x. x.now) best.entry) }
 {
@@ -97,8 +97,7 @@ fn goes_before(change: Option<&Change>, best: Option<&Change>) -> bool
     }
 }
 
-/// The writer whose first change goes first of those that are due: the one with the smallest place, and of equal places
-/// that of the first writer.
+/// The writer whose first due change comes first: the one with the smallest place, and on a tie the first writer.
 fn next_writer(waiting: &[VecDeque<Change>], closed: u64) -> Option<usize>
     ensures { IsNext (dues closed (map (λ w. w.items) waiting.now)) (length waiting.now) result }
 {
@@ -114,7 +113,7 @@ fn next_writer(waiting: &[VecDeque<Change>], closed: u64) -> Option<usize>
     next
 }
 
-/// Takes the first change that waits. A queue in which nothing is left gives back its room.
+/// Takes the first waiting change. An emptied queue gives back its memory.
 fn take_first(waiting: &mut VecDeque<Change>) -> Change
     requires { 0 < length waiting.old.items }
     ensures { waiting.old.items ≡ result ∷ waiting.new.items }
@@ -126,7 +125,7 @@ fn take_first(waiting: &mut VecDeque<Change>) -> Change
     first
 }
 
-/// Shows what waits up to a closed feed, in the order of places. The partition has room for it.
+/// Shows what waits up to a closed feed, in the order of places. Room for it is reserved.
 fn show_due(part: &mut PartShelf, closed: u64)
     requires ascends { All (λ w. Rises change_cmp w.items) part.old.waiting.items }
     requires room { length part.old.said.items + waiting_len part.old ≤ vec_capacity part.old.said }
@@ -140,7 +139,7 @@ fn show_due(part: &mut PartShelf, closed: u64)
     }
 }
 
-/// Shows change after change what waits up to a closed feed, in the order of places. The partition has room for it.
+/// Shows what waits up to a closed feed one change at a time, in the order of places. Room for it is reserved.
 fn show_each(part: &mut PartShelf, closed: u64)
     requires ascends { All (λ w. Rises change_cmp w.items) part.old.waiting.items }
     requires room { length part.old.said.items + waiting_len part.old ≤ vec_capacity part.old.said }
@@ -154,7 +153,7 @@ fn show_each(part: &mut PartShelf, closed: u64)
     }
 }
 
-/// Shows all that waits of a writer, in a partition that shows no change.
+/// Shows all waiting changes of a writer, in a partition that shows no change yet.
 fn show_whole(part: &mut PartShelf, writer: usize)
     requires writer { writer < length part.old.waiting.items }
     ensures fed { part.new.fed ≡ part.old.fed }
@@ -165,8 +164,7 @@ fn show_whole(part: &mut PartShelf, writer: usize)
     part.said = mem::replace(&mut part.waiting[writer], none).into_vec();
 }
 
-/// The only writer of whom anything waits, where all of that is of feeds up to the closed one and the partition shows no
-/// change.
+/// The only writer with waiting changes, if all of them are of closed feeds and the partition shows no change yet.
 fn whole_due(part: &PartShelf, closed: u64) -> Option<usize>
     requires { All (λ w. Rises change_cmp w.items) part.now.waiting.items }
     ensures { IfSome result (IsWholeDue closed part.now) }
@@ -182,7 +180,7 @@ fn whole_due(part: &PartShelf, closed: u64) -> Option<usize>
     }
 }
 
-/// Whether nothing waits but of this writer.
+/// Whether only this writer has waiting changes.
 fn is_alone(waiting: &[VecDeque<Change>], writer: usize) -> bool
     ensures { IsTrue result → IsAlone (map (λ w. w.items) waiting.now) writer }
 {
@@ -194,7 +192,7 @@ fn is_alone(waiting: &[VecDeque<Change>], writer: usize) -> bool
     true
 }
 
-/// Whether changes that ascend are all of feeds up to the closed one.
+/// Whether ascending changes are all of closed feeds.
 fn is_all_due(changes: &VecDeque<Change>, closed: u64) -> bool
     requires { Rises change_cmp changes.now.items }
     ensures { IsTrue result → All (λ x. feed_of x ≤ closed) changes.now.items }

@@ -11,8 +11,8 @@ use crate::shelves::{PartShelf, Shelves, TopicShelf};
 use ksql_place::SourceRecord;
 use std::alloc::{AllocError, Global};
 
-/// Makes a feed of records visible, in each partition in the order in which its records come, and answers its number. After an
-/// error the topics have what they had.
+/// Makes a feed of records visible, in each partition in the order given, and returns the feed's number. After an error
+/// the topics are unchanged.
 pub(crate) fn feed(
     shelves: &mut Shelves,
     alloc: Global,
@@ -36,7 +36,7 @@ pub(crate) fn feed(
     Ok(shelves.fed)
 }
 
-/// How many records stand in each partition of each topic.
+/// The number of records for each partition of each topic.
 fn counts_of(
     alloc: Global,
     topics: &[TopicShelf],
@@ -69,7 +69,7 @@ fn no_counts(alloc: Global, topics: &[TopicShelf]) -> Result<Vec<Vec<usize>>, Al
     Ok(counts)
 }
 
-/// Makes room in each partition of each topic to show so many records more.
+/// Reserves room in each partition of each topic to show `counts` more records.
 fn reserve_topics(topics: &mut Vec<TopicShelf>, counts: &[Vec<usize>]) -> Result<(), AllocError>
     requires len { length topics.old.items ≡ length counts.now }
     requires parts { EachAt (λ topic of_topic.
@@ -85,7 +85,7 @@ fn reserve_topics(topics: &mut Vec<TopicShelf>, counts: &[Vec<usize>]) -> Result
     Ok(())
 }
 
-/// Makes room in each partition to show so many records more.
+/// Reserves room in each partition to show `counts` more records.
 fn reserve_parts(parts: &mut Vec<PartShelf>, counts: &[usize]) -> Result<(), AllocError>
     requires { length parts.old.items ≡ length counts.now }
     ensures views { map part_view parts.new.items ≡ map part_view parts.old.items }
@@ -98,7 +98,7 @@ fn reserve_parts(parts: &mut Vec<PartShelf>, counts: &[usize]) -> Result<(), All
     Ok(())
 }
 
-/// Puts each record at the end of the partition in which it stands. Takes no memory.
+/// Appends each record to its partition. Takes no memory.
 fn show_all(topics: &mut Vec<TopicShelf>, records: Vec<SourceRecord>)
     requires there { All (IsThere topics.old.items) records.items }
     requires rooms { EachAt (λ topic t. EachAt (λ q part.

@@ -1,4 +1,4 @@
-//! The topics of a broker before anything is fed.
+//! The topics of a broker before the first feed.
 ghost use Rattle.std.specs.Prelude.{◌≡◌, ℕ, [], length, All, IfOk, OnOk, Some, if◌then◌else◌, unwrap_or};
 ghost use Rattle.std.specs.BTreeMap.{get};
 ghost use Rattle.std.specs.List.{AllZip};
@@ -39,7 +39,7 @@ fn fresh_topic(alloc: Global, topic: &TopicSpec) -> Result<TopicShelf, AllocErro
     })
 }
 
-/// How many tasks write a topic.
+/// The number of tasks that write a topic.
 fn task_count(topic: &TopicSpec) -> u32
     ensures { result ≡ task_count topic.now }
 {
@@ -49,7 +49,7 @@ fn task_count(topic: &TopicSpec) -> u32
     }
 }
 
-/// So many partitions in which nothing waits of what so many tasks may send.
+/// `count` empty partitions, written by `writers` tasks.
 fn empty_parts(alloc: Global, count: u32, writers: u32) -> Result<Vec<PartShelf>, AllocError>
     ensures count { IfOk result (λ parts. length parts.items ≡ count) }
     ensures empty { IfOk result (λ parts. All (IsEmptyPart writers) parts.items) }
@@ -65,7 +65,7 @@ fn empty_parts(alloc: Global, count: u32, writers: u32) -> Result<Vec<PartShelf>
     Ok(parts)
 }
 
-/// What waits of so many tasks, of each nothing.
+/// Empty queues, one for each of `writers` tasks.
 fn empty_waiting(alloc: Global, writers: u32) -> Result<Vec<VecDeque<Change>>, AllocError>
     ensures count { IfOk result (λ waiting. length waiting.items ≡ writers) }
     ensures empty { IfOk result (λ waiting. All (λ w. w.items ≡ []) waiting.items) }
@@ -77,7 +77,7 @@ fn empty_waiting(alloc: Global, writers: u32) -> Result<Vec<VecDeque<Change>>, A
     Ok(waiting)
 }
 
-/// So many tasks that committed nothing.
+/// `count` tasks that have committed nothing.
 fn fresh_tasks(alloc: Global, count: u32) -> Result<Vec<TaskShelf>, AllocError>
     ensures count { IfOk result (λ tasks. length tasks.items ≡ count) }
     ensures fresh { IfOk result (λ tasks. All IsFreshTask tasks.items) }
@@ -110,7 +110,7 @@ pub(crate) fn written_topics(
     Ok(written)
 }
 
-/// Notes that the writer of a topic, where it has one, writes that topic.
+/// Records the topic that a sub-topology writes, if the topic has a writer.
 fn note_writer(written: &mut BTreeMap<u32, u32>, topic: &TopicSpec) -> Result<(), AllocError>
     ensures { OnOk result ((sub : ℕ) → get nat_cmp written.new sub
         ≡ (if is_written_by sub topic.now.writer then Some topic.now.number else get nat_cmp written.old sub)) }

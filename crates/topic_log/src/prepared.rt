@@ -1,4 +1,4 @@
-//! Commits for which all memory was taken.
+//! Commits whose memory is allocated.
 ghost use Rattle.std.specs.Prelude.{◌≡◌, ◌+◌, ◌≤◌, ◌==◌, ◌⊎◌, [], IfErr, IfOk, IfSome, OnOk, filter, length, map, position, slice_get, slice_index, sum, vec_capacity};
 ghost use Rattle.std.specs.VecDeque.{deque_capacity};
 ghost use Rattle.ksql_place.specs.Routing.{is_to};
@@ -15,7 +15,7 @@ use ksql_types::{StoreEntry, TaskName, lane};
 use std::alloc::{AllocError, Global};
 use std::collections::VecDeque;
 
-/// A commit for which all memory was taken: a proposal, with its outputs by the partitions that they go to.
+/// A commit whose memory is allocated: a proposal, and its outputs sorted by partition.
 #[derive(Drop)]
 pub struct Prepared {
     pub task: TaskName,
@@ -26,15 +26,16 @@ pub struct Prepared {
     pub(crate) entries: Vec<StoreEntry>,
 }
 
-/// An empty list for each partition, and the partition to which all outputs go, if there is one: it gets their own list.
+/// An empty list for each partition. If all outputs go to one partition, `whole` is that partition, which takes over
+/// their list as it is.
 #[derive(Drop)]
 struct Rooms {
     whole: Option<usize>,
     lists: Vec<Vec<Change>>,
 }
 
-/// Takes all memory of a proposal's commit in the topic of this number, which its task writes. What the topics have stays
-/// as it is. After an error it hands the proposal back.
+/// Allocates all memory for the commit of a proposal to topic `number`, which its task writes. The content of the
+/// topics is unchanged. On failure it hands the proposal back.
 pub(crate) fn prepare(
     shelves: &mut Shelves,
     alloc: Global,
@@ -59,7 +60,7 @@ pub(crate) fn prepare(
     }
 }
 
-/// Takes the memory of a proposal's commit in its topic, and answers the lists for its outputs.
+/// Reserves room for a proposal's commit in its topic, and returns the lists for its outputs.
 fn take_room(
     alloc: Global,
     topic: &mut TopicShelf,
@@ -81,7 +82,7 @@ fn take_room(
     Ok(rooms)
 }
 
-/// How many outputs go to each of so many partitions.
+/// The number of outputs for each of `parts` partitions.
 fn counts_of(alloc: Global, outputs: &[Change], parts: u32) -> Result<Vec<usize>, AllocError>
     requires some { 1 ≤ parts }
     requires few { parts ≤ 64 }
@@ -96,7 +97,7 @@ fn counts_of(alloc: Global, outputs: &[Change], parts: u32) -> Result<Vec<usize>
     Ok(counts)
 }
 
-/// The lists for so many outputs in all, of which so many go to each partition.
+/// The lists for `all` outputs, of which `counts` go to each partition.
 fn rooms_of(alloc: Global, counts: &[usize], all: usize) -> Result<Rooms, AllocError>
     ensures len { IfOk result (λ rooms. length rooms.lists.items ≡ length counts.now) }
     ensures whole { IfOk result (λ rooms. rooms.whole ≡ position (λ count. count == all) counts.now) }
@@ -108,7 +109,8 @@ fn rooms_of(alloc: Global, counts: &[usize], all: usize) -> Result<Rooms, AllocE
     Ok(Rooms { whole, lists })
 }
 
-/// An empty list for each of these numbers of changes, with room for so many unless one partition gets the whole.
+/// An empty list with room for each of these numbers of changes, except that no list needs room if one partition gets
+/// all.
 fn lists_of(
     alloc: Global,
     counts: &[usize],
@@ -125,7 +127,7 @@ fn lists_of(
     Ok(lists)
 }
 
-/// The room that a list needs for so many changes: none where one partition gets the whole.
+/// The room that a list of `count` changes needs: none if one partition gets all.
 fn room_beside(whole: Option<usize>, count: usize) -> usize
     ensures { result ≡ room_beside whole count }
 {
@@ -135,7 +137,7 @@ fn room_beside(whole: Option<usize>, count: usize) -> usize
     }
 }
 
-/// Makes room in each partition for what waits there and for so many changes of a task.
+/// Reserves room in each partition for its waiting changes and `more` changes of a task.
 fn reserve_parts(
     parts: &mut Vec<PartShelf>,
     writer: usize,
@@ -151,7 +153,7 @@ fn reserve_parts(
     Ok(())
 }
 
-/// Makes room in a partition for what waits there and for so many changes of a task.
+/// Reserves room in a partition for its waiting changes and `more` changes of a task.
 fn reserve_part(part: &mut PartShelf, writer: usize, more: usize) -> Result<(), AllocError>
     ensures view { part_view part.new ≡ part_view part.old }
     ensures room { OnOk result (HasRoom writer more part.new) }
@@ -161,7 +163,7 @@ fn reserve_part(part: &mut PartShelf, writer: usize, more: usize) -> Result<(), 
     reserve_shown(&mut part.said, coming)
 }
 
-/// Makes room for so many more changes. New room is taken where there are none yet: a list that grows copies all of its room.
+/// Reserves room for `more` changes. An empty list gets new memory, since a list that grows copies all its capacity.
 fn reserve_shown(said: &mut Vec<Change>, more: usize) -> Result<(), AllocError>
     ensures items { said.new.items ≡ said.old.items }
     ensures room { OnOk result (length said.new.items + more ≤ vec_capacity said.new) }
@@ -172,7 +174,7 @@ fn reserve_shown(said: &mut Vec<Change>, more: usize) -> Result<(), AllocError>
     said.reserve(more)
 }
 
-/// Makes room for so many changes of a task beside those of it that wait, where any do.
+/// Reserves room for `more` changes of a task after those of it that wait, if any.
 fn reserve_waiting(
     waiting: &mut Vec<VecDeque<Change>>,
     writer: usize,
@@ -191,7 +193,7 @@ fn reserve_waiting(
     Ok(())
 }
 
-/// How many changes wait, and so many more.
+/// The number of waiting changes plus `more`.
 fn room_for(waiting: &[VecDeque<Change>], more: usize) -> Result<usize, AllocError>
     ensures { IfOk result (λ room. room ≡ sum (map (λ w. length w.items) waiting.now) + more) }
 {
@@ -202,7 +204,7 @@ fn room_for(waiting: &[VecDeque<Change>], more: usize) -> Result<usize, AllocErr
     Ok(room)
 }
 
-/// Makes room for so many entries in a task's changelog.
+/// Reserves room for `more` entries in a task's changelog.
 fn reserve_logs(tasks: &mut Vec<TaskShelf>, writer: usize, more: usize) -> Result<(), AllocError>
     ensures views { map task_view tasks.new.items ≡ map task_view tasks.old.items }
     ensures room { OnOk result (IfSome (slice_get tasks.new.items writer) (λ k.
@@ -215,7 +217,7 @@ fn reserve_logs(tasks: &mut Vec<TaskShelf>, writer: usize, more: usize) -> Resul
     Ok(())
 }
 
-/// The proposal with its outputs in the list of the partition that each goes to, among so many. Takes no memory.
+/// The proposal with its outputs sorted into the lists of `parts` partitions. Takes no memory.
 fn sorted(rooms: Rooms, proposal: Proposal, parts: u32) -> Prepared
     requires some { 1 ≤ parts }
     requires few { parts ≤ 64 }
@@ -246,7 +248,7 @@ fn sorted(rooms: Rooms, proposal: Proposal, parts: u32) -> Prepared
     }
 }
 
-/// The outputs in the list of the partition that each goes to, among so many. Takes no memory.
+/// The outputs sorted into the lists of `parts` partitions. Takes no memory.
 fn sent_in(rooms: Rooms, outputs: Vec<Change>, parts: u32) -> Vec<Vec<Change>>
     requires some { 1 ≤ parts }
     requires few { parts ≤ 64 }
@@ -262,7 +264,7 @@ fn sent_in(rooms: Rooms, outputs: Vec<Change>, parts: u32) -> Vec<Vec<Change>>
     lists
 }
 
-/// Puts each output into the list of the partition that it goes to, among so many. Takes no memory.
+/// Puts each output into the list of its partition, one of `parts`. Takes no memory.
 fn sort_outputs(rooms: &mut Vec<Vec<Change>>, outputs: Vec<Change>, parts: u32)
     requires some { 1 ≤ parts }
     requires few { parts ≤ 64 }

@@ -5,15 +5,15 @@ use ksql_place::{Change, SourceRecord};
 use ksql_types::{StoreEntry, TopicSpec};
 use std::collections::VecDeque;
 
-/// What a partition shows, lent: the records that were fed to it, or the changes that tasks sent.
+/// What a partition shows, borrowed: the records that were fed to it, or the changes that tasks sent.
 #[derive(Clone, Copy, Drop)]
 pub struct Entries<'a> {
     pub fed: &'a [SourceRecord],
     pub said: &'a [Change],
 }
 
-/// A partition of a topic: the records that were fed to it, or the changes that it shows of what tasks sent, and those that
-/// wait, by the partition of the task.
+/// A partition of a topic: the records that were fed to it, or the tasks' changes that it shows and, for each writing
+/// task by its partition, those that wait.
 #[derive(Drop)]
 pub struct PartShelf {
     pub fed: Vec<SourceRecord>,
@@ -21,7 +21,7 @@ pub struct PartShelf {
     pub waiting: Vec<VecDeque<Change>>,
 }
 
-/// What is kept of a task that writes a topic.
+/// The data kept for a task that writes a topic.
 #[derive(Drop)]
 pub struct TaskShelf {
     pub done: u64,
@@ -37,14 +37,14 @@ pub struct TopicShelf {
     pub tasks: Vec<TaskShelf>,
 }
 
-/// All topics, by their numbers.
+/// All topics, by number.
 #[derive(Drop)]
 pub struct Shelves {
     pub fed: u64,
     pub topics: Vec<TopicShelf>,
 }
 
-/// The least feed that tasks are done with, and `fed` where there are none.
+/// The least feed that all tasks have committed, or `fed` if there are no tasks.
 pub(crate) fn closed_of(tasks: &[TaskShelf], fed: u64) -> u64
     ensures { result ≡ lowest fed (λ k. k.done) tasks.now }
 {

@@ -115,7 +115,7 @@ fed topic part time key row = record { stamp = stamp topic part time; time = tim
 abbrev caused : ℕ → ℕ → ℕ → List Value → Body → Change
 caused topic part time key body = record { place = record { stamp = stamp topic part time; path = [] }; time = time; key = key; span = None; body = body }
 
--- the first partitions of a topic, so many
+-- the first n partitions of a topic
 abbrev parts : ℕ → List Item → List SourceRecord → ℕ → List (List Change)
 parts count items order topic = map (contents items (topology_of items) order topic) (range_with_len 0 count)
 
@@ -239,7 +239,7 @@ meeting = query (Join Inner 0 1 (text_at 1)) (Plain (text_at 1 ∷ []) (cell_at 
 abbrev views_and_counts : List Item
 views_and_counts = Declared views ∷ Started counting ∷ Started meeting ∷ []
 
--- a rekeyed view stands before the count that it causes, as the stream stands before the table
+-- a rekeyed view comes before the count that it causes, as the stream comes before the table
 pub a_view_meets_the_count_before_it : parts 2 views_and_counts viewed 2 ≡ (caused 0 0 2 (text 120 ∷ []) (Said (counted 1)) ∷ []) ∷ [] ∷ []
 unfolding stages_of subs_of cut_topics contents_from said gives is_same_key int_wrap hash
 a_view_meets_the_count_before_it = simp (second-column, cell-value) refl

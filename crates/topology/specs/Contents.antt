@@ -1,5 +1,6 @@
--- What stands in each partition of each topic: each task goes over the entries of its own partition alone, and each change that it
--- sends goes to the partition of its key (Kafka Streams developer guide, "Architecture": a task for each partition).
+-- The content of each partition of each topic: each task processes the entries of its own partition alone, and each
+-- change that it sends goes to the partition of its key (Kafka Streams developer guide, "Architecture": a task for each
+-- partition).
 use Rattle.std.specs.Prelude.{ℕ, zero, suc, ◌==◌, if◌then◌else◌, List, [], ◌∷◌, ◌++◌, map, filter, flat_map, Option, Some, None, slice_get}
 use Rattle.std.specs.List.{range_with_len}
 use Rattle.ksql_types.specs.declared.topic.TopicSpec.{TopicSpec}
@@ -17,11 +18,12 @@ use Rattle.topology.specs.declared.topology.Sub.{Sub}
 use Rattle.topology.specs.declared.topology.SubInput.{SubInput}
 use Rattle.topology.specs.declared.topology.Topology.{Topology}
 
--- what stands in a partition of a topic, by the topic's number and the partition's
+-- the content of a partition of a topic, by the numbers of the topic and the partition
 abbrev pub Contents : Type 0
 Contents = ℕ → ℕ → List Change
 
--- what the records of a source say, which is nothing of a topic that isn't one; of a table it is raw: no old rows
+-- what the records of a source say, which is nothing for a topic that isn't one; for a table it is raw, without old
+-- rows
 abbrev pub source_changes : List SourceRecord → Option Item → List Change
 source_changes order None = []
 source_changes order (Some (Declared r)) = said r order
@@ -33,7 +35,7 @@ source_contents items order topic part = filter (λ c. c.place.stamp.part == par
 
 -- ---- a task
 
--- a change as a task reads it: with so many key columns in front of its rows; they are whole already where that is none
+-- a change as a task reads it: with this many key columns in front of its rows; with none they are whole already
 abbrev pub with_cells : ℕ → Change → Change
 with_cells zero c = c
 with_cells (suc columns) c = with_key_cells (suc columns) c
@@ -42,14 +44,14 @@ with_cells (suc columns) c = with_key_cells (suc columns) c
 abbrev pub side_entries : ℕ → SubInput → Contents → ℕ → List Entry
 side_entries side input has part = from_side side (map (with_cells input.keys) (has input.topic part))
 
--- what a task of a partition reads: the changes of one topic, or those of two in the order of their places
+-- what the task of a partition reads: the changes of one topic, or those of two in the order of their places
 abbrev pub task_entries : List SubInput → Contents → ℕ → List Entry
 task_entries [] has part = []
 task_entries (one ∷ []) has part = side_entries 0 one has part
 task_entries (left ∷ right ∷ more) has part =
     ascending (entry_cmp left.relation right.relation) (side_entries 0 left has part ++ side_entries 1 right has part)
 
--- what a task gives for them, which has one stream time
+-- what a task gives for them, with one stream time
 abbrev pub task_results : Sub → Contents → ℕ → List Change
 task_results sub has part = through (map (gives 1) sub.nodes) (task_entries sub.inputs has part)
 
@@ -59,7 +61,7 @@ task_results sub has part = through (map (gives 1) sub.nodes) (task_entries sub.
 abbrev pub sent : Sub → Contents → ℕ → ℕ → List Change
 sent sub has n part = ascending change_cmp (flat_map (λ task. filter (is_to n part) (task_results sub has task)) (range_with_len 0 sub.partitions))
 
--- the contents after a sub-topology, which writes its topic
+-- the contents after a sub-topology has written its topic
 abbrev pub with_sub : List TopicSpec → Contents → Sub → Contents
 with_sub topics has sub topic part = if topic == sub.output then sent sub has (partitions_of topics topic) part else has topic part
 
@@ -68,6 +70,6 @@ unfoldable pub contents_from : List TopicSpec → Contents → List Sub → Cont
 contents_from topics has [] = has
 contents_from topics has (s ∷ ss) = contents_from topics (with_sub topics has s) ss
 
--- what a topology makes of the records that were fed: what stands in each partition of each topic
+-- the contents of a topology for the records that were fed: of each partition of each topic
 abbrev pub contents : List Item → Topology → List SourceRecord → Contents
 contents items t order = contents_from t.topics (source_contents items order) t.subs

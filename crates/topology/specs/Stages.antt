@@ -1,5 +1,5 @@
--- Where a query is cut (Kafka Streams developer guide, "Architecture": sub-topologies end at repartition topics; ksqlDB manual,
--- "Partition data": a key that an operation needs and the data doesn't have brings a repartition).
+-- Where a query is cut (Kafka Streams developer guide, "Architecture": sub-topologies end at repartition topics; ksqlDB
+-- manual, "Partition data": an operation whose key the data doesn't have needs a repartition).
 use Rattle.std.specs.Prelude.{ℕ, zero, suc, ◌+◌, ◌==◌, ◌&&◌, ◌||◌, not, Bool, true, false, if◌then◌else◌, List, [], ◌∷◌, ◌++◌}
 use Rattle.ksql_types.specs.declared.relation.Kind.{Kind}
 use Rattle.ksql_types.specs.declared.relation.Kind.TheVariants.{Stream, Table}
@@ -29,36 +29,37 @@ use Rattle.topology.specs.declared.stage.CutName.TheVariants as cut
 abbrev pub is_column : ℕ → Typed → Bool
 is_column number e = same_form e.node (Column number)
 
--- whether some expressions are so many columns, one by one, from this number on
+-- whether the expressions are n consecutive columns, starting from this number
 abbrev pub are_columns_from : ℕ → ℕ → List Typed → Bool
 are_columns_from number zero [] = true
 are_columns_from number (suc n) (e ∷ es) = is_column number e && are_columns_from (number + 1) n es
 are_columns_from number _ _ = false
 
--- whether an expression is the key of what a join of a stream makes: the join key, and in an INNER join also the table's key
+-- whether an expression is the key of a join of a stream and a table: the join key, or in an INNER join also the
+-- table's key
 abbrev pub is_stream_key : JoinKind → Side → Typed → Typed → Bool
 is_stream_key Inner left on key = same_tree key on || is_column left.columns key
 is_stream_key _ left on key = same_tree key on
 
--- whether an expression is the key of what a join of two tables makes: the left key, in an INNER join also the right one, and in
--- a FULL one ROWKEY alone, since either side may be absent
+-- whether an expression is the key of a join of two tables: the left key, in an INNER join also the right one, and in a
+-- FULL join ROWKEY alone, since either side may be absent
 abbrev pub is_tables_key : JoinKind → Side → Side → Typed → Bool
 is_tables_key Inner left right key = is_column 0 key || is_column left.columns key
 is_tables_key Left left right key = is_column 0 key
 is_tables_key Full left right key = is_column (left.columns + right.columns) key
 
--- whether an expression is the key of what a join makes, where its left side is of a kind
+-- whether an expression is the key of a join, by the kind of its left side
 abbrev pub is_joined_key : Kind → JoinKind → Side → Side → Typed → Typed → Bool
 is_joined_key Stream k left right on key = is_stream_key k left on key
 is_joined_key _ k left right on key = is_tables_key k left right key
 
--- whether some expressions are, one by one, the key of what a query reads
+-- whether the expressions are, in order, the key of what a query reads
 abbrev pub are_own_key : List Item → From → List Typed → Bool
 are_own_key items (One number) keys = are_columns_from 0 (key_columns items number) keys
 are_own_key items (Join k left right on) (key ∷ []) = is_joined_key (kind_at items left) k (side_at items left) (side_at items right) on key
 are_own_key items (Join k left right on) _ = false
 
--- whether a stream has to be rekeyed for its join: the join key isn't its key column
+-- whether a stream must be rekeyed for its join: the join key isn't its key column
 abbrev pub is_rekeyed : List Item → From → Bool
 is_rekeyed items (One number) = false
 is_rekeyed items (Join k left right on) = by (kind_at items left)
@@ -69,13 +70,13 @@ is_rekeyed items (Join k left right on) = by (kind_at items left)
 
 -- ---- stages
 
--- the topics that the stage of a query's join reads, or that of its one relation
+-- the topics that the stage of a query's join, or of its one relation, reads
 abbrev pub inputs_of : List Item → From → List Link
 inputs_of items (One number) = Relation number ∷ []
 inputs_of items (Join k left right on) =
     (if is_rekeyed items (Join k left right on) then Cut cut.Left left else Relation left) ∷ Relation right ∷ []
 
--- the stage that rekeys the left side of what a query reads, where there is one
+-- the stage that rekeys the left side of what a query reads, if any
 abbrev pub rekey_from : List Item → Query → From → List Stage
 rekey_from items q (One number) = []
 rekey_from items q (Join k left right on) =
@@ -105,7 +106,7 @@ aggregate_nodes items q (shape.Plain keys values) = []
 aggregate_nodes items q (shape.Group keys window aggs having values) =
     node.Aggregate (kind_at items (leftmost q.from)) aggs window ∷ after_aggregate having values
 
--- the stages of a query's shape: they are cut before the aggregate where the groups aren't by the own key
+-- the stages of a query's shape: they are cut before an aggregate whose groups aren't by the own key
 abbrev pub shape_stages : List Item → Query → Shape → List Stage
 shape_stages items q (shape.Plain keys values) =
     record { inputs = inputs_of items q.from; nodes = input_nodes items q ++ node.Select keys values ∷ []; partitions = lanes_of items q; output = Relation q.out.number } ∷ []

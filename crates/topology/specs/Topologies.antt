@@ -1,5 +1,5 @@
--- The topology of a program: its sub-topologies numbered through the script, inputs first, and its topics (Kafka Streams developer
--- guide, "Architecture").
+-- The topology of a program: its sub-topologies numbered through the script, inputs first, and its topics (Kafka
+-- Streams developer guide, "Architecture").
 use Rattle.std.specs.Prelude.{ℕ, ◌+◌, ◌==◌, Bool, true, false, if◌then◌else◌, List, [], ◌∷◌, ◌++◌, length, map, Option, Some, None, codes}
 use Rattle.ksql_types.specs.declared.relation.Relation.{Relation as OneRelation}
 use Rattle.ksql_types.specs.declared.topic.TopicSpec.{TopicSpec}
@@ -35,17 +35,17 @@ cuts_of (s ∷ ss) = by s.output (cuts_of ss)
     by (Relation number) rest = rest
     by (Cut name relation) rest = name ∷ rest
 
--- how many of some cuts stand before this one
+-- the index of a cut among some cuts
 abbrev pub place_of : CutName → List CutName → ℕ
 place_of name [] = 0
 place_of name (c ∷ cs) = if is_same_cut c name then 0 else 1 + place_of name cs
 
--- the number of a topic, where a query's repartition topics are numbered from here
+-- the number of a topic, where a query's repartition topics are numbered from this one on
 abbrev pub topic_of : ℕ → List CutName → Link → ℕ
 topic_of first cuts (Relation number) = number
 topic_of first cuts (Cut name relation) = first + place_of name cuts
 
--- the name of a repartition topic: that of its query and what it is for
+-- the name of a repartition topic: that of its query, and its purpose
 abbrev pub cut_text : CutName → List ℕ
 cut_text Left = codes "left"
 cut_text Right = codes "right"
@@ -56,12 +56,13 @@ repartition_name query name = codes "ksql-" ++ query ++ codes "-" ++ cut_text na
 
 -- ---- sub-topologies
 
--- an input of a sub-topology: the rows of a relation's topic get its key columns in front, and those of a repartition topic are whole
+-- an input of a sub-topology: the rows of a relation's topic get its key columns in front, while those of a repartition
+-- topic are whole
 abbrev pub input_of : List Item → ℕ → List CutName → Link → SubInput
 input_of items first cuts (Relation number) = record { topic = number; relation = number; keys = key_columns items number }
 input_of items first cuts (Cut name relation) = record { topic = topic_of first cuts (Cut name relation); relation = relation; keys = 0 }
 
--- a stage of the query of an item as the sub-topology of a number
+-- a stage of the query of an item, as the sub-topology with a number
 abbrev pub sub_of : List Item → ℕ → ℕ → List CutName → ℕ → Stage → Sub
 sub_of items query first cuts number s = record {
   number = number;
@@ -76,12 +77,12 @@ abbrev pub subs_from : List Item → ℕ → ℕ → List CutName → ℕ → Li
 subs_from items query first cuts number [] = []
 subs_from items query first cuts number (s ∷ ss) = sub_of items query first cuts number s ∷ subs_from items query first cuts (number + 1) ss
 
--- the stages of an item: those of its query, where it is one
+-- the stages of an item: those of its query, if it is one
 abbrev pub stages_at : List Item → Item → List Stage
 stages_at items (Declared relation) = []
 stages_at items (Started query) = stages_of items query
 
--- the sub-topologies of some items: their queries are counted from a number, as are repartition topics and sub-topologies
+-- the sub-topologies of some items; queries, repartition topics and sub-topologies are each counted from a number on
 unfoldable pub subs_of : List Item → ℕ → ℕ → ℕ → List Item → List Sub
 subs_of items query first number [] = []
 subs_of items query first number (i ∷ is) =
@@ -89,13 +90,13 @@ subs_of items query first number (i ∷ is) =
     subs_from items query first (cuts_of stages) number stages
     ++ subs_of items (query + 1) (first + length (cuts_of stages)) (number + length stages) is
 
--- the sub-topologies of a program, whose repartition topics are numbered after the relations
+-- the sub-topologies of a program; its repartition topics are numbered after the relations
 abbrev pub subs : List Item → List Sub
 subs items = subs_of items 0 (length items) 0 items
 
 -- ---- topics
 
--- the tasks that write a topic, where some do
+-- the tasks that write a topic, if any
 abbrev pub writer_of : ℕ → List Sub → Option Writer
 writer_of topic [] = None
 writer_of topic (s ∷ ss) = if topic == s.output then Some (record { sub = s.number; partitions = s.partitions }) else writer_of topic ss
@@ -104,8 +105,8 @@ writer_of topic (s ∷ ss) = if topic == s.output then Some (record { sub = s.nu
 abbrev pub relation_topic : List Sub → OneRelation → TopicSpec
 relation_topic ss r = record { number = r.number; name = r.topic; partitions = r.partitions; writer = writer_of r.number ss }
 
--- the repartition topics that the stages of a query of this name write, where the first of them and the first sub-topology have
--- these numbers
+-- the repartition topics that the stages of the query with this name write, given the numbers of the first of them and
+-- of the first sub-topology
 abbrev pub topics_from : ℕ → ℕ → List ℕ → List Stage → List TopicSpec
 topics_from topic number name [] = []
 topics_from topic number name (s ∷ ss) = by s.output (λ next. topics_from next (number + 1) name ss)

@@ -1,5 +1,5 @@
-//! Topologies: the sub-topologies that queries are cut into, the topics between them, their tasks, and what stands in each
-//! partition of each topic.
+//! Topologies: the sub-topologies that queries are cut into, the topics between them, their tasks, and the content of
+//! each partition of each topic.
 #![tactic(auto)]
 
 mod schedule;

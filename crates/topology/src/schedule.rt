@@ -1,13 +1,13 @@
 use ksql_types::{CopyOf, Items, TaskName};
 use std::alloc::{AllocError, Global};
 
-/// The steps of a run, each with its line in the schedule's file, from 1.
+/// The steps of a run, each with its line in the schedule's file, counted from 1.
 #[derive(Debug, Drop)]
 pub struct Schedule {
     pub steps: Steps,
 }
 
-/// Steps in their order.
+/// Steps, in order.
 pub type Steps = Items<Lined>;
 
 /// A step and its line.
@@ -17,18 +17,19 @@ pub struct Lined {
     pub step: Step,
 }
 
-/// How many of the next records of a topic's file are fed.
+/// How many of the next records of a topic's file to feed.
 #[derive(Clone, Copy, Debug, PartialEq, Eq)]
 pub struct Count {
     pub topic: u32,
     pub n: u64,
 }
 
-/// The counts of one feed; a topic stands there at most once.
+/// The counts of one feed, at most one per topic.
 pub type Counts = Items<Count>;
 
-/// A step of a run: a feed of all records that are left, or of some of each file; a round, in which a worker may be lost or
-/// stall; a worker that comes, goes or wakes; a task that is lost; and as many rounds as the topology's chain.
+/// A step of a run: a feed of all remaining records, or of some from each file; a round, in which a worker may be lost
+/// or may stall; a worker that comes, goes or wakes; the loss of a task; and a drain, which is as many rounds as the
+/// topology's chain.
 #[derive(Debug, Drop)]
 pub enum Step {
     FeedAll,

@@ -1,9 +1,9 @@
+use ksql_nodes::Nodes;
 use ksql_types::{CopyOf, Items};
-use query_meaning::Nodes;
 use std::alloc::{AllocError, Global};
 
-/// A part of a query between topics, before its topics have numbers: the topics that it reads, in the order of the sides, its
-/// nodes, its number of partitions, and the topic that it writes.
+/// A part of a query between topics, before its topics have numbers: the topics that it reads, in the order of the
+/// sides, its nodes, its number of partitions, and the topic that it writes.
 #[derive(Debug, Drop)]
 pub struct Stage {
     pub inputs: Links,
@@ -15,9 +15,9 @@ pub struct Stage {
 /// The stages of a query, inputs first.
 pub type Stages = Items<Stage>;
 
-/// A topic that a stage reads or writes: that of a relation, or the query's repartition topic of this name. `relation` of a
-/// cut is the number with which its places are compared: that of the relation that it was made from, and of the leftmost source
-/// after a join.
+/// A topic that a stage reads or writes: a relation's, or a repartition topic of the query with this name. The
+/// `relation` of a cut is the number that its places are compared with: that of the relation it was made from, or of
+/// the leftmost source after a join.
 #[derive(Clone, Copy, Debug, PartialEq, Eq)]
 pub enum Link {
     Relation(u32),
@@ -27,7 +27,7 @@ pub enum Link {
 /// The topics that a stage reads.
 pub type Links = Items<Link>;
 
-/// What a repartition topic is for: one side of a join, or a grouping.
+/// The purpose of a repartition topic: one side of a join, or a grouping.
 #[derive(Clone, Copy, Debug, PartialEq, Eq)]
 pub enum CutName {
     Left,

@@ -1,4 +1,4 @@
-//! The tasks of a topology, and how many rounds a record takes from a source to the last topic.
+//! The tasks of a topology, and the number of rounds that a record takes from a source to the last topic.
 ghost use Rattle.std.specs.Prelude.{◌≡◌, ◌<◌, ◌++◌, ℕ, IfOk, OnOk, map, unwrap_or};
 ghost use Rattle.std.specs.BTreeMap.{get};
 ghost use Rattle.std.specs.List.{AllPairs};
@@ -13,11 +13,12 @@ use ksql_types::TaskName;
 use std::alloc::{AllocError, Global};
 use std::collections::BTreeMap;
 
-/// How many sub-topologies the longest path to a topic has, by the topic's number; none to a topic that isn't there.
+/// The number of sub-topologies on the longest path to each topic, by the topic's number; no entry for a topic that
+/// isn't there.
 type Depths = BTreeMap<u32, usize>;
 
-/// The tasks of a topology: those of one sub-topology after another, by their partitions. They ascend where the numbers of
-/// the sub-topologies rise.
+/// The tasks of a topology: sub-topology by sub-topology, then by partition. They ascend if the numbers of the
+/// sub-topologies do.
 pub fn tasks_of(alloc: Global, t: &Topology) -> Result<Vec<TaskName>, AllocError>
     ensures value { IfOk result (λ tasks. tasks.items ≡ tasks_of t.now.subs) }
     ensures ascending { AllPairs (λ a b. a.number < b.number) t.now.subs → IfOk result (λ tasks. Rises task_cmp tasks.items) }
@@ -43,8 +44,8 @@ fn push_tasks(tasks: &mut Vec<TaskName>, sub: &Sub) -> Result<(), AllocError>
     Ok(())
 }
 
-/// The chain of a topology: how many sub-topologies its longest path from topic to topic has. One of 2^32 and more, as no
-/// script makes, is out of memory.
+/// The chain of a topology: the number of sub-topologies on its longest path from topic to topic. Fails with out of
+/// memory at 2^32 or more, which no script makes.
 pub fn chain_of(alloc: Global, t: &Topology) -> Result<u32, AllocError>
     ensures { IfOk result (λ chain. chain ≡ chain_of t.now.subs) }
 {
@@ -53,7 +54,8 @@ pub fn chain_of(alloc: Global, t: &Topology) -> Result<u32, AllocError>
     u32::try_from(longest(&depths, subs)).map_err(|_| AllocError)
 }
 
-/// How many sub-topologies the longest path to each topic has, where the sub-topologies stand after those that they read.
+/// The number of sub-topologies on the longest path to each topic, if each sub-topology comes after those that it
+/// reads.
 fn depths_of(alloc: Global, subs: &[Sub]) -> Result<Depths, AllocError>
     ensures { IfOk result (λ depths. (topic : ℕ) → unwrap_or (get nat_cmp depths topic) 0 ≡ depth_after (λ topic. 0) subs.now topic) }
 {
@@ -65,7 +67,7 @@ fn depths_of(alloc: Global, subs: &[Sub]) -> Result<Depths, AllocError>
     Ok(depths)
 }
 
-/// How many sub-topologies the longest path to one of the inputs has.
+/// The number of sub-topologies on the longest path to one of the inputs.
 fn deepest(depths: &Depths, inputs: &[SubInput]) -> usize
     ensures { result ≡ greatest (map (λ input. unwrap_or (get nat_cmp depths.now input.topic) 0) inputs.now) }
 {
@@ -76,7 +78,7 @@ fn deepest(depths: &Depths, inputs: &[SubInput]) -> usize
     deepest
 }
 
-/// How many sub-topologies the longest path has to one of the topics that the sub-topologies write.
+/// The number of sub-topologies on the longest path to one of the topics that these sub-topologies write.
 fn longest(depths: &Depths, subs: &[Sub]) -> usize
     ensures { result ≡ greatest (map (λ s. unwrap_or (get nat_cmp depths.now s.output) 0) subs.now) }
 {
@@ -87,7 +89,7 @@ fn longest(depths: &Depths, subs: &[Sub]) -> usize
     longest
 }
 
-/// How many sub-topologies the longest path to a topic has.
+/// The number of sub-topologies on the longest path to a topic.
 fn depth_of(depths: &Depths, topic: u32) -> usize
     ensures { result ≡ unwrap_or (get nat_cmp depths.now topic) 0 }
 {

@@ -1,8 +1,9 @@
+use ksql_nodes::Nodes;
 use ksql_types::{CopyOf, Items, TopicSpec};
-use query_meaning::Nodes;
 use std::alloc::{AllocError, Global};
 
-/// A program as it is run: its topics, those of its relations and then the repartition topics, and its sub-topologies.
+/// A program in the form in which it runs: its topics (those of its relations, then the repartition topics) and its
+/// sub-topologies.
 #[derive(Debug, Drop)]
 pub struct Topology {
     pub topics: Topics,
@@ -15,8 +16,8 @@ pub type Topics = Items<TopicSpec>;
 /// Sub-topologies in the order of their numbers, inputs first.
 pub type Subs = Items<Sub>;
 
-/// A sub-topology of the query of the item `query`: it reads each of its inputs at one partition number in each of its tasks,
-/// of which it has one for each partition, and its tasks write the topic `output`.
+/// A sub-topology of the query of item `query`. It has one task for each of its partitions, which reads that partition
+/// of each input, and its tasks write the topic `output`.
 #[derive(Debug, Drop)]
 pub struct Sub {
     pub number: u32,
@@ -30,8 +31,8 @@ pub struct Sub {
 /// The inputs of a sub-topology, in the order of the sides.
 pub type SubInputs = Items<SubInput>;
 
-/// A topic that a sub-topology reads. `relation` is the number with which its places are compared, and `keys` how many key
-/// columns are put in front of the rows of its changes: none for a repartition topic, whose rows are whole.
+/// A topic that a sub-topology reads. `relation` is the number that its places are compared with, and `keys` the number
+/// of key columns put in front of its rows: none for a repartition topic, whose rows are whole.
 #[derive(Clone, Copy, Debug, PartialEq, Eq)]
 pub struct SubInput {
     pub topic: u32,

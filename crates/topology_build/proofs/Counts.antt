@@ -31,7 +31,7 @@ cuts-append (s ∷ ss) rest = by s.output (cuts-append ss rest)
     by (Relation number) same = same
     by (Cut name relation) same = ap (λ (cuts : List CutName). name ∷ cuts) same
 
--- at most so many stages and repartition topics
+-- at most this many stages and repartition topics
 record AreFew (stages cuts : ℕ) (ss : List Stage) : Type 0 where
   few_stages : length ss ≤ stages
   few_cuts : length (cuts_of ss) ≤ cuts
@@ -75,7 +75,7 @@ pub item_cuts-few : (items : List Item) (i : Item) → length (cuts_of (stages_a
 item_cuts-few items (Declared relation) = omega arith
 item_cuts-few items (Started query) = cuts-few items query
 
--- ---- what is made of them: a sub-topology for each stage, and a topic for each repartition topic
+-- ---- what they become: a sub-topology for each stage, and a topic for each repartition topic
 
 pub length-topics_from : (topic number : ℕ) (name : List ℕ) (ss : List Stage) → length (topics_from topic number name ss) ≡ length (cuts_of ss)
 length-topics_from topic number name [] = refl

@@ -14,11 +14,11 @@ use Rattle.topology.specs.Tasks.{chain_of, tasks_of}
 
 -- ---- names
 
--- the name of a query, by the number of its item; the empty text where there is none
+-- the name of a query, by the number of its item; the empty text if there is none
 abbrev pub query_name : List Item → ℕ → List ℕ
 query_name items number = option_map_or (λ relation. relation.name) (relation_at items number) []
 
--- the name of a topic, by its number; the empty text where there is none
+-- the name of a topic, by its number; the empty text if there is none
 abbrev pub topic_name : List TopicSpec → ℕ → List ℕ
 topic_name topics number = option_map_or (λ topic. topic.name) (slice_get topics number) []
 
@@ -40,16 +40,16 @@ stored_line query kind store = codes "node " ++ (kind ++ (codes " " ++ (changelo
 abbrev pub table_line : List ℕ → List ℕ → List ℕ
 table_line query side = stored_line query (codes "table") side
 
--- what an aggregate is called, with a window and without
+-- the name of an aggregate, with a window and without
 abbrev pub aggregate_kind : Option Window → List ℕ
 aggregate_kind None = codes "aggregate"
 aggregate_kind (Some window) = codes "window-aggregate"
 
--- the lines of a join and, before it, of the table on its right side
+-- the lines of a join, after those of the table on its right side
 unfoldable pub join_lines : List ℕ → List ℕ → List ℕ
 join_lines query kind = table_line query (codes "right") ++ node_line kind
 
--- the lines of a node of a query; a join of two tables also has that of the table on its left side
+-- the lines of a node of a query; a join of two tables also has those of the table on its left side
 unfoldable pub node_lines : List ℕ → Node → List ℕ
 node_lines query (node.Rekey key) = node_line (codes "rekey")
 node_lines query (node.Table relation) = table_line query (codes "left")
@@ -63,7 +63,7 @@ node_lines query (node.Select keys values) = node_line (codes "select")
 
 -- ---- sub-topologies
 
--- the first line of a sub-topology: its number, its query and how many partitions it has
+-- the first line of a sub-topology: its number, its query and its number of partitions
 unfoldable pub sub_line : List ℕ → Sub → List ℕ
 sub_line query s =
     codes "sub " ++ (decimal s.number
@@ -86,7 +86,7 @@ sub_text items topics s =
 
 -- ---- topologies
 
--- the first line: how many sub-topologies and tasks there are, and how many sub-topologies the longest path goes through
+-- the first line: the numbers of sub-topologies and tasks, and the number of sub-topologies on the longest path
 unfoldable pub counts_line : List Sub → List ℕ
 counts_line subs =
     codes "subs=" ++ (decimal (length subs)

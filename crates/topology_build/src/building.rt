@@ -6,7 +6,7 @@ ghost use Rattle.ksql_program.specs.Sound.{IsSound};
 ghost use Rattle.query_meaning.specs.Queries.{key_columns};
 ghost use Rattle.topology.specs.Stages.{stages_of};
 ghost use Rattle.topology.specs.Topologies.{cut_text, cut_topics, cuts_of, input_of, place_of, relation_topic, repartition_name, stages_at, sub_of, subs, subs_from, topic_of, topics_from, topology_of, writer_of};
-ghost use Rattle.topology_laws.specs.Fed.{IsFed};
+ghost use Rattle.short_laws.specs.Fed.{IsFed};
 ghost use Rattle.topology_laws.specs.Meant.{MeansItsQueries};
 
 use key_planner::keyed;
@@ -16,15 +16,15 @@ use logical_plan::plan;
 use std::alloc::{AllocError, Global};
 use topology::{CutName, Link, Stage, Stages, Sub, SubInput, SubInputs, Topology};
 
-/// What is built of a topology: sub-topologies, and the repartition topics that they write.
+/// The parts of a topology: sub-topologies, and the repartition topics that they write.
 #[derive(Drop)]
 struct Parts {
     subs: Vec<Sub>,
     cuts: Vec<TopicSpec>,
 }
 
-/// How the stages of a query are numbered: `query` is the number of its item, `out` its result, `first` the number of its
-/// first repartition topic, and `cuts` are what its repartition topics are for, in their order.
+/// The numbers for the stages of a query: `query` is the number of its item, `out` its result, `first` the number of
+/// its first repartition topic, and `cuts` are the purposes of its repartition topics, in order.
 #[derive(Clone, Copy, Drop)]
 struct Numbering<'a> {
     program: &'a Program,
@@ -34,10 +34,9 @@ struct Numbering<'a> {
     cuts: &'a [CutName],
 }
 
-/// The topology of a program. Its sub-topologies are numbered through the script, inputs first. Its topics are those of the
-/// relations, and after them the repartition topics, in the order of the sub-topologies that write them. Each
-/// partition of a query's topic has exactly the changes that the query means there, for all records that stand in their
-/// partitions.
+/// The topology of a program. Its sub-topologies are numbered through the script, inputs first. Its topics are those of
+/// the relations, then the repartition topics in the order of the sub-topologies that write them. Each partition of a
+/// query's topic has exactly the changes that the query means there, for all records that are in their partitions.
 pub fn build(alloc: Global, program: &Program) -> Result<Topology, AllocError>
     requires { IsSound program.now.items }
     ensures exact { IfOk result (λ t. t ≡ topology_of program.now.items) }
@@ -78,7 +77,7 @@ fn parts_of(alloc: Global, program: &Program) -> Result<Parts, AllocError>
 }
 
 impl Parts {
-    /// Appends the sub-topologies and the repartition topics of an item, where it is a query.
+    /// Appends the sub-topologies and repartition topics of an item, if it is a query.
     fn push_item(
         &mut self,
         alloc: Global,
@@ -154,7 +153,7 @@ impl Parts {
         Ok(())
     }
 
-    /// Appends the sub-topology of a stage, and the repartition topic that it writes, where it writes one.
+    /// Appends the sub-topology of a stage, and the repartition topic that it writes, if any.
     fn push_stage(
         &mut self,
         alloc: Global,
@@ -191,7 +190,7 @@ impl Parts {
 }
 
 impl Numbering<'_> {
-    /// A stage as the sub-topology of a number.
+    /// A stage as the sub-topology with this number.
     fn sub_of(&self, alloc: Global, number: u32, stage: Stage) -> Result<Sub, AllocError>
         requires sound { IsSound self.now.program.now.items }
         requires few_topics { self.now.first + length self.now.cuts.now < 2 ^ 32 }
@@ -261,7 +260,7 @@ fn stages_of(alloc: Global, query: &Query, program: &Program) -> Result<Stages, 
     Ok(keyed.stages)
 }
 
-/// What the repartition topics are for that some stages write.
+/// The purposes of the repartition topics that these stages write.
 fn cuts_of(alloc: Global, stages: &[Stage]) -> Result<Vec<CutName>, AllocError>
     ensures { IfOk result (λ cuts. cuts.items ≡ cuts_of stages.now) }
 {
@@ -274,7 +273,7 @@ fn cuts_of(alloc: Global, stages: &[Stage]) -> Result<Vec<CutName>, AllocError>
     Ok(cuts)
 }
 
-/// How many of some repartition topics stand before this one.
+/// The index of a repartition topic among these, or their number if it isn't there.
 fn place_of(name: CutName, cuts: &[CutName]) -> usize
     ensures value { result ≡ place_of name cuts.now }
     ensures within { result ≤ length cuts.now }
@@ -287,7 +286,7 @@ fn place_of(name: CutName, cuts: &[CutName]) -> usize
     cuts.len()
 }
 
-/// How many key columns a relation of a sound program has: few.
+/// The number of key columns of a relation of a sound program, which is small.
 fn keys_of(program: &Program, number: u32) -> u32
     requires { IsSound program.now.items }
     ensures { result ≡ key_columns program.now.items number }
@@ -295,7 +294,7 @@ fn keys_of(program: &Program, number: u32) -> u32
     key_columns(program, number) as u32
 }
 
-/// How many key columns a relation has.
+/// The number of key columns of a relation.
 fn key_columns(program: &Program, number: u32) -> usize
     ensures { result ≡ key_columns program.now.items number }
 {
@@ -305,7 +304,7 @@ fn key_columns(program: &Program, number: u32) -> usize
     }
 }
 
-/// The name of a repartition topic of a query whose result has this name.
+/// The name of a repartition topic of the query whose result has this name.
 fn repartition_name(alloc: Global, query: &Chars, cut: CutName) -> Result<Chars, AllocError>
     requires { length query.now ≤ 128 }
     ensures { IfOk result (λ name. name ≡ repartition_name query.now cut) }
@@ -314,7 +313,7 @@ fn repartition_name(alloc: Global, query: &Chars, cut: CutName) -> Result<Chars,
     Ok(Chars::of(format!(in alloc; "ksql-{query}-{cut}-repartition")?)?)
 }
 
-/// What a repartition topic is for, as its name says it.
+/// The purpose of a repartition topic, as its name spells it.
 fn cut_text(cut: CutName) -> &'static str
     ensures { result.now ≡ cut_text cut }
 {
@@ -325,7 +324,7 @@ fn cut_text(cut: CutName) -> &'static str
     }
 }
 
-/// The topics of the relations of a program, some of which these sub-topologies write.
+/// The topics of a program's relations, some of which these sub-topologies write.
 fn relation_topics(
     alloc: Global,
     program: &Program,
@@ -353,7 +352,7 @@ fn relation_topic(alloc: Global, relation: &Relation, subs: &[Sub]) -> Result<To
     })
 }
 
-/// The tasks that write a topic, where some do.
+/// The tasks that write a topic, if any.
 fn writer_of(topic: u32, subs: &[Sub]) -> Option<Writer>
     ensures { result ≡ writer_of topic subs.now }
 {

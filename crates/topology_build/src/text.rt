@@ -10,7 +10,7 @@ use std::alloc::{AllocError, Global};
 use topology::{Sub, SubInput, Topology, chain_of, tasks_of};
 
 /// The text that explains a topology of a program: a line with its numbers, the lines of each sub-topology, and a last
-/// line. A query or a topic that isn't there has an empty name.
+/// line. A query or a topic that isn't there gets an empty name.
 #[tactic(auto, unfolding(crate::specs::Text::topology_text))]
 pub fn describe(alloc: Global, program: &Program, t: &Topology) -> Result<Bytes, AllocError>
     ensures { IfOk result (λ text. text ≡ topology_text program.now.items t.now) }
@@ -160,7 +160,7 @@ fn push_join(out: &mut String, query: &str, kind: &str) -> Result<(), AllocError
     push_node_line(out, kind)
 }
 
-/// What an aggregate is called, with a window and without.
+/// The name of an aggregate, with a window and without.
 fn aggregate_kind(window: Option<Window>) -> &'static str
     ensures { result.now ≡ aggregate_kind window }
 {
@@ -193,7 +193,7 @@ fn push_stored(out: &mut String, query: &str, kind: &str, store: &str) -> Result
     writeln!(out, "node {kind} ksql-{query}-{store}-changelog")
 }
 
-/// The name of the query of this item, or the empty text where there is none.
+/// The name of the query of an item, or the empty text if there is none.
 fn query_name(items: &[Item], number: u32) -> &str
     ensures { result.now ≡ query_name items.now number }
 {
@@ -203,7 +203,7 @@ fn query_name(items: &[Item], number: u32) -> &str
     }
 }
 
-/// The name of the topic of this number, or the empty text where there is none.
+/// The name of the topic with this number, or the empty text if there is none.
 fn topic_name(topics: &[TopicSpec], number: u32) -> &str
     ensures { result.now ≡ topic_name topics.now number }
 {

@@ -42,12 +42,12 @@ use Rattle.topology.specs.Stages.{stages_of}
 use Rattle.topology.specs.Topologies.{cut_topics, cuts_of, relation_topic, stages_at, subs, subs_from, subs_of, topics_from, topology_of}
 use Rattle.topology.specs.declared.stage.Stage.{Stage}
 use Rattle.topology.specs.declared.topology.Sub.{Sub}
-use Rattle.topology_laws.specs.Fed.{IsFed, IsInItsPartition}
+use Rattle.short_laws.specs.Fed.{IsFed, IsInItsPartition}
 use Rattle.topology_laws.specs.Meant.{MeansItsQueries}
 use Rattle.topology_laws.proofs.Raw.{IsRaw}
-use Rattle.topology_laws.proofs.ItemLists.{before-among, before-below, before-same, each-before, item-at, list-at, relation-at, sound-at, take-length, within}
-use Rattle.topology_laws.proofs.KeyColumns.{tables-keyed}
-use Rattle.topology_laws.proofs.Numbering.{get-after, get-front, relation-count, stages-lanes, topics-lanes, topics-length}
+use Rattle.sending_laws.proofs.ItemLists.{before-among, before-below, before-same, each-before, item-at, list-at, relation-at, sound-at, take-length, within}
+use Rattle.sending_laws.proofs.KeyColumns.{tables-keyed}
+use Rattle.sending_laws.proofs.Numbering.{get-after, get-front, relation-count, stages-lanes, topics-lanes, topics-length}
 use Rattle.topology_laws.proofs.OwnKeys.{table-keyed}
 use Rattle.topology_laws.proofs.QuerySent.{query-others, query-sent}
 use Rattle.topology_laws.proofs.RawLists.{IsPresent, declared-raw, select-present, source-parts, tabled-again}
@@ -128,7 +128,7 @@ counts-front xs ys place n is = by (slice_get xs place) refl is
 
 -- ---- the topics of a program
 
--- what stands in the topic of an item's relation
+-- the content of the topic of an item's relation
 abbrev pub raw_of : List SourceRecord → List Change → Option Item → List Change
 raw_of order changes None = []
 raw_of order changes (Some (Declared r)) = said r order

@@ -1,4 +1,4 @@
--- What the first stage of a query reads, and that its tasks make of it what the query reads.
+-- What the first stage of a query reads, and that its tasks turn it into what the query reads.
 use Rattle.std.proofs.Common.{◌≡◌, ◌∙◌, ap, ap₂, refl, sym, subst, ℕ, ◌<◌, List, [], ◌∷◌, ◌++◌, map, Bool, true, false}
 use Rattle.std.specs.Prelude.{filter, if◌then◌else◌, Option, Some, option_map, unwrap_or}
 use Rattle.std.specs.List.{AllByRecursion}
@@ -43,7 +43,7 @@ use Rattle.topology_laws.proofs.WholeRaw.{whole_raw, whole-keyed, whole-raw-rise
 
 -- ---- parts
 
--- where what stands in one partition of a topic is its part of a list
+-- the content of one partition of a topic is its part of a list
 abbrev pub Stands : Contents → SubInput → ℕ → ℕ → List Change → Type 0
 Stands has input n part whole = map (with_cells input.keys) (has input.topic part) ≡ filter (is_to n part) whole
 
@@ -68,7 +68,7 @@ raw_entries items raws n (One number) = from_side 0 (whole_raw items raws number
 raw_entries items raws n (Join k left right on) =
     merged left right (left_side n (is_rekeyed items (Join k left right on)) on (whole_raw items raws left)) (whole_raw items raws right)
 
--- the nodes that make of it what the query reads
+-- the nodes that turn it into what the query reads
 abbrev pub first_nodes : List Item → From → List Node
 first_nodes items from = table_of items from ++ join_of items from
 
@@ -111,7 +111,7 @@ module _ (items before : List Item) (among : AreAmong before items) (lists : Lis
   raw-rise : (number : ℕ) (r : Relation) → relation_at before number ≡ Some r → Rise (whole_raw items raws number)
   raw-rise number r at = whole-raw-rise items raws number (raw number r at).1
 
-  -- some nodes are divided on some entries, and make of them what a query reads
+  -- some nodes are divided on some entries, and turn them into what a query reads
   abbrev AreFirst : List Node → List Entry → List Change → Type 0
   AreFirst nodes es read = AreLaned n nodes es × (entries_after (map (gives n) nodes) es ≡ from_side 0 read)
 
@@ -148,7 +148,7 @@ module _ (items before : List Item) (among : AreAmong before items) (lists : Lis
     abbrev tasks : Bool → List Entry
     tasks again = merged left right (left_side n again on lefts) rights
 
-    -- one node that is divided on what the tasks read, and makes of it what it makes of the changes
+    -- one node that is divided on what the tasks read, and gives for it what it gives for the changes
     joined-first : (x : Node) (over : Kind) → l.kind ≡ over → join_over items k left right on over ≡ x ∷ [] →
         results (gives n x) [] (tasks (is_rekeyed items (Join k left right on))) ≡ results (gives n x) [] sides →
         AreLaned n (x ∷ []) (tasks (is_rekeyed items (Join k left right on))) → IsFirst (Join k left right on)
@@ -215,7 +215,7 @@ module _ (items before : List Item) (among : AreAmong before items) (lists : Lis
     kinds-first kind.Table is = tables-first is
     kinds-first kind.Windowed is = absurd (reads-unwindowed before reads is)
 
-  -- the first nodes are divided on what the tasks read, and make of it what the query reads
+  -- the first nodes are divided on what the tasks read, and turn it into what the query reads
   pub reads-first : (from : From) (types : List (Option SqlType)) (l : Relation) → Reads before from types l → IsFirst from
   reads-first (One number) types l (one at un) = one-first number l at l.kind refl un
   reads-first (Join k left right on) types l (joined {r = r} at_left at_right apart table parts j) =

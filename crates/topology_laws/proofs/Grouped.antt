@@ -1,4 +1,4 @@
--- The nodes of a grouped query give what the query's steps give: over a table Group and Aggregate are one step.
+-- The nodes of a grouped query give what the query's steps give: over a table, Group and Aggregate act as one step.
 use Rattle.std.proofs.Common.{◌≡◌, ◌∙◌, ap, refl, sym, subst, ℕ, List, [], ◌∷◌, ◌++◌, map}
 use Rattle.std.proofs.lemmas.List.{map-append}
 use Rattle.std.specs.Prelude.{Option, Some, None, option_map, unwrap_or}

@@ -51,7 +51,7 @@ pub laned-append : (n : ℕ) (xs ys : List Node) (es : List Entry) → AreLaned 
 laned-append n [] ys es first second = second
 laned-append n (x ∷ xs) ys es first second = (first.0, laned-append n xs ys (from_side 0 (results (gives n x) [] es)) first.1 second)
 
--- the nodes with one input, each entry of which stands at its own place
+-- the nodes with one input, whose entries have their own places
 abbrev pub HasOneInput : Node → Type 0
 HasOneInput (JoinStreamTable kind on l r) = ⊥
 HasOneInput (JoinTables kind l r) = ⊥

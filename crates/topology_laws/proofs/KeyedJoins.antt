@@ -37,7 +37,7 @@ use Rattle.meaning_laws.proofs.Sizes.{GivesFor, last-holds}
 use Rattle.meaning_laws.proofs.TypedValues.{Has}
 use Rattle.topology.specs.Stages.{is_column, is_stream_key, is_tables_key}
 use Rattle.lane_laws.specs.Lanes.{IsInOwnGroup}
-use Rattle.topology_laws.proofs.ColumnValues.{value-front}
+use Rattle.sending_laws.proofs.ColumnValues.{value-front}
 use Rattle.topology_laws.proofs.KeyedRows.{IsKeyedChange, IsKeyedRow, IsOneKey, begins-at, begins-itself, begins-more, body-grouped, key_of-key, one-key, turned-grouped}
 
 -- ---- the row of a key
@@ -79,7 +79,7 @@ module _ (A B : Change → Type 0) (before : List Entry) (past : AllByRecursion 
       by e (inl h) same = absurd (true≢false (sym same ∙ ap (λ s. s == 1) h.0))
       by e (inr h) same = brings e.change h.1
 
--- a row of a side has as many cells as that has columns
+-- a row of a side has as many cells as the side has columns
 wide-row : (side : Side) (ts : List (Option SqlType)) → side.columns ≡ length ts → (row : Row) → RowHas ts row → side.columns ≡ length row
 wide-row side ts wide row h = wide ∙ sym (AllZip-long Has ts row h)
 
@@ -87,7 +87,7 @@ wide-nulls : (side : Side) (ts : List (Option SqlType)) → side.columns ≡ len
 wide-nulls side ts wide key None h = sym (length-replicate side.columns Null)
 wide-nulls side ts wide key (Some row) h = wide-row side ts wide row h.0
 
--- an expression that is one column is another, where their numbers are the same
+-- a column expression is another one if their numbers are the same
 column-at : (e : Typed) (i j : ℕ) → is_column i e ≡ true → i ≡ j → e.node ≡ form.Column j
 column-at e i j is same = equal e.node (form.Column i) is ∙ ap (λ n. form.Column n) same
 
@@ -95,7 +95,7 @@ module _ (l r : Side) (lts rts : List (Option SqlType)) (wide_left : l.columns �
   -- ---- a stream and a table
 
   module _ (on key : Typed) (typed : IsTyped lts on) where
-    -- the join key is worth on the joined row what it is worth on the left one
+    -- the join key has the same value on the joined row as on the left one
     front-key : same_tree key on ≡ true → (row rest : Row) (time : ℕ) → RowHas lts row → values (key ∷ []) time (row ++ rest) ≡ value_of row time on ∷ []
     front-key same row rest time fit =
         ap (λ (v : Value). v ∷ []) (ap (value_of (row ++ rest) time) (equal-trees key on same) ∙ value-front Has lts row rest time fit on typed)
@@ -154,7 +154,7 @@ module _ (l r : Side) (lts rts : List (Option SqlType)) (wide_left : l.columns �
   -- ---- two tables
 
   module _ (key : Typed) (group : List Value) (one : IsOneKey group) (time : ℕ) where
-    -- ROWKEY stands behind both sides
+    -- ROWKEY comes after both sides
     ending : (x y : Row) → is_column (l.columns + r.columns) key ≡ true → l.columns ≡ length x → r.columns ≡ length y → values (key ∷ []) time (x ++ y ++ group) ≡ group
     ending x y own wide_x wide_y =
         begins-at (x ++ y) group group time key (begins-itself group one) (column-at key (l.columns + r.columns) (length (x ++ y)) own (ap₂ (λ m n. m + n) wide_x wide_y ∙ sym (length-append x y)))
@@ -175,7 +175,7 @@ module _ (l r : Side) (lts rts : List (Option SqlType)) (wide_left : l.columns �
     tables-row Full own (Some x) ro h g = ending x (or_nulls r ro) own (wide-row l lts wide_left x h.0) (wide-nulls r rts wide_right group ro g)
 
   module _ (k : JoinKind) (key : Typed) (own : is_tables_key k l r key ≡ true) where
-    -- where each of the rows of a side gives a joined row of the group
+    -- each of the rows of a side gives a joined row of the group
     turned-rows : (c : Change) → is_key c.key ≡ true → (P : Row → Type 0) (f : Option Row → Option Row) →
         ((o : Option Row) → IfSome o P → IfSome (f o) (λ row. values (key ∷ []) c.time row ≡ c.key)) → (old new : Option Row) → IfSome old P → IfSome new P →
         IfSome (option_and_then (λ body. turned (f (row_out body)) (f (row_in body))) (turned old new)) (λ body. IsInOwnGroup (key ∷ []) (record c { body = body }))

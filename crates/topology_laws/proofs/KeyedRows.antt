@@ -32,7 +32,7 @@ use Rattle.meaning_laws.proofs.Sizes.{Gives}
 use Rattle.meaning_laws.proofs.TypedValues.{Has}
 use Rattle.topology.specs.Stages.{are_columns_from, is_column}
 use Rattle.lane_laws.specs.Lanes.{IsInOwnGroup}
-use Rattle.topology_laws.proofs.ColumnValues.{value-at}
+use Rattle.sending_laws.proofs.ColumnValues.{value-at}
 
 -- ---- changes in their groups
 
@@ -75,7 +75,7 @@ filter-grouped n on keys before past e now = body-grouped keys e.change (by_rows
 
 -- ---- one relation
 
--- columns, one by one, are worth the cells that stand there
+-- the values of consecutive columns are the cells at their places
 columns-values : (before cells row : List Value) (time : ℕ) (keys : List Typed) → are_columns_from (length before) (length cells) keys ≡ true → values keys time (before ++ (cells ++ row)) ≡ cells
 columns-values before [] row time [] own = refl
 columns-values before [] row time (e ∷ es) own = absurd (true≢false (sym own))

@@ -1,7 +1,4 @@
 pub mod Raw
-pub mod ItemLists
-pub mod KeyColumns
-pub mod ColumnValues
 pub mod KeyedRows
 pub mod KeyedJoins
 pub mod OwnKeys
@@ -9,19 +6,8 @@ pub mod InARow
 pub mod WholeRaw
 pub mod FirstStage
 pub mod Grouped
-pub mod SubContents
 pub mod ShapeSent
 pub mod QuerySent
 pub mod RawLists
-pub mod Numbering
 pub mod EachSent
 pub mod SentPlaces
-pub mod SentByFeeds
-pub mod SentSizes
-pub mod SentTypes
-pub mod SentShapes
-pub mod CutNames
-pub mod StageColumns
-pub mod SentColumns
-pub mod Paths
-pub mod SubOrder

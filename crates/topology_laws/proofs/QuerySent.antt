@@ -43,20 +43,22 @@ use Rattle.lane_laws.specs.Lanes.{in_part, merged}
 use Rattle.topology_laws.proofs.Raw.{IsRaw}
 use Rattle.topology_laws.proofs.FirstStage.{Stands, left_side, one-part, raw_entries, two-parts}
 use Rattle.topology_laws.proofs.InARow.{stage-sent}
-use Rattle.topology_laws.proofs.WholeRaw.{cells-none, partitions-at, some-partition, whole-part, whole-raw-rise, whole_raw}
-use Rattle.topology_laws.proofs.ShapeSent.{IsCounted, cut_stages, reshaped, shape-sent, whole_stages}
-use Rattle.topology_laws.proofs.SubContents.{cut-apart, place-below, with-sub-other, with-sub-own}
+use Rattle.topology_laws.proofs.WholeRaw.{cells-none, some-partition, whole-part, whole-raw-rise, whole_raw}
+use Rattle.sending_laws.proofs.ItemLists.{partitions-at}
+use Rattle.topology_laws.proofs.ShapeSent.{IsCounted, reshaped, shape-sent}
+use Rattle.sending_laws.proofs.GroupStages.{cut_stages, whole_stages}
+use Rattle.sending_laws.proofs.SubContents.{cut-apart, place-below, with-sub-other, with-sub-own}
 
 -- the stage that rekeys the left side of a join
 abbrev pub rekeying : List Item → ℕ → Typed → Stage
 rekeying items left on = record { inputs = link.Relation left ∷ []; nodes = node.Rekey on ∷ []; partitions = partitions_at items left; output = link.Cut cut.Left left }
 
--- the topics of the relations before a query: what stands in each of their partitions is the partition's part of a list
+-- the topics of the relations before a query: the content of each partition is the partition's part of a list
 module _ (items before : List Item) (among : AreAmong before items) (lists : List (List Change))
     (each : Each AreChangesOf before lists) (rise : Each (λ r. Rise) before lists) (turned : Each TurnsIn before lists)
     (numbered : (number : ℕ) (r : Relation) → relation_at before number ≡ Some r → (r.number ≡ number) × (0 < r.partitions))
     (raws : ℕ → List Change) (raw : (number : ℕ) (r : Relation) → relation_at before number ≡ Some r → IsRaw r (raws number) (changes_at lists number) × Rise (raws number)) where
-  -- where the repartition topics have as many partitions as the query has lanes, so has that of the groups
+  -- if the repartition topics have as many partitions as the query has lanes, so does that of the groups
   counted-groups : (q : Query) (from : From) (form : Shape) (topics : List TopicSpec) (first : ℕ) (cuts rekeys : List CutName) → cuts ≡ rekeys ++ cuts_of (shape_stages items (reshaped q from form) form) →
       ((place : ℕ) → place < length cuts → partitions_of topics (first + place) ≡ partitions_at items (leftmost from)) → IsCounted items from form topics (first + place_of cut.Group cuts)
   counted-groups q from (shape.Plain keys values) topics first cuts rekeys is counts = tt
@@ -116,7 +118,8 @@ module _ (items before : List Item) (among : AreAmong before items) (lists : Lis
           subst (λ b. task_entries (map (input_of items first cuts) (left_link b ∷ link.Relation right ∷ [])) now task ≡ filter (in_part lanes task) (merged left right (left_side lanes b on lefts) (whole_raw items raws right)))
           (sym is) (by again (stands task))
         where
-          -- here alone both relations have to have as many partitions: else the right one would be parted otherwise
+          -- only here must both relations have the same number of partitions: else the right one would be partitioned
+          -- differently
           right_stands : Stands now (input_of items first cuts (link.Relation right)) lanes task (whole_raw items raws right)
           right_stands = relation-stands right r at_right lanes (partitions-at items before among left l at_left ∙ alike) now task (same task ∙ reads right r at_right task) first cuts
 

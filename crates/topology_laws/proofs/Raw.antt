@@ -1,4 +1,4 @@
--- What stands in the topic of a relation, beside the relation's changes.
+-- The content of a relation's topic, compared with the relation's changes.
 use Rattle.std.specs.Prelude.{◌≡◌, List}
 use Rattle.std.specs.List.{AllByRecursion}
 use Rattle.ksql_types.specs.declared.relation.Kind.TheVariants.{Stream, Table}

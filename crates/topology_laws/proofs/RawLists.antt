@@ -1,4 +1,4 @@
--- What stands in the topics of relations: what the records say, and the changes of queries.
+-- The content of the topics of relations: what the records say, and the changes of queries.
 use Rattle.std.proofs.Common.{◌≡◌, ◌∙◌, ap, ap₂, refl, sym, subst, ℕ, List, [], ◌∷◌, ◌++◌, Bool, true, false, cond}
 use Rattle.std.specs.Prelude.{◌==◌, filter, flat_map, Option, Some, None, option_and_then, option_map, slice_get}
 use Rattle.std.specs.List.{AllByRecursion}
@@ -36,7 +36,7 @@ use Rattle.meaning_laws.proofs.Turning.{AreTurned, changed-from-side}
 use Rattle.ksql_place.specs.Routing.{is_to}
 use Rattle.topology.specs.Contents.{source_changes, source_contents}
 use Rattle.lane_laws.specs.Lanes.{IsKeyed, tabled}
-use Rattle.topology_laws.specs.Fed.{IsInItsPartition}
+use Rattle.short_laws.specs.Fed.{IsInItsPartition}
 use Rattle.topology_laws.proofs.Raw.{IsRaw}
 
 -- ---- what records say
@@ -71,7 +71,7 @@ declared-raw r order rise = (
 
 -- ---- the partitions of a source
 
--- each change stands in the partition to which it would go
+-- each change is in the partition that it would go to
 module _ (n : ℕ) where
   abbrev StandsThere : SourceRecord → Type 0
   StandsThere r = r.stamp.part ≡ lane r.key n r.stamp.part
@@ -89,7 +89,7 @@ module _ (n : ℕ) where
   flat-parts part k [] there = refl
   flat-parts part k (r ∷ rs) there = saying-parts part r (said_by k r.key r.value) there.0 (flat_map (saying k) rs) (flat-parts part k rs there.1)
 
--- records of a topic stand in the partitions of the relation of its number
+-- records of a topic are in the partitions of the relation with its number
 of-topic : (items : List Item) (r : Relation) → relation_at items r.number ≡ Some r → (order : List SourceRecord) → AllByRecursion (IsInItsPartition items) order →
     AllByRecursion (StandsThere r.partitions) (filter (is_of_topic r) order)
 of-topic items r at [] placed = tt

@@ -44,17 +44,19 @@ use Rattle.topology.specs.declared.stage.Link.TheVariants as link
 use Rattle.topology.specs.declared.stage.Stage.{Stage}
 use Rattle.topology.specs.declared.topology.Sub.{Sub}
 use Rattle.lane_laws.specs.Lanes.{in_part}
-use Rattle.topology_laws.specs.Fed.{IsFed}
-use Rattle.topology_laws.specs.Sent.{IsPlacedThroughout}
+use Rattle.short_laws.specs.Fed.{IsFed}
+use Rattle.sending_laws.specs.Sent.{IsPlacedThroughout}
 use Rattle.topology_laws.proofs.EachSent.{HasAll, IsDone, begins, declared-more, each-changes, each-rise, each-turned, kept, numbered-before, out-count, out-number, query-more, raw-at, raw-before, raws, reads, reads-low}
 use Rattle.topology_laws.proofs.FirstStage.{one-part, raw_entries, read-rise, read_changes}
 use Rattle.topology_laws.proofs.InARow.{HasOneInput, nodes-rise}
-use Rattle.topology_laws.proofs.ItemLists.{before-among, each-before, relation-at, sound-at, within}
+use Rattle.sending_laws.proofs.ItemLists.{before-among, each-before, relation-at, sound-at, within}
 use Rattle.topology_laws.proofs.QuerySent.{plain-reads, rekeyed-reads, rekeyed-sent, rekeying, relation-stands}
 use Rattle.topology_laws.proofs.Raw.{IsRaw}
-use Rattle.topology_laws.proofs.ShapeSent.{cut_stages, filter-laned, filter-one, first-sent, regroup, reshaped, whole_stages}
-use Rattle.topology_laws.proofs.SubContents.{with-sub-other}
-use Rattle.topology_laws.proofs.WholeRaw.{partitions-at, whole-raw-rise, whole_raw}
+use Rattle.topology_laws.proofs.ShapeSent.{filter-laned, filter-one, first-sent, regroup, reshaped}
+use Rattle.sending_laws.proofs.GroupStages.{cut_stages, whole_stages}
+use Rattle.sending_laws.proofs.SubContents.{with-sub-other}
+use Rattle.topology_laws.proofs.WholeRaw.{whole-raw-rise, whole_raw}
+use Rattle.sending_laws.proofs.ItemLists.{partitions-at}
 
 -- ---- a topic
 
@@ -84,7 +86,7 @@ last-rises topics has s topic apart rise = other-rises topics has s topic apart 
 
 -- ---- a query
 
--- the topics of the relations before a query: what stands in each of their partitions is the partition's part of a list
+-- the topics of the relations before a query: the content of each partition is the partition's part of a list
 module _ (items before : List Item) (among : AreAmong before items) (lists : List (List Change))
     (each : Each AreChangesOf before lists) (rise : Each (λ r. Rise) before lists) (turned : Each TurnsIn before lists)
     (numbered : (number : ℕ) (r : Relation) → relation_at before number ≡ Some r → (r.number ≡ number) × (0 < r.partitions))
@@ -144,7 +146,8 @@ module _ (items before : List Item) (among : AreAmong before items) (lists : Lis
   module _ (has : Contents) (number : ℕ)
       (reads : (j : ℕ) (r : Relation) → relation_at before j ≡ Some r → (part : ℕ) → has j part ≡ filter (is_to r.partitions part) (raws j))
       (low : (j : ℕ) (r : Relation) → relation_at before j ≡ Some r → j < first) (before_it : RiseIn topic has) where
-    -- places rise in the topic after the stages of the query, where it reads these relations, and where these stages come first
+    -- places rise in the topic after the stages of the query, where it reads these relations, and where these stages
+    -- come first
     abbrev RiseAfter : From → List Stage → Type 0
     RiseAfter from rekeys =
         let stages = rekeys ++ shape_stages items (reshaped q from form) form in

@@ -1,5 +1,5 @@
--- The tasks of a query, where its first stage reads parts of whole lists, send what it means: in one stage, or in two with the groups'
--- repartition topic between them.
+-- The tasks of a query, where its first stage reads parts of whole lists, send what it means: in one stage, or in two
+-- with the groups' repartition topic between them.
 use Rattle.std.proofs.Common.{◌≡◌, ◌∙◌, ap, refl, sym, subst, ℕ, ◌+◌, ◌<◌, ◌≤◌, List, [], ◌∷◌, ◌++◌, map, length, append_assoc, Bool, true, false, if◌then◌else◌, arith}
 use Rattle.std.proofs.lemmas.List.{map-append}
 use Rattle.std.specs.Prelude.{filter, Option, Some, None, option_to_list}
@@ -26,7 +26,7 @@ use Rattle.ksql_nodes.specs.declared.node.Node.TheVariants as node
 use Rattle.ksql_nodes.specs.Entries.{Entry, Step, from_side, results, through}
 use Rattle.ksql_nodes.specs.Nodes.{gives}
 use Rattle.ksql_nodes.proofs.Lists.{All-append}
-use Rattle.query_meaning.specs.Queries.{changes_at, filter_of, join_of, kind_at, lanes_of, leftmost, partitions_at, query_changes, read_entries, shape_steps, steps_of}
+use Rattle.query_meaning.specs.Queries.{changes_at, filter_of, join_of, kind_at, leftmost, partitions_at, query_changes, read_entries, shape_steps, steps_of}
 use Rattle.meaning_laws.proofs.EachRelation.{AreAmong, Each}
 use Rattle.meaning_laws.proofs.Forks.{Rise}
 use Rattle.meaning_laws.proofs.RelationColumns.{AreChangesOf}
@@ -34,7 +34,7 @@ use Rattle.meaning_laws.proofs.RelationTables.{TurnsIn, reads-kind, reads-unwind
 use Rattle.meaning_laws.proofs.Lists.{All-map}
 use Rattle.ksql_place.specs.Routing.{is_to, partitions_of}
 use Rattle.topology.specs.Contents.{Contents, contents_from, sent, task_entries, with_sub}
-use Rattle.topology.specs.Stages.{are_own_key, aggregate_nodes, input_nodes, inputs_of, shape_stages, table_of}
+use Rattle.topology.specs.Stages.{are_own_key, aggregate_nodes, inputs_of, shape_stages, table_of}
 use Rattle.topology.specs.Topologies.{input_of, place_of, sub_of, subs_from}
 use Rattle.topology.specs.declared.stage.CutName.{CutName}
 use Rattle.topology.specs.declared.stage.CutName.TheVariants as cut
@@ -51,7 +51,8 @@ use Rattle.topology_laws.proofs.Grouped.{group-steps, group_nodes, read-turned}
 use Rattle.topology_laws.proofs.InARow.{HasOneInput, entries_after, entries-changes, laned-append, nodes-rise, stage-sent, through-append, through-last}
 use Rattle.topology_laws.proofs.OwnKeys.{filter-own, own-read}
 use Rattle.topology_laws.proofs.WholeRaw.{cells-none, some-partition}
-use Rattle.topology_laws.proofs.SubContents.{with-sub-own}
+use Rattle.sending_laws.proofs.GroupStages.{cut_stages, whole_stages}
+use Rattle.sending_laws.proofs.SubContents.{with-sub-own}
 
 -- ---- nodes after the join
 
@@ -113,22 +114,13 @@ regroup xs ys zs ws = ap (λ v. v ++ ws) (sym (append_assoc xs ys zs)) ∙ appen
 abbrev pub reshaped : Query → From → Shape → Query
 reshaped q from shape = record q { from = from; shape = shape }
 
--- the stages of a grouped query that isn't cut, and of one that is
-abbrev pub whole_stages : List Item → Query → List Typed → List Node → List Stage
-whole_stages items q keys rest =
-    record { inputs = inputs_of items q.from; nodes = (input_nodes items q ++ node.Group keys ∷ []) ++ rest; partitions = lanes_of items q; output = link.Relation q.out.number } ∷ []
-
-abbrev pub cut_stages : List Item → Query → List Typed → List Node → List Stage
-cut_stages items q keys rest =
-    record { inputs = inputs_of items q.from; nodes = input_nodes items q ++ node.Group keys ∷ []; partitions = lanes_of items q; output = link.Cut cut.Group (leftmost q.from) }
-    ∷ record { inputs = link.Cut cut.Group (leftmost q.from) ∷ []; nodes = rest; partitions = lanes_of items q; output = link.Relation q.out.number } ∷ []
-
--- where a query is cut before its aggregate, the repartition topic of the groups has as many partitions as the query has lanes
+-- where a query is cut before its aggregate, the repartition topic of the groups has as many partitions as the query
+-- has lanes
 abbrev pub IsCounted : List Item → From → Shape → List TopicSpec → ℕ → Type 0
 IsCounted items from (shape.Plain keys values) topics topic = Unit {0}
 IsCounted items from (shape.Group keys w aggs having values) topics topic = are_own_key items from keys ≡ false → partitions_of topics topic ≡ partitions_at items (leftmost from)
 
--- the topics of the relations before a query: what stands in each of their partitions is the partition's part of a list
+-- the topics of the relations before a query: the content of each partition is the partition's part of a list
 module _ (items before : List Item) (among : AreAmong before items) (lists : List (List Change))
     (each : Each AreChangesOf before lists) (rise : Each (λ r. Rise) before lists) (turned : Each TurnsIn before lists)
     (numbered : (number : ℕ) (r : Relation) → relation_at before number ≡ Some r → (r.number ≡ number) × (0 < r.partitions))

@@ -1,4 +1,4 @@
--- What stands in the topics of relations, with whole rows.
+-- The content of the topics of relations, with whole rows.
 use Rattle.std.proofs.Common.{◌≡◌, ◌∙◌, ap, ap₂, refl, sym, subst, ℕ, zero, suc, ◌<◌, List, [], ◌∷◌, ◌++◌, length, map, arith}
 use Rattle.std.specs.Prelude.{filter, Option, Some, None, option_map, unwrap_or}
 use Rattle.std.specs.List.{AllByRecursion}
@@ -27,11 +27,12 @@ use Rattle.ksql_place.specs.Routing.{is_to}
 use Rattle.topology.specs.Contents.{with_cells}
 use Rattle.lane_laws.specs.Lanes.{HasKey, IsKeyed, tabled}
 use Rattle.lane_laws.proofs.Inputs.{cells-part, tabled-cells}
+use Rattle.sending_laws.proofs.ItemLists.{partitions-at}
 use Rattle.topology_laws.proofs.Raw.{IsRaw}
 
 -- ---- cells of keys
 
--- a change without a key is whole where there are no key columns
+-- a change without a key is whole if there are no key columns
 bare-whole : (c : Change) → c.key ≡ [] → with_key_cells 0 c ≡ c
 bare-whole c none = λ i. record c { body = by c.body i }
   where
@@ -92,13 +93,10 @@ module _ (items before : List Item) (among : AreAmong before items) (number : �
   columns-at : key_columns items number ≡ length r.schema.keys
   columns-at = ap (λ (o : Option Relation). unwrap_or (option_map (λ x. length x.schema.keys) o) 0) (among number r at)
 
-  pub partitions-at : partitions_at items number ≡ r.partitions
-  partitions-at = ap (λ (o : Option Relation). unwrap_or (option_map (λ x. x.partitions) o) 1) (among number r at)
-
   pub some-partition : 0 < r.partitions → 0 < partitions_at items number
-  some-partition some = subst (λ n. 0 < n) (sym partitions-at) some
+  some-partition some = subst (λ n. 0 < n) (sym (partitions-at items before among number r at)) some
 
--- what stands in a relation's topic, with whole rows
+-- the content of a relation's topic, with whole rows
 abbrev pub whole_raw : List Item → (ℕ → List Change) → ℕ → List Change
 whole_raw items raws number = map (with_cells (key_columns items number)) (raws number)
 

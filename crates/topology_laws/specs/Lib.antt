@@ -1,4 +1,1 @@
-pub mod Chain
-pub mod Fed
 pub mod Meant
-pub mod Sent

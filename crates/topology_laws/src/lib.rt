@@ -1,4 +1,4 @@
-//! Laws of topologies: what the tasks of all partitions send, partition by partition, is what the queries mean.
+//! Laws of topologies: the tasks of all partitions send what the queries mean, partition by partition.
 #![tactic(auto)]
 
 mod laws;

@@ -43,7 +43,7 @@ steps_text-step journal i number step lines below is =
     ∙ step_first number later step lines
     ∙ ap (λ happened. step_text number step (before_first is_step happened) ++ steps_text later (option_map (λ l. l.step) (slice_get lines 0)) (drop 1 lines)) (sym whole)
 
--- and where another entry stands there
+-- and if another entry comes there
 pub steps_text-other : (journal : List JournalEntry) (i : ℕ) (step : Option Step) (lines : List Lined)
     → i < length journal → ((number : ℕ) → get_or journal i (entry.Step 0) ≡ entry.Step number → ⊥)
     → steps_text (drop i journal) step lines ≡ steps_text (drop (i + 1) journal) step lines
@@ -51,7 +51,7 @@ steps_text-other journal i step lines below none =
     ap (λ entries. steps_text entries step lines) (from_place journal i (entry.Step 0) below)
     ∙ other_first (get_or journal i (entry.Step 0)) (drop (i + 1) journal) step lines none
 
--- there are no steps behind the last place
+-- there are no steps after the last place
 pub steps_text-end : (journal : List JournalEntry) (i : ℕ) (step : Option Step) (lines : List Lined)
     → length journal ≤ i → steps_text (drop i journal) step lines ≡ []
 unfolding steps_text

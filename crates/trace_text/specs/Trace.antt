@@ -1,4 +1,4 @@
--- The trace of a run: what happened in each of its steps.
+-- The trace of a run: what happened in each step.
 use Rattle.std.specs.Prelude.{ℕ, List, [], ◌∷◌, ◌++◌, codes, decimal, flat_map, Bool, true, false, ◌==◌, ◌&&◌, if◌then◌else◌, Option, None, Some}
 use Rattle.std.specs.Option.{option_map_or}
 use Rattle.std.specs.List.{before_first, list_any}
@@ -11,11 +11,11 @@ use Rattle.topology.specs.declared.schedule.Step.TheVariants as step
 
 -- ---- lines
 
--- a task's name: the number of its sub-topology and that of its partition
+-- the name of a task: the numbers of its sub-topology and of its partition
 unfoldable pub task_text : TaskName → List ℕ
 task_text task = decimal task.sub ++ (codes "_" ++ decimal task.part)
 
--- the line of a feed, a round or a commit; of any other entry none
+-- the line of a feed, a round or a commit; none for other entries
 unfoldable pub progress_line : JournalEntry → List ℕ
 progress_line (entry.Fed feed records) = codes "feed " ++ (decimal feed ++ (codes " records " ++ (decimal records ++ codes "\n")))
 progress_line (entry.Round number) = codes "round " ++ (decimal number ++ codes "\n")
@@ -23,7 +23,7 @@ progress_line (entry.Committed task from to) =
     codes "commit " ++ (task_text task ++ (codes " " ++ (decimal from ++ (codes " " ++ (decimal to ++ codes "\n")))))
 progress_line _ = []
 
--- the line of a refused commit or of a task that is made anew; of any other entry none
+-- the line of a refused commit or of a restored task; none for other entries
 unfoldable pub moved_line : JournalEntry → List ℕ
 moved_line (entry.Fenced task held newest) =
     codes "fenced " ++ (task_text task ++ (codes " held " ++ (decimal held ++ (codes " newest " ++ (decimal newest ++ codes "\n")))))
@@ -34,16 +34,16 @@ moved_line (entry.Restored task worker generation done) =
     ++ (codes " at " ++ (decimal done ++ codes "\n")))))))
 moved_line _ = []
 
--- the line of what became of a worker
+-- the line about what became of a worker
 unfoldable pub worker_line : List ℕ → ℕ → List ℕ
 worker_line word worker = word ++ (codes " " ++ (decimal worker ++ codes "\n"))
 
--- whether an entry says that a task left its owner
+-- whether an entry records that a task left its owner
 abbrev pub is_leaving : TaskName → JournalEntry → Bool
 is_leaving task (entry.Left left generation) = (left.sub == task.sub) && (left.part == task.part)
 is_leaving task _ = false
 
--- what a step of the schedule itself did, where this happened in it: a task is lost only where it left an owner
+-- what a step of the schedule itself did, given what happened in it: a task is lost only if it left an owner
 unfoldable pub own_lines : Step → List JournalEntry → List ℕ
 own_lines (step.Round lost stalled) happened =
     option_map_or (worker_line (codes "gone")) lost [] ++ option_map_or (worker_line (codes "stall")) stalled []
@@ -60,7 +60,8 @@ abbrev pub is_step : JournalEntry → Bool
 is_step (entry.Step line) = true
 is_step _ = false
 
--- a step: its feeds, rounds and commits, what the step of the schedule itself did, and then refused commits and tasks that were made anew
+-- a step: its feeds, rounds and commits, what the step of the schedule itself did, then refused commits and restored
+-- tasks
 unfoldable pub step_text : ℕ → Option Step → List JournalEntry → List ℕ
 step_text line planned happened =
     codes "step " ++ (decimal line ++ (codes "\n"
@@ -68,8 +69,8 @@ step_text line planned happened =
     ++ (option_map_or (λ s. own_lines s happened) planned []
     ++ flat_map moved_line happened))))
 
--- the steps of a journal, the first of which took this step of the schedule, and each later one that of the next of these lines; none
--- where the schedule has none for it
+-- the steps of a journal: the first one is this step of the schedule, and each later one that of the next of these
+-- lines, if there is one
 unfoldable pub steps_text : List JournalEntry → Option Step → List Lined → List ℕ
 steps_text [] planned lines = []
 steps_text (entry.Step number ∷ later) planned [] = step_text number planned (before_first is_step later) ++ steps_text later None []
@@ -77,6 +78,7 @@ steps_text (entry.Step number ∷ later) planned (next ∷ lines) =
     step_text number planned (before_first is_step later) ++ steps_text later (Some next.step) lines
 steps_text (_ ∷ later) planned lines = steps_text later planned lines
 
--- the trace of a run with this journal and schedule: the first step of the journal is the first assignment, and none of the schedule
+-- the trace of a run with this journal and schedule: the journal's first step is the first assignment, which isn't in
+-- the schedule
 unfoldable pub trace_of : List JournalEntry → List Lined → List ℕ
 trace_of journal lines = codes "trace\n" ++ steps_text journal None lines

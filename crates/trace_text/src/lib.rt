@@ -1,4 +1,4 @@
-//! The text of a run's trace: what happened in each of its steps.
+//! The text of a run's trace: what happened in each step.
 #![tactic(auto)]
 
 mod lines;

@@ -1,4 +1,4 @@
-//! The lines of a trace on what happened in a step.
+//! The lines of a trace about one step.
 
 ghost use Rattle.std.specs.Prelude.{◌≡◌, ◌++◌, [], OnOk, string_bytes};
 ghost use Rattle.std.specs.List.{list_any};
@@ -10,7 +10,7 @@ use ksql_types::TaskName;
 use std::alloc::AllocError;
 use topology::Step;
 
-/// Appends the line of a feed, a round or a commit, and nothing of any other entry.
+/// Appends the line of a feed, a round or a commit, and nothing for other entries.
 #[tactic(auto, using(crate::proofs::Texts::appends), unfolding(crate::specs::Trace::progress_line, crate::specs::Trace::task_text))]
 pub fn push_progress(out: &mut String, entry: &JournalEntry) -> Result<(), AllocError>
     ensures { OnOk result (string_bytes out.new ≡ string_bytes out.old ++ progress_line entry.now) }
@@ -25,7 +25,7 @@ pub fn push_progress(out: &mut String, entry: &JournalEntry) -> Result<(), Alloc
     }
 }
 
-/// Appends the line of a refused commit or of a task that is made anew, and nothing of any other entry.
+/// Appends the line of a refused commit or of a restored task, and nothing for other entries.
 #[tactic(auto, using(crate::proofs::Texts::appends), unfolding(crate::specs::Trace::moved_line, crate::specs::Trace::task_text))]
 pub fn push_moved(out: &mut String, entry: &JournalEntry) -> Result<(), AllocError>
     ensures { OnOk result (string_bytes out.new ≡ string_bytes out.old ++ moved_line entry.now) }
@@ -50,7 +50,7 @@ pub fn push_moved(out: &mut String, entry: &JournalEntry) -> Result<(), AllocErr
     }
 }
 
-/// Appends the lines of what a step of the schedule itself did, where these are the entries of what happened in it.
+/// Appends the lines about what a step of the schedule itself did, given the entries of what happened in it.
 #[tactic(auto, using(crate::proofs::Texts::appends), unfolding(crate::specs::Trace::own_lines, crate::specs::Trace::task_text))]
 pub fn push_own(out: &mut String, step: &Step, happened: &[JournalEntry]) -> Result<(), AllocError>
     ensures { OnOk result (string_bytes out.new ≡ string_bytes out.old ++ own_lines step.now happened.now) }
@@ -77,7 +77,7 @@ fn has_left(task: TaskName, happened: &[JournalEntry]) -> bool
     happened.iter().any(|entry| is_leaving(task, entry))
 }
 
-/// Whether an entry says that a task left its owner.
+/// Whether an entry records that a task left its owner.
 fn is_leaving(task: TaskName, entry: &JournalEntry) -> bool
     ensures { result ≡ is_leaving task entry.now }
 {
@@ -87,7 +87,7 @@ fn is_leaving(task: TaskName, entry: &JournalEntry) -> bool
     }
 }
 
-/// Appends the line of what became of a worker, where there is one.
+/// Appends the line about what became of a worker, if there is one.
 fn push_some_worker(out: &mut String, word: &str, worker: Option<u32>) -> Result<(), AllocError>
     ensures { OnOk result (string_bytes out.new ≡ string_bytes out.old ++ option_map_or (worker_line word.now) worker []) }
 {
@@ -97,7 +97,7 @@ fn push_some_worker(out: &mut String, word: &str, worker: Option<u32>) -> Result
     }
 }
 
-/// Appends the line of what became of a worker.
+/// Appends the line about what became of a worker.
 #[tactic(auto, using(crate::proofs::Texts::appends), unfolding(crate::specs::Trace::worker_line))]
 fn push_worker(out: &mut String, word: &str, worker: u32) -> Result<(), AllocError>
     ensures { OnOk result (string_bytes out.new ≡ string_bytes out.old ++ worker_line word.now worker) }

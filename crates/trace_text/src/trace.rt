@@ -1,4 +1,4 @@
-//! The trace: each step of a journal, with what it is in the schedule.
+//! The trace: each step of a journal, next to the step of the schedule.
 
 ghost use Rattle.std.specs.Prelude.{◌≡◌, ◌++◌, ◌≤◌, [], None, OnOk, drop, flat_map, length, option_map, slice_get, string_bytes};
 ghost use Rattle.std.specs.List.{before_first, position_or_len};
@@ -10,10 +10,10 @@ use core_state::JournalEntry;
 use std::alloc::AllocError;
 use topology::{Lined, Step};
 
-/// Appends the trace of a run: the line `trace`, and then each step of its journal with what happened up to the next one.
-/// The first step of the journal is the first assignment and none of the schedule, and each later one is that of the next
-/// line. Where they don't fit, steps after the last line have only what their entries say, and lines that the journal
-/// doesn't come to are left out, as is what it has before its first step.
+/// Appends the trace of a run: the line `trace`, and then each step of the journal with what happened up to the next
+/// one. The journal's first step is the first assignment, which isn't in the schedule; each later step is that of the
+/// next line. If the two don't fit, steps after the last line have only what their entries say, and lines that the
+/// journal doesn't reach are left out, as are entries before its first step.
 #[tactic(auto, using(crate::proofs::Texts::appends), unfolding(crate::specs::Trace::trace_of))]
 pub fn push_trace(
     out: &mut String,
@@ -26,7 +26,7 @@ pub fn push_trace(
     push_steps(out, journal, steps)
 }
 
-/// Appends the lines of each step of a journal, of which the first is none of the schedule.
+/// Appends the lines of each step of a journal. Its first step isn't in the schedule.
 fn push_steps(out: &mut String, journal: &[JournalEntry], steps: &[Lined]) -> Result<(), AllocError>
     ensures { OnOk result (string_bytes out.new ≡ string_bytes out.old ++ steps_text journal.now None steps.now) }
 {
@@ -41,7 +41,7 @@ fn push_steps(out: &mut String, journal: &[JournalEntry], steps: &[Lined]) -> Re
     Ok(())
 }
 
-/// The first of some steps, where there is one, and the others.
+/// The first of some steps, if any, and the others.
 fn next_step(steps: &[Lined]) -> (Option<&Step>, &[Lined])
     ensures first { option_map (λ s. s.now) result.0 ≡ option_map (λ l. l.step) (slice_get steps.now 0) }
     ensures others { result.1.now ≡ drop 1 steps.now }
@@ -59,7 +59,7 @@ fn up_to_step(later: &[JournalEntry]) -> &[JournalEntry]
     &later[..count_to_step(later)]
 }
 
-/// How many entries there are before the next step.
+/// The number of entries before the next step.
 fn count_to_step(later: &[JournalEntry]) -> usize
     ensures value { result ≡ position_or_len is_step later.now }
     ensures within { result ≤ length later.now }
@@ -74,7 +74,7 @@ fn is_step(entry: &JournalEntry) -> bool
     matches!(entry, JournalEntry::Step { .. })
 }
 
-/// Appends the lines of a step, which is this one of the schedule or none.
+/// Appends the lines of a step, which is `step` of the schedule, if any.
 #[tactic(auto, using(crate::proofs::Texts::appends), unfolding(crate::specs::Trace::step_text))]
 fn push_step(
     out: &mut String,
@@ -101,7 +101,7 @@ fn push_all_progress(out: &mut String, happened: &[JournalEntry]) -> Result<(), 
     Ok(())
 }
 
-/// Appends the lines of what a step of the schedule itself did, where it is one.
+/// Appends the lines about what a step of the schedule itself did, if there is one.
 fn push_some_own(
     out: &mut String,
     step: Option<&Step>,
@@ -116,7 +116,7 @@ fn push_some_own(
     }
 }
 
-/// Appends the lines of the commits of a step that were refused, and of the tasks that were made anew in it.
+/// Appends the lines of a step's refused commits and restored tasks.
 fn push_all_moved(out: &mut String, happened: &[JournalEntry]) -> Result<(), AllocError>
     ensures { OnOk result (string_bytes out.new ≡ string_bytes out.old ++ flat_map moved_line happened.now) }
 {

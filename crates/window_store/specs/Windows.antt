@@ -1,4 +1,4 @@
--- What a contract sees of a store of windows.
+-- What contracts see of a window store.
 use Rattle.std.specs.Prelude.{ℕ, ◌+◌, ◌-◌, ◌≡◌, ◌≤◌, ◌^◌, nat_lt, Bool, not, List, ◌++◌, filter, drop, length, refl}
 use Rattle.std.specs.Coded.{Coded, code_by, coded×, coded_ℕ}
 use Rattle.std.specs.Int.{w64, from_be_bytes}
@@ -7,13 +7,13 @@ use Rattle.state_store.specs.Store.{Content, content_code}
 use Rattle.record_codec.specs.Spelling.{eight}
 use Rattle.operator.specs.Holding.{is_of_time}
 
--- windows of one size: what stands under the bytes of a key and a start, and the stream time
+-- windows of one size: the value of each key and start, by their bytes, and the stream time
 pub record Windows : Type 0 where
   pub size : ℕ
   pub content : Content
   pub time : ℕ
 
--- it is stored as its fields
+-- it is coded as its fields
 abbrev pub windows_code : Coded Windows
 windows_code =
     code_by
@@ -23,23 +23,23 @@ windows_code =
     (λ p. record { size = p.0; content = p.1.0; time = p.1.1 })
     (λ _. refl)
 
--- the bytes under which the window of a key with a start stands
+-- the bytes of the window with a key and a start
 abbrev pub under : List ℕ → ℕ → List ℕ
 under key start = key ++ eight start
 
--- bytes under which a window can stand
+-- bytes that a window can have
 abbrev pub IsWindowKey : List ℕ → Type 0
 IsWindowKey b = (key : List ℕ) × (start : ℕ) × (b ≡ under key start) × (start ≤ 2 ^ 56)
 
--- the start that such bytes say: they end with it
+-- the start in such bytes, at their end
 unfoldable pub start_of : List ℕ → ℕ
 start_of b = from_be_bytes w64 (drop (length b - 8) b)
 
--- whether the window under such bytes has ended at a moment: its end is at most that
+-- whether the window with such bytes has ended at a moment: its end is at most that
 abbrev pub has_ended : ℕ → ℕ → List ℕ → Bool
 has_ended size moment b = not (nat_lt moment (start_of b + size))
 
--- the entries of a log that are of windows, and those that say the stream time
+-- the entries of a log for windows, and those for the stream time
 abbrev pub of_windows : List StoreEntry → List StoreEntry
 of_windows log = filter (λ entry. not (is_of_time entry)) log
 

@@ -1,4 +1,4 @@
-//! The end of windows: those of the first starts are taken away.
+//! The end of windows: the windows with the earliest starts are deleted.
 ghost use Rattle.std.specs.Prelude.{◌≡◌, ◌≤◌, ◌<◌, ◌⊎◌, ℕ, List, None, All, Contains, OnOk};
 ghost use Rattle.std.specs.FinMap as finite;
 ghost use Rattle.state_store.specs.Store.{Values, IsBase};
@@ -10,7 +10,7 @@ use ksql_types::Bytes;
 use state_store::Store;
 use std::alloc::{AllocError, Global};
 
-/// Deletes some keys, one after another. After an error some of them may be left.
+/// Deletes these keys. After an error some of them may remain.
 fn delete_all(kept: &mut Store, alloc: Global, keys: &[Bytes]) -> Result<(), AllocError>
     requires windows { All IsWindowKey keys.now }
     requires written { All IsWindowKey kept.old.written }
@@ -25,7 +25,7 @@ fn delete_all(kept: &mut Store, alloc: Global, keys: &[Bytes]) -> Result<(), All
     Ok(())
 }
 
-/// Takes the windows away whose start is at most `last`. After an error some of them may be left.
+/// Deletes the windows whose start is at most `last`. After an error some of them may remain.
 pub(crate) fn end_until(
     kept: &mut Store,
     starts: &mut Starts,

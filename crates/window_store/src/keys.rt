@@ -1,4 +1,4 @@
-//! The bytes under which a window stands: those of its key, and its start in eight bytes.
+//! The bytes of a window in the store: those of its key, and its start in eight bytes.
 ghost use Rattle.std.specs.Prelude.{◌≡◌, ◌≤◌, IfOk, OnOk, length};
 ghost use Rattle.std.specs.Int.{w64, from_be_bytes};
 ghost use Rattle.window_store.specs.Windows.{under, start_of};
@@ -6,8 +6,8 @@ ghost use Rattle.window_store.specs.Windows.{under, start_of};
 use ksql_types::Bytes;
 use std::alloc::{AllocError, Global};
 
-/// The bytes under which the window of a key with a start stands.
-pub fn window_key(alloc: Global, key: &[u8], start: u64) -> Result<Bytes, AllocError>
+/// The bytes of the window with this key and start.
+pub(crate) fn window_key(alloc: Global, key: &[u8], start: u64) -> Result<Bytes, AllocError>
     ensures { IfOk result (λ bytes. bytes ≡ under key.now start) }
 {
     let mut bytes = Vec::with_capacity(alloc, key.len() + 8)?;
@@ -15,7 +15,7 @@ pub fn window_key(alloc: Global, key: &[u8], start: u64) -> Result<Bytes, AllocE
     Ok(Bytes::of(bytes))
 }
 
-/// Puts those bytes in place of what a buffer has. Takes no memory where the buffer has room for them.
+/// Replaces a buffer's content by those bytes. Takes no memory if the buffer has room for them.
 #[tactic(auto, unfolding(record_codec::specs::Spelling::eight))]
 pub fn put_window_key(buffer: &mut Vec<u8>, key: &[u8], start: u64) -> Result<(), AllocError>
     ensures { OnOk result (buffer.new.items ≡ under key.now start) }
@@ -25,7 +25,7 @@ pub fn put_window_key(buffer: &mut Vec<u8>, key: &[u8], start: u64) -> Result<()
     buffer.extend_from_slice(&start.to_be_bytes())
 }
 
-/// The start that such bytes say.
+/// The start in such bytes.
 #[tactic(auto, unfolding(crate::specs::Windows::start_of))]
 pub(crate) fn start_of(at: &[u8]) -> u64
     requires { 8 ≤ length at.now }
@@ -34,7 +34,7 @@ pub(crate) fn start_of(at: &[u8]) -> u64
     number_in(&at[at.len() - 8..])
 }
 
-/// The number that eight bytes say.
+/// The number in eight bytes.
 pub(crate) fn number_in(bytes: &[u8]) -> u64
     requires { length bytes.now ≡ 8 }
     ensures { result ≡ from_be_bytes w64 bytes.now }

@@ -1,5 +1,5 @@
-//! A store of the windows of a task's state: a finite map from the bytes of a key and a start to bytes, and a stream time, which
-//! keeps what changed since the last commit.
+//! The store of a task's windows: a finite map from a key's bytes and a start to bytes, with a stream time, that tracks
+//! what changed since the last commit.
 #![tactic(auto)]
 
 mod ending;
@@ -8,5 +8,5 @@ mod loading;
 mod starts;
 mod store;
 
-pub use keys::{put_window_key, window_key};
+pub use keys::put_window_key;
 pub use store::WStore;

@@ -1,4 +1,4 @@
-//! What the entries of a log say of windows and of the stream time.
+//! What the entries of a changelog say about windows and the stream time.
 ghost use Rattle.std.specs.Prelude.{◌≡◌, ◌==◌, ◌&&◌, ◌++◌, ◌∷◌, [], not, All, IsTrue, IfOk, OnOk, Some};
 ghost use Rattle.std.specs.FinMap as finite;
 ghost use Rattle.state_store.specs.Store.{Values, with_value, replay, numbered, IsBase};
@@ -25,21 +25,21 @@ pub(crate) fn time_entry(alloc: Global, time: u64) -> Result<StoreEntry, AllocEr
     })
 }
 
-/// Whether an entry has a number and is of a window.
+/// Whether an entry has this store number and is a window's.
 fn is_of_window(entry: &StoreEntry, number: u32) -> bool
     ensures { result ≡ (entry.now.store == number && not (is_of_time entry.now)) }
 {
     entry.store == number && !entry.key.items().is_empty()
 }
 
-/// Whether an entry has a number and is of the stream time.
+/// Whether an entry has this store number and is the stream time's.
 fn is_of_time(entry: &StoreEntry, number: u32) -> bool
     ensures { result ≡ (entry.now.store == number && is_of_time entry.now) }
 {
     entry.store == number && entry.key.items().is_empty()
 }
 
-/// The time that an entry of the stream time says, after one before.
+/// The stream time after an entry of the stream time.
 fn said_time(entry: &StoreEntry, before: u64) -> u64
     requires loadable { IsWindowEntry entry.now }
     requires of_time { IsTrue (is_of_time entry.now) }
@@ -51,7 +51,7 @@ fn said_time(entry: &StoreEntry, before: u64) -> u64
     }
 }
 
-/// The stream time that the entries with a number say, 0 where they say none.
+/// The last stream time in the entries with this store number, or 0 if there is none.
 pub(crate) fn loaded_time(number: u32, log: &[StoreEntry]) -> u64
     requires { All IsWindowEntry (numbered number log.now) }
     ensures { result ≡ time_after 0 (of_time (numbered number log.now)) }
@@ -65,7 +65,7 @@ pub(crate) fn loaded_time(number: u32, log: &[StoreEntry]) -> u64
     time
 }
 
-/// The windows that the entries with a number make, one after another.
+/// The windows after replaying the entries with this store number.
 pub(crate) fn loaded_windows(
     alloc: Global,
     number: u32,

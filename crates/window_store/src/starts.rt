@@ -1,4 +1,4 @@
-//! The index of a store of windows: for each start the bytes of the windows that may be held.
+//! The index of a window store: for each start, the bytes of the windows that it may hold.
 ghost use Rattle.std.specs.Prelude.{◌≡◌, ◌==◌, ◌≤◌, ◌++◌, ◌∷◌, [], ℕ, List, if◌then◌else◌, All, Contains, IsSome, IfOk, IfSome, OnOk, OnErr, length};
 ghost use Rattle.std.specs.FinMap as finite;
 ghost use Rattle.state_store.specs.Store.{replay};
@@ -11,10 +11,10 @@ use state_store::Store;
 use std::alloc::{AllocError, Global};
 use std::collections::BTreeMap;
 
-/// The bytes of each window that is held, and maybe of some that are no more, by their start.
+/// For each start, the bytes of each window that the store holds, and perhaps of some that it doesn't hold any more.
 pub(crate) type Starts = BTreeMap<u64, Vec<Bytes>>;
 
-/// Notes the bytes of a window, unless it is held. One that was found at a place is.
+/// Adds the bytes of a window to the index, unless the store holds it. A place from a look-up means that it does.
 pub(crate) fn note_new(
     starts: &mut Starts,
     kept: &Store,
@@ -34,7 +34,7 @@ pub(crate) fn note_new(
     note(starts, alloc, at)
 }
 
-/// Notes the bytes of a window under its start.
+/// Adds the bytes of a window under its start.
 fn note(starts: &mut Starts, alloc: Global, at: &[u8]) -> Result<(), AllocError>
     requires { 8 ≤ length at.now }
     ensures noted { OnOk result ((s : ℕ) → noted starts.new s ≡ (if s == start_of at.now then noted starts.old s ++ at.now ∷ [] else noted starts.old s)) }
@@ -54,7 +54,7 @@ fn note(starts: &mut Starts, alloc: Global, at: &[u8]) -> Result<(), AllocError>
     Ok(())
 }
 
-/// An index of the windows that the changes of an empty store leave.
+/// An index of the windows that remain after these changes of an empty store.
 pub(crate) fn index_of(alloc: Global, changes: &[StoreEntry]) -> Result<Starts, AllocError>
     requires { All (λ change. IsWindowKey change.key) changes.now }
     ensures by_start { IfOk result IsByStart }

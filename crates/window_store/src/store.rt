@@ -1,4 +1,4 @@
-//! The store of windows and its calls.
+//! The window store and its operations.
 ghost use Rattle.std.specs.Prelude.{◌≡◌, ◌≤◌, ◌<◌, ◌^◌, ◌↔◌, ℕ, List, [], max, None, if◌then◌else◌, All, AllPairs, Contains, IsTrue, IfOk, IfSome, IsSome, OnOk, OnErr, is_some, option_copied};
 ghost use Rattle.std.specs.FinMap as finite;
 ghost use Rattle.state_store.specs.Store.{Values, replay, numbered, IsBase};
@@ -14,7 +14,7 @@ use state_store::{Found, Store};
 use std::alloc::{AllocError, Global};
 use std::marker::Model;
 
-/// The windows of one size: a value under the bytes of a key and a start, and the stream time.
+/// The windows of one size: a value for each key and start, by their bytes, and the stream time.
 #[derive(Drop)]
 pub struct WStore {
     size: u64,
@@ -57,14 +57,14 @@ impl WStore {
         self.time
     }
 
-    /// The value under the bytes of a key and a start, or None where it has none.
+    /// The value of the window with these bytes, or None if it has none.
     pub fn get(&self, at: &[u8]) -> Option<&[u8]>
         ensures { option_copied result ≡ finite.get self.now.content.map at.now }
     {
         self.kept.get(at)
     }
 
-    /// The value under the bytes of a key and a start, as `get` answers it, and where it stands.
+    /// The value of the window with these bytes, as `get` returns it, and the place of its slot.
     pub fn find(&self, at: &[u8]) -> Found<'_>
         ensures value { option_copied result.value ≡ finite.get self.now.content.map at.now }
         ensures held { IfSome result.place (λ _. IsSome (finite.get self.now.content.map at.now)) }
@@ -72,7 +72,7 @@ impl WStore {
         self.kept.find(at)
     }
 
-    /// The starts of the windows that are held for a key, ascending. A start is at most 2^56.
+    /// The starts of the windows held for a key, ascending, up to a start of 2^56.
     pub fn starts(&self, alloc: Global, key: &[u8]) -> Result<Vec<u64>, AllocError>
         ensures ascending { IfOk result (λ starts. AllPairs (λ start later. start < later) starts.items) }
         ensures held { IfOk result (λ starts. (start : ℕ) → start ≤ 2 ^ 56 → (Contains starts.items start ↔ IsTrue (is_some (finite.get self.now.content.map (under key.now start))))) }
@@ -90,7 +90,7 @@ impl WStore {
         Ok(held)
     }
 
-    /// Gives the window under these bytes a value, in place of one that it has. After an error the store is as before.
+    /// Sets the value of the window with these bytes. After an error the store is unchanged.
     pub fn set(&mut self, alloc: Global, at: &[u8], value: &[u8]) -> Result<(), AllocError>
         requires { IsWindowKey at.now }
         ensures map { OnOk result (self.new.content.map ≡ finite.insert self.old.content.map at.now value.now) }
@@ -103,7 +103,8 @@ impl WStore {
         self.kept.set(alloc, at, value)
     }
 
-    /// Gives the window under these bytes a value, as `set` does. A place at which `find` found the window saves the look-up.
+    /// Sets the value of the window with these bytes, as `set` does. A place from `find` for this window saves the
+    /// look-up.
     pub fn set_at(
         &mut self,
         alloc: Global,
@@ -123,7 +124,7 @@ impl WStore {
         self.kept.write_at(alloc, place, at, Some(value))
     }
 
-    /// Takes the windows away whose end, start and size, is at most a moment. After an error some of them may be left.
+    /// Deletes the windows whose end (start plus size) is at most `moment`. After an error some of them may remain.
     pub fn expire(&mut self, alloc: Global, moment: u64) -> Result<(), AllocError>
         ensures gone { OnOk result ((b : List ℕ) → finite.get self.new.content.map b ≡ (if has_ended self.old.size moment b then None else finite.get self.old.content.map b)) }
         ensures same_size { self.new.size ≡ self.old.size }
@@ -136,15 +137,16 @@ impl WStore {
         end_until(&mut self.kept, &mut self.starts, alloc, last)
     }
 
-    /// Moves the stream time up to a time, where that is later. Takes no memory.
+    /// Advances the stream time to a later time. Takes no memory.
     pub fn advance_time(&mut self, time: u64)
         ensures { self.new ≡ record self.old { time = max self.old.time time } }
     {
         self.time = self.time.max(time);
     }
 
-    /// Commits, and answers the changes since the last commit, with the store number 0: one of each window that was set or taken
-    /// away, with its value now or None, and then the stream time under no key. After an error the store is as before.
+    /// Commits, and returns the changes since the last commit, with store number 0: one for each window that was set or
+    /// deleted, with its value now or None, and then the stream time under the empty key. After an error the store is
+    /// unchanged.
     pub fn changes(&mut self, alloc: Global) -> Result<Changelog, AllocError>
         ensures replayed { IfOk result (λ log. (base : Values) → IsBase base self.old.content → replay base (of_windows log) ≡ self.new.content.map) }
         ensures time { IfOk result (λ log. (time : ℕ) → time_after time (of_time log) ≡ self.new.time) }
@@ -160,8 +162,8 @@ impl WStore {
         Ok(Changelog::of(changes))
     }
 
-    /// Puts what the entries with a number, one after another, make of an empty store in place of this one. Nothing counts as
-    /// changed. After an error the store is as before.
+    /// Replaces the content by the replay of the entries with this store number on an empty store. Nothing counts as
+    /// changed. After an error the store is unchanged.
     pub fn load(&mut self, alloc: Global, number: u32, log: &[StoreEntry]) -> Result<(), AllocError>
         requires { All IsWindowEntry (numbered number log.now) }
         ensures loaded { OnOk result (self.new ≡ record {

@@ -52,7 +52,7 @@ fn change(alloc: Global) -> Change
     }
 }
 
-/// What the first generation of the task proposes for the first feed: a change, and a deletion in a store.
+/// What the task's first generation proposes for the first feed: a change, and a deletion in a store.
 fn proposal(alloc: Global) -> Result<Proposal, AllocError>
     ensures task { IfOk result (λ proposal. proposal.task ≡ TASK) }
     ensures generation { IfOk result (λ proposal. proposal.generation ≡ 1) }

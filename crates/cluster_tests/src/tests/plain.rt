@@ -4,12 +4,11 @@ use cluster_core::Step;
 use ksql_place::{Decoded, SourceRecord, Stamp};
 use ksql_script::program_of_script;
 use ksql_types::{Chars, Items, Key, Value};
-use query_meaning::{have_no_window, slow_meaning};
-use run_text::report;
+use reference::{have_no_window, report, slow_meaning};
 use std::alloc::Global;
 use std::test::Fail;
 
-/// Clicks with the users' names, and how often each page was clicked.
+/// Clicks with the users' names, and the number of clicks on each page.
 const CLICKS: &str = "CREATE STREAM clicks (user VARCHAR KEY, page VARCHAR, n INT)
   WITH (KAFKA_TOPIC='clicks', VALUE_FORMAT='json', PARTITIONS=2);
 CREATE TABLE users (id STRING PRIMARY KEY, `name` STRING)
@@ -65,7 +64,7 @@ fn record(
     })
 }
 
-/// What the topic files bring, by the stamps.
+/// The records of the topic files, by their stamps.
 fn order(alloc: Global) -> Result<Vec<SourceRecord>, Fail> {
     let ann = vec![in alloc; text(alloc, "Ann")?]?;
     let no_number = vec![in alloc; text(alloc, "p")?, Value::Null]?;

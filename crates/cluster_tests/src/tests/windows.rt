@@ -1,4 +1,5 @@
-//! Windows with grace: hopping ones, a record that comes too late, also after a loss, and a script with all kinds of query.
+//! Windows with grace: hopping windows, a record that comes too late, also after a loss, and a script with all kinds of
+//! query.
 ghost use Rattle.std.specs.Prelude.{All, IfOk};
 ghost use Rattle.cluster_core.specs.Cluster.{IsBuilt};
 
@@ -9,7 +10,7 @@ use std::alloc::{AllocError, Global};
 use std::test::Fail;
 use topology::Count;
 
-/// How often each key stands in windows of ten milliseconds, of which two begin in ten.
+/// The number of records of each key in windows of ten milliseconds that begin every five.
 const HOPPING: &str = "CREATE STREAM E (K VARCHAR KEY, N INTEGER)
   WITH (KAFKA_TOPIC='e', VALUE_FORMAT='JSON', PARTITIONS=1);
 CREATE TABLE H AS SELECT K, COUNT(*) AS C FROM E
@@ -36,7 +37,7 @@ row {\"t\":12,\"k\":\"a\",\"w\":[10,20],\"v\":{\"C\":1}}
 end
 ";
 
-/// The same in windows that don't overlap, and stay open for five milliseconds more.
+/// The same in windows that don't overlap, and stay open for five more milliseconds.
 const GRACE: &str = "CREATE STREAM E (K VARCHAR KEY, N INTEGER)
   WITH (KAFKA_TOPIC='e', VALUE_FORMAT='JSON', PARTITIONS=1);
 CREATE TABLE W AS SELECT K, COUNT(*) AS C FROM E
@@ -78,7 +79,7 @@ row {\"t\":25,\"k\":\"a\",\"w\":[20,30],\"v\":{\"C\":2}}
 end
 ";
 
-/// Clicks with the users' names, how often each page was clicked, and how often in ten seconds.
+/// Clicks with the users' names, the number of clicks on each page, and their number per ten seconds.
 const CLICKS: &str = "CREATE STREAM clicks (user VARCHAR KEY, page VARCHAR, n INT)
   WITH (KAFKA_TOPIC='clicks', VALUE_FORMAT='json', PARTITIONS=2);
 CREATE TABLE users (id STRING PRIMARY KEY, `name` STRING)
@@ -134,7 +135,7 @@ fn at_once(alloc: Global) -> Result<Vec<Step>, AllocError>
     Ok(vec![in alloc; Step::FeedAll, Step::Drain]?)
 }
 
-/// So many of the next records of the first relation.
+/// The next `n` records of the first relation.
 fn feed(alloc: Global, n: u64) -> Result<Step, AllocError>
     ensures { IfOk result IsBuilt }
 {

@@ -25,7 +25,7 @@ use Rattle.ksql_analyse.specs.Judgement.{AreAggs, AreTreesAfter, AreTypedTrees, 
 use Rattle.ksql_analyse.proofs.lists.Moving.{moved}
 use Rattle.ksql_analyse.proofs.forms.ValuedTrees.{trees-counted}
 
--- a row after a grouping has few columns where there are few group expressions and aggregates
+-- a row after a grouping has few columns if there are few group expressions and aggregates
 pub columns-few : (from items : Scope) (groups aggs : List Expr) (keys : List Typed) (gs : List Agg) (columns : List TypedNode) → columns ≡ grouped_columns items keys gs
     → AreTypedTrees from groups keys → AreAggs items aggs gs → length groups + length aggs + 2 ≤ 2 ^ 32 → length columns ≤ 2 ^ 32
 columns-few from items groups aggs keys gs columns is are_keys are_aggs few =

@@ -66,7 +66,7 @@ not-full catalog st h = ltb-false 199 (length catalog) (untrue (nat_lt 199 (leng
 
 -- ---- a declaration
 
--- where no PARTITIONS is above 64, the first isn't
+-- if no PARTITIONS is above 64, the first isn't
 many-first : (ps : List Property) → has_many_partitions ps ≡ false → nat_lt 64 (unwrap_or (partitions_in ps) 0) ≡ false
 many-first [] h = refl
 many-first (p ∷ ps) h = at (bytes_eq (name_of p) (codes "PARTITIONS")) (or-false (wants_many_partitions p) (has_many_partitions ps) h) refl (many-first ps)

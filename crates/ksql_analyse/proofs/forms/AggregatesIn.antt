@@ -1,5 +1,5 @@
--- The aggregates in an expression: each is a call of an aggregate, has what its surroundings hand down, and there is one
--- exactly where an aggregate is called.
+-- The aggregates in an expression: each is a call of an aggregate, has what its surroundings hand down, and there is
+-- one exactly if an aggregate is called.
 use Rattle.std.proofs.Common.{◌≡◌, ℕ, Bool, true, false, ◌||◌, if◌then◌else◌, List, [], ◌∷◌, ◌++◌, map, Option, Some, None, refl, ap, ap₂, sym, ◌∙◌, subst}
 use Rattle.std.specs.Prelude.{option_map}
 use Rattle.std.specs.List.{AllByRecursion as Each}

@@ -1,4 +1,5 @@
--- What the typed tree of an expression holds, from what stands in the expression: aggregates, long texts and columns.
+-- What the typed tree of an expression contains, given what the expression contains: aggregates, long texts and
+-- columns.
 use Rattle.std.proofs.Common.{◌≡◌, ℕ, ◌+◌, Bool, true, false, ◌&&◌, ◌||◌, if◌then◌else◌, List, [], ◌∷◌, ◌++◌, map, length, Option, None, Some, is_some, nat_le, nat_lt, pos, refl, ap, ap₂, sym, ◌∙◌, subst, inl, inr}
 use Rattle.std.specs.List.{list_any, list_all}
 use Rattle.std.proofs.lemmas.Bool.{both_ways, le-ltb, leb-true}
@@ -41,7 +42,7 @@ use Rattle.ksql_analyse.proofs.lists.Distinct.{or-false}
 abbrev Leaf : Type 0
 Leaf = TypedNode-F Bool Bool Bool → Bool
 
--- whether there is one
+-- whether there is a member
 abbrev pub some : {A : Type 0} → List A → Bool
 some [] = false
 some (x ∷ xs) = true
@@ -86,7 +87,7 @@ pattern-small m a pattern h =
 pub pattern-short : (m : Bool) (a : Expr) (pattern : List ℕ) → IsSmall (e.Like m a pattern) → nat_lt 65536 (length pattern) ≡ false
 pattern-short m a pattern h = le-ltb 65536 (length pattern) (leb-true (length pattern) 65536 (pattern-small m a pattern h))
 
--- which columns are too far, and of which names that isn't so
+-- which columns are too far, and which names don't stand for such a column
 module _ (far : ℕ → Bool) (ok : Use → Bool) where
   -- what is held, where these functions are called, these names stand and literals keep their limits or don't
   pub record Bears (cs : List (List ℕ)) (us : List Use) (small : Bool) (held : Leaf → Bool) : Type 0 where
@@ -149,7 +150,7 @@ module _ (far : ℕ → Bool) (ok : Use → Bool) where
     near = λ k l. hold.holds-Literal (reach far) t x;
   }
 
-  -- a LIKE without what stands in front of it
+  -- a LIKE without its operand
   of-pattern : (m : Bool) (pattern : List ℕ) (x : Leaf → Bool) → Bears [] [] (nat_le (length pattern) 65536) (λ leaf. leaf (TypedNode-F.Like m (x leaf) pattern))
   of-pattern m pattern x = record {
     aggregates = λ k. refl;
@@ -162,7 +163,7 @@ module _ (far : ℕ → Bool) (ok : Use → Bool) where
   abbrev pub IsNear : TypedNode → Type 0
   IsNear form = (i : ℕ) → form ≡ n.Column i → far i ≡ false
 
-  -- in a scope names of which it isn't so stand for none
+  -- in a scope, names that aren't far stand for no far column
   abbrev pub AreNear : Scope → Type 0
   AreNear s = (qualifier : Option (List ℕ)) (name : List ℕ) (form : TypedNode) (t : SqlType) → ok (plain_use qualifier name) ≡ true
       → meanings s qualifier name ≡ (form, t) ∷ [] → IsNear form

@@ -22,7 +22,7 @@ module _ (leaf : TypedNode-F Bool Bool Bool → Bool) where
   abbrev pub when_holds : TypedWhen → Bool
   when_holds = fold-TypedWhen Bool Bool Bool (node_holds leaf) (λ e. e.node) (λ w. w.cond || w.result)
 
-  -- of the forms in each of some trees, and in one that may be left out
+  -- the forms in each of some trees, and in an optional one
   abbrev pub each_holds : List Typed → Bool
   each_holds xs = list_any (λ c. c) (map (holds leaf) xs)
 

@@ -1,4 +1,4 @@
--- What a name stands for, where it stands for one thing: a column that is known by it, ROWTIME, or a bound of a window.
+-- What a name stands for, if it stands for one thing: a column of that name, ROWTIME, or a bound of a window.
 use Rattle.std.proofs.Common.{◌≡◌, ℕ, suc, zero, ◌+◌, ◌<◌, arith, Bool, true, false, ◌&&◌, if◌then◌else◌, List, [], ◌∷◌, ◌++◌, length, Option, Some, None, refl, ap, ap₂, sym, ◌∙◌, subst, inl, inr}
 use Rattle.std.proofs.lemmas.Option.{same_Some}
 use Rattle.std.specs.Prelude.{◌⊎◌, slice_get, codes, bytes_eq}
@@ -77,7 +77,7 @@ pub record IsColumn (s : Scope) (q : Option (List ℕ)) (name : List ℕ) (form 
   pub known : is_known_as q name found ≡ true
   pub typed : t ≡ found.column.ty
 
--- the time of a row, where no column is known by the name
+-- the time of a row, if the name stands for no column
 pub record IsTime (s : Scope) (q : Option (List ℕ)) (name : List ℕ) (form : TypedNode) (t : SqlType) : Type 0 where
   pub is : form ≡ n.RowTime
   pub typed : t ≡ sql.Big

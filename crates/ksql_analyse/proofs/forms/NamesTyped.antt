@@ -53,7 +53,7 @@ none-narrow alias name i (c ∷ cs) k = at (bytes_eq c.column.name name) refl k 
         ap (λ b. with_first (is_qualified (Some alias) c.alias && b) (n.Column i, c.column.ty) (columns_known_as (Some alias) name (suc i) cs)) is
         ∙ ap (λ b. with_first b (n.Column i, c.column.ty) (columns_known_as (Some alias) name (suc i) cs)) (and-false (is_qualified (Some alias) c.alias)) ∙ rest k
 
--- one that stands alone stands alone after its own alias
+-- a name with one meaning keeps it after its own alias
 one-narrow : (alias name : List ℕ) (i : ℕ) (cs : List ScopeColumn) (m : Meaning) (c : ScopeColumn) (rest : List ScopeColumn) → columns_known_as None name i cs ≡ m ∷ []
     → filter (is_known_as None name) cs ≡ c ∷ rest → is_qualified (Some alias) c.alias ≡ true → columns_known_as (Some alias) name i cs ≡ m ∷ []
 one-narrow alias name i [] m c rest k l own = absurd (cc (k))

@@ -1,4 +1,4 @@
--- A typed tree has its types over other columns too, where it holds no aggregate and none of its columns differs.
+-- A typed tree has its types over other columns too, if it contains no aggregate and none of its columns differs.
 use Rattle.std.proofs.Common.{◌≡◌, ℕ, zero, suc, ◌<◌, arith, Bool, false, not, List, [], ◌∷◌, ◌++◌, length, Option, Some, None, nat_lt, refl, sym, ◌∙◌}
 use Rattle.std.specs.Prelude.{slice_get}
 use Rattle.std.proofs.lemmas.Bool.{ltb-true}

@@ -49,7 +49,7 @@ module _ (cs : List (Option SqlType)) where
   abbrev AreTyped : List Typed → Type 0
   AreTyped xs = Each (λ x. HasTypes cs (w.one x)) xs
 
-  -- a tree whose form is that of one of some trees has its type
+  -- a tree with the form of one of some trees has its type
   place-typed : (xs : List Typed) → AreTyped xs → (x : Typed) → HasTypes cs (w.one x) → (number i : ℕ) → place_from number (map (λ y. y.node) xs) x.node ≡ Some i
       → (j : ℕ) × (i ≡ number + j) × (slice_get (map (λ y. y.ty) xs) j ≡ Some x.ty)
   place-typed [] h x k number i is = absurd (cc (is))
@@ -82,7 +82,7 @@ tree-at s (b ∷ es) [] j a h k = absurd h
 tree-at s (b ∷ es) (x ∷ xs) zero a h k = (x, refl, subst (λ d. IsTypedTree s d x) (same_Some b a k) h.0)
 tree-at s (b ∷ es) (x ∷ xs) (suc j) a h k = tree-at s es xs j a h.1 k
 
--- trees have their types, also where there are more columns
+-- trees keep their types if there are more columns
 each-typed : (s : Scope) (cs : List (Option SqlType)) → ((x : Typed) → HasTypes (column_types s) (w.one x) → HasTypes cs (w.one x)) → (es : List Expr) (xs : List Typed)
     → AreTypedTrees s es xs → Each (λ x. HasTypes cs (w.one x)) xs
 each-typed s cs more [] [] h = tt

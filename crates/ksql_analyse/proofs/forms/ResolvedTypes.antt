@@ -1,4 +1,4 @@
--- Resolved names have the types of the names, where no column is called ROWTIME.
+-- Resolved names have the types of the names, if no column is called ROWTIME.
 use Rattle.std.proofs.Common.{◌≡◌, ℕ, zero, suc, ◌==◌, Bool, true, false, ◌&&◌, if◌then◌else◌, List, [], ◌∷◌, ◌++◌, map, length, Option, Some, None, refl, ap, ap₂, sym, ◌∙◌, subst, inl, inr}
 use Rattle.std.specs.Prelude.{◌⊎◌, option_map, slice_get, filter, bytes_eq, codes}
 use Rattle.std.specs.List.{AllByRecursion as Each}
@@ -121,7 +121,7 @@ module _ (s : Scope) (b : Bool) (no_time : HasNo (codes "ROWTIME") s.columns) wh
   abbrev at_time : List ℕ → Bool
   at_time name = s.stream && bytes_eq name (codes "ROWTIME")
 
-  -- the time of a row after a qualifier, where it isn't there without one
+  -- the time of a row after a qualifier, if it isn't there without one
   no-time : (y : List ℕ) (name : List ℕ) → row_time s None name ≡ [] → row_time s (Some y) name ≡ []
   no-time y name h = at (at_time name) (is_qualified (Some y) (first_alias s.columns)) h
     where

@@ -33,7 +33,7 @@ use Rattle.ksql_analyse.proofs.forms.Meant.{IsMeant, meant}
 abbrev pub IsScopeOver : Kind → Scope → Type 0
 IsScopeOver over s = over ≢ kind.Stream → s.stream ≡ false
 
--- so it is where the kind is that of what is read
+-- this holds if the kind is that of what is read
 pub scope-over : (s : Scope) (over : Kind) → (if s.stream then kind.Stream else kind.Table) ≡ over → IsScopeOver over s
 scope-over s over = at s.stream
   where
@@ -43,7 +43,7 @@ scope-over s over = at s.stream
 
 -- ---- trees
 
--- what stands for a part holds no row's time
+-- the tree of a part doesn't contain ROWTIME
 abbrev IsTimelessPart : Pair → Type 0
 IsTimelessPart (one a x) = holds is_row_time x ≡ false
 IsTimelessPart (perhaps a x) = part_holds is_row_time x ≡ false
@@ -108,7 +108,7 @@ part-timeless (st.more_whens {w = v} {ws = ws} {y = y} k l j) u h =
     let own = two-known (calls v.cond) (calls v.result) (q.calls-when v) known.0 in
     neither (hold.holds-when is_row_time y ∙ neither (part-timeless k own.0 h) (part-timeless l own.1 h)) (part-timeless j known.1 h)
 
--- a tree that stands in a scope holds the row's time over a stream alone
+-- a tree in a scope contains ROWTIME only over a stream
 pub time-over : (over : Kind) (s : Scope) (a : Expr) (x : Typed) → IsScopeOver over s → IsTypedTree s a x → over ≢ kind.Stream → IsTimeless x
 unfolding holds_row_time
 time-over over s a x scope k other = part-timeless k.0 k.1 (scope other)

@@ -1,4 +1,5 @@
--- A typed tree over the rows after a grouping has its types there, and what its group expressions and its aggregates hold is gone.
+-- A typed tree over the rows after a grouping has its types there, and what its group expressions and its aggregates
+-- hold is gone.
 use Rattle.std.proofs.Common.{◌≡◌, ℕ, Bool, true, false, ◌&&◌, ◌||◌, List, [], ◌∷◌, map, Option, Some, None, is_some, refl, ap, ap₂, sym, ◌∙◌, subst}
 use Rattle.std.specs.Prelude.{option_map, slice_get}
 use Rattle.ksql_types.specs.declared.value.SqlType.{SqlType}

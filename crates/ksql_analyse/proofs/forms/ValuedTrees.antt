@@ -1,4 +1,4 @@
--- The trees of expressions that have a type have one, and there is one for each expression.
+-- The trees of expressions with a type: there is one for each expression, and it has a type.
 use Rattle.std.proofs.Common.{◌≡◌, ◌∙◌, suc, List, [], ◌∷◌, All, map, length, is_some, refl, ap, sym, subst}
 use Rattle.std.proofs.lemmas.List.{length-map}
 use Rattle.std.proofs.lemmas.List.Elements.{All-nil, All-cons, All-head, All-tail, All-map, All-weaker, All-from_recursion, recursion_from_All}
@@ -54,7 +54,7 @@ trees-after columns cs xs h = record {
   values = All-map IsValue (after columns) xs (All-weaker IsValue (λ x. IsValue (after columns x)) (λ x k. ap is_some (kept-type columns x) ∙ k) xs h.values);
 }
 
--- ---- columns of a result, as lent ones
+-- ---- columns of a result, as borrowed ones
 
 module _ (P : Named → Type 0) (q : Select) (ks : List Known) (lent : List (Bor Named)) where
   pub keys-lent : map (λ c. c.now) lent ≡ key_columns q ks → All P (result_columns q ks) → All (λ c. P c.now) lent

@@ -1,4 +1,4 @@
--- What stands at a place of two lists, one after the other.
+-- The member at an index of two appended lists.
 use Rattle.std.proofs.Common.{◌≡◌, ℕ, suc, zero, ◌+◌, arith, List, [], ◌∷◌, ◌++◌, length, Some, ap, ◌∙◌}
 use Rattle.std.specs.Prelude.{slice_get}
 

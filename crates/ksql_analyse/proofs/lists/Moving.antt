@@ -1,4 +1,4 @@
--- What holds of some things holds of equal ones.
+-- A property of some things holds of equal ones.
 use Rattle.std.proofs.Common.{◌≡◌, subst}
 
 pub moved : {A B C : Type 0} (P : A → B → C → Type 0) (a d : A) (b e : B) (c f : C) → a ≡ d → b ≡ e → c ≡ f → P a b c → P d e f

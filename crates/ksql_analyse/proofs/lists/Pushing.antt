@@ -41,7 +41,7 @@ agg-next s es i gs hs a g x within are pushed item is node = (
 pub all-taken : {A : Type 0} (xs : List A) (n : ℕ) → length xs ≤ n → take n xs ≡ xs
 all-taken xs n within = grind (arith, common_steps, within)
 
--- one more in a loop over lent columns
+-- one more in a loop over borrowed columns
 abbrev pub lent-exprs : List (Bor Named) → List Expr
 lent-exprs cs = exprs (map (λ c. c.now) cs)
 

@@ -29,7 +29,7 @@ zip-push [] (o ∷ sts) ts st h k = absurd h
 zip-push (us ∷ parts) [] ts st h k = absurd h
 zip-push (us ∷ parts) (o ∷ sts) ts st h k = (h.0, zip-push parts sts ts st h.1 k)
 
--- what is known of the statements that were judged
+-- the facts about the statements that were judged
 record Before (front : List Statement) (items : List Item) : Type 0 where
   parsed : AreParsed front
   judged : Judged [] front items
@@ -48,7 +48,7 @@ with-one front items ts st i b tree accepted is =
       plain = subst (All HasPlainNames) (sym all) (All-push HasPlainNames (relations items) (relation_of i) b.plain kept.plain);
     }
 
--- the statements after them have items, or one of them is refused
+-- the later statements have items, or one of them is refused
 abbrev Outcome : List Item → List Statement → Type 0
 Outcome items sts = ((found : List Item) × Judged items sts found) ⊎ ((number : ℕ) × (code : Code) × FirstRefused items sts number code)
 

@@ -1,4 +1,4 @@
--- What a query makes of its rows, where its expressions have typed trees.
+-- The shape of a query whose expressions have typed trees.
 use Rattle.std.proofs.Common.{◌≡◌, Bool, true, false, not, List, [], ◌∷◌, map, All, refl, ap, ◌∙◌}
 use Rattle.std.specs.Prelude.{option_map}
 use Rattle.std.proofs.lemmas.List.Elements.{All-from_recursion, All-map, All-weaker, recursion_from_All}

@@ -160,7 +160,7 @@ besides-each P places (c ∷ cs) number k = at (list_any (is_place number) place
 
 -- ---- how many there are
 
--- what is left besides some places
+-- the columns besides some places
 besides-none : (places : List (Option ℕ)) (number : ℕ) (cs : List Named) → ((i : ℕ) → list_any (is_place i) places ≡ false) → besides places number cs ≡ cs
 unfolding besides
 besides-none places number [] h = refl

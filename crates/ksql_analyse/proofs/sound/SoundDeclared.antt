@@ -33,7 +33,7 @@ some-partitions ps h =
     (or-false (not (list_all (λ p. has_kind (name_of p) p.value) ps) || not (are_distinct (map name_of ps))
     || is_bad_format (value_of (codes "VALUE_FORMAT") ps) || is_bad_key_format (value_of (codes "KEY_FORMAT") ps)) (is_zero (partitions_in ps)) h).1
 
--- a count that is said, or one by default
+-- a count that is written, or the default
 pub partitions-bounded : (o : Option ℕ) (other : ℕ) → is_zero o ≡ false → nat_lt 64 (unwrap_or o 0) ≡ false → 1 ≤ other → other ≤ 64
     → (1 ≤ unwrap_or o other) × (unwrap_or o other ≤ 64)
 partitions-bounded None other h k l m = (l, m)
@@ -68,7 +68,7 @@ some-at : (b : Bool) (c : ColumnText) (ys : List ColumnText) → (b ≡ true →
 some-at true c ys h = h refl
 some-at false c ys h = omega arith
 
--- where one column is none of the key, there is a value column
+-- if one column isn't a key column, there is a value column
 some-value : (cs : List ColumnText) → has_only_keys cs ≡ false → 0 < length (values_of cs)
 some-value [] h = absurd (cc (h))
 some-value (c ∷ cs) h = some-at (is_key c) c (filter (λ d. not (is_key d)) cs) (λ k. some-value cs (rest (is_key c) k h))

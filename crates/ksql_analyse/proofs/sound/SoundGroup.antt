@@ -209,7 +209,7 @@ module _ (q : Select) (ks : List Known) (few : nat_lt 64 (length (result_columns
 
 -- ---- aggregates
 
--- there are as many of a program as of its query
+-- a program has as many aggregates as its query
 pub aggs-length : (xs : List Typed) (gs : List Agg) (s : Scope) (es : List Expr) → AreTypedTrees s es xs → map (λ x. x.node) xs ≡ map agg_form gs → some es ≡ true → 1 ≤ length gs
 aggs-length [] gs s [] t h k = absurd (cc (k))
 aggs-length (x ∷ xs) gs s [] t h k = absurd t

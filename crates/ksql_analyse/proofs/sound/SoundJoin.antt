@@ -63,7 +63,7 @@ module _ (q : Select) (l r : Known) where
       ∙ behind-at (scope_columns l) (scope_columns r ++ rowkey q (l ∷ r ∷ [])) (length (scope_columns r) + 0)
       ∙ behind-at (scope_columns r) (rowkey q (l ∷ r ∷ [])) 0 ∙ ap (λ cs. slice_get cs 0) rk
 
-  -- a column that is known by the left relation's alias is one of the left relation's
+  -- a column with the left relation's alias is one of the left relation's
   pub left-bound : bytes_eq l.alias r.alias ≡ false → (j : ℕ) (c : ScopeColumn) → slice_get (from_columns q (l ∷ r ∷ [])) j ≡ Some c → c.alias ≡ Some l.alias
       → j < length (columns l.relation)
   left-bound apart j c at alias =

@@ -73,7 +73,7 @@ module _ (q : Select) (l r : Known) where
   abbrev left_types : List (Option SqlType)
   left_types = sound.column_types (columns l.relation)
 
-  -- the first column that is known by a left name is one of the left relation's
+  -- the first column that a left name stands for is one of the left relation's
   first-left : (p : Option (List ℕ)) (name : List ℕ) (c : ScopeColumn) (cs : List ScopeColumn) → filter (is_known_as p name) s.columns ≡ c ∷ cs
       → is_left_name s l (plain_use p name) ≡ true → c.alias ≡ Some l.alias
   first-left p name c cs f h = at c.alias refl
@@ -139,7 +139,7 @@ module _ (q : Select) (l r : Known) where
       at (inl k) = subst (IfThere (CanAgree s)) k h
       at (inr k) = let g = subst (IfThere (CanAgree s)) k h in (g.1, g.0, g.3, g.2, agree-other g.0 g.1 g.4)
 
-  -- where both sides have types these are one
+  -- if both sides have types, these are the same
   type-agrees : (sides : Option (Expr × Expr)) (a : Expr) (d : AreSides s l r sides a) → ¬ ¬ IfThere (CanAgree s) sides → (o : IsOnlyKey s r d.other) (i : ℕ)
       → slice_get s.columns i ≡ Some (scope_column r.alias o.column) → (t : SqlType) → ((u : Option SqlType) → HasType s a u → u ≡ Some t) → t ≡ o.column.ty
   type-agrees sides a d h o i at t typed =

@@ -60,7 +60,7 @@ use Rattle.ksql_analyse.proofs.forms.Stood.{stood-name}
 pub not-windowed : (r : Relation) → is_windowed r ≡ false → r.kind ≢ kind.Windowed
 not-windowed r h k = false≢true (sym h ∙ ap (λ x. is_windowed (record r { kind = x })) k)
 
--- the kind of a result that isn't grouped is that of what is read
+-- the kind of an ungrouped result is that of what is read
 pub kind-kept : (r : Relation) → is_windowed r ≡ false → (if is_stream r then kind.Stream else kind.Table) ≡ r.kind
 kind-kept r h = at r.kind refl
   where
@@ -154,7 +154,7 @@ pub from-types-one : (q : Select) (k : Known) → q.join ≡ None → column_typ
 from-types-one q k h =
     ap (λ cs. map typed_column cs ++ []) (from-columns-one q k h) ∙ append-nil (map typed_column (scope_columns k)) ∙ types-of k.alias (columns k.relation)
 
--- where there is no window the items see what the sources give
+-- without a window the items see the columns of the sources
 pub item-types : (q : Select) (ks : List Known) → q.window ≡ None → column_types (item_scope q ks) ≡ column_types (from_scope q ks)
 item-types q ks h = ap (λ w. column_types (item_scope (record q { window = w }) ks)) h
 
@@ -178,7 +178,7 @@ same-one c a h = equal c.expr a (one-of (same_expr c.expr a) h)
     one-of true k = refl
     one-of false k = k
 
--- a tree that stands for a column known by its relation's alias is this column
+-- the tree of a column with its relation's alias is this column
 pub column-tree : (s : Scope) (alias : List ℕ) (c : Column) (i : ℕ) → slice_get s.columns i ≡ Some (scope_column alias c) → (a : Expr) (x : Typed)
     → a ≡ e.Name (Some alias) c.name → Stands s (st.one a x) → x.node ≡ n.Column i
 column-tree s alias c i at a x is h =

@@ -1,5 +1,5 @@
 -- The program of parsed statements is sound.
-use Rattle.std.proofs.Common.{◌≡◌, ℕ, ◌≤◌, arith, Bool, false, ◌||◌, List, [], ◌∷◌, ◌++◌, length, map, Option, Some, None, refl, ap, ap₂, sym, ◌∙◌, subst, inl, inr}
+use Rattle.std.proofs.Common.{◌≡◌, ℕ, ◌+◌, ◌-◌, ◌^◌, ◌≤◌, arith, Bool, false, ◌||◌, List, [], ◌∷◌, ◌++◌, length, map, Option, Some, None, refl, ap, ap₂, sym, ◌∙◌, subst, inl, inr}
 use Rattle.std.specs.Prelude.{◌⊎◌, All, Result, Ok, Err, IfOk, bytes_eq, unwrap_or}
 use Rattle.std.specs.List.{list_any, AllByRecursion as Each}
 use Rattle.std.proofs.lemmas.List.{append-nil, append_assoc, length-append, length-map, map-append}
@@ -21,23 +21,28 @@ use Rattle.ksql_program.specs.declared.query.Shape.{Shape}
 use Rattle.ksql_program.specs.declared.query.Shape.TheVariants as shape
 use Rattle.ksql_types.specs.Names.{are_distinct, is_among}
 use Rattle.ksql_program.specs.Program.{relation_of, relations}
-use Rattle.ksql_program.specs.Sound.{IsSound, IsSoundItem, AreSoundItems, IsSoundRelation, IsSoundQuery, IsSoundDeclaration, IsKeyed, Makes, HasItsKey}
+use Rattle.ksql_program.specs.Sound.{IsSound, IsSoundItem, AreSoundItems, IsSoundRelation, IsSoundQuery, IsSoundDeclaration, IsKeyed, Makes, HasItsKey, HasFewAggregates, ItemHasFewAggregates}
 use Rattle.ksql_clauses.specs.declared.sources.Known.{Known}
 use Rattle.ksql_clauses.specs.Items.{result_columns}
 use Rattle.ksql_clauses.specs.Properties.{topic_in}
 use Rattle.ksql_clauses.specs.Sources.{all_known, have_one_alias, item_scope, is_windowed}
 use Rattle.ksql_clauses.specs.Keys.{key_columns}
-use Rattle.ksql_rules.specs.Breaks.{is_topic_taken, topic_of, is_grouped}
+use Rattle.ksql_rules.specs.Breaks.{is_topic_taken, topic_of, is_grouped, group_exprs}
 use Rattle.ksql_rules.specs.Limits.{IsQueryWithin}
 use Rattle.ksql_rules.specs.Lowest.{IsAccepted}
 use Rattle.ksql_analyse.specs.declared.fault.AnalyseFault.{AnalyseFault}
-use Rattle.ksql_analyse.specs.Judgement.{AreParsed, IsJudgement, IsProgramOf, Judged, done, next, IsItemOf, IsQuery, IsShape, IsResult, AreTypedTrees, exprs, declared_relation}
+use Rattle.ksql_analyse.specs.Few.{HasFewCalls}
+use Rattle.ksql_analyse.specs.Judgement.{AreParsed, IsJudgement, IsProgramOf, Judged, done, next, IsItemOf, IsQuery, IsShape, IsResult, AreTypedTrees, agg_form, aggregate_exprs, exprs, declared_relation}
 use Rattle.ksql_analyse.proofs.lists.Distinct.{distinct-push, or-false, true-not}
+use Rattle.ksql_analyse.proofs.parsed.FewCalls.{parsed-few}
 use Rattle.ksql_analyse.proofs.parsed.Parsed.{IsKept, IsPlainShort, parsed-kept}
+use Rattle.ksql_analyse.proofs.accepted.FewAggregates.{few-columns}
 use Rattle.ksql_analyse.proofs.accepted.Refusals.{KeepsQuery, stated, not-taken, not-full, declaration-kept, query-kept}
+use Rattle.ksql_analyse.proofs.sound.SoundColumns.{each-append}
 use Rattle.ksql_analyse.proofs.sound.SoundDeclared.{declaration-sound, topic-there}
 use Rattle.ksql_analyse.proofs.sound.SoundGrouped.{makes-grouped}
 use Rattle.ksql_analyse.proofs.forms.Reserved.{AreSound}
+use Rattle.ksql_analyse.proofs.forms.ValuedTrees.{trees-counted}
 use Rattle.ksql_analyse.proofs.sound.SoundPlain.{keyed-one}
 use Rattle.ksql_analyse.proofs.sound.SoundQuery.{IsRead, early-plain, makes-plain, query-sound}
 use Rattle.ksql_analyse.proofs.sound.SoundReading.{read-one, read-two, keyed-two}
@@ -106,20 +111,38 @@ module _ (before : List Item) (sound : AreSoundItems [] before) (table : Bool) (
           (named-there before sound o.text.source.name o.right.relation o.right_is.found)
           (subst (KeepsQuery catalog table name ps q) o.all keeps) (subst (λ ks. IsQuery number (stated table name (body.Query ps q)) ps q ks made) o.all h)
 
+-- ---- how many aggregates there are
+
+-- the aggregates of a grouping are counted by the expressions that they stand for
+shape-few : (q : Select) (ks : List Known) (sh : Shape) → length (group_exprs q ks) + length (aggregate_exprs q ks) ≤ 2 ^ 32 - 2 → IsShape q ks sh → HasFewAggregates sh
+shape-few q ks (shape.Plain keys values) few h = tt
+shape-few q ks (shape.Group keys window gs having values) few h =
+    let xs : List Typed = h.3.0 in
+    let trees : length (aggregate_exprs q ks) ≡ length xs = trees-counted (item_scope q ks) (aggregate_exprs q ks) xs h.3.1 in
+    let forms : length xs ≡ length gs = sym (length-map xs (λ (x : Typed). x.node)) ∙ ap length h.3.2 ∙ length-map gs agg_form in
+    omega (arith, few, trees, forms)
+
+query-few : (catalog : List Relation) (table : Bool) (name : List ℕ) (ps : List Property) (q : Select) → IsAccepted catalog (stated table name (body.Query ps q))
+    → HasFewCalls (body.Query ps q) → (sh : Shape) → IsShape q (all_known catalog q) sh → HasFewAggregates sh
+query-few catalog table name ps q accepted few sh h =
+    let ks : List Known = all_known catalog q in
+    shape-few q ks sh (few-columns catalog table name ps q ks (query-kept catalog table name ps q accepted) few) h
+
 -- ---- an item
 
--- an item that is sound after others, with a name and a topic of its own
+-- an item that is sound after others, with a name and a topic of its own, and few aggregates
 pub record IsNew (before : List Item) (i : Item) : Type 0 where
   pub sound : IsSoundItem before i
   pub name : list_any (has_name (relation_of i).name) (relations before) ≡ false
   pub topic : list_any (has_topic (relation_of i).topic) (relations before) ≡ false
+  pub few : ItemHasFewAggregates i
 
 new-topic : (catalog : List Relation) (o : Option (List ℕ)) (topic : List ℕ) → o ≡ Some topic → is_topic_taken catalog o ≡ false → list_any (has_topic topic) catalog ≡ false
 new-topic catalog o topic is h = sym (ap (is_topic_taken catalog) is) ∙ h
 
 item-new : (before : List Item) → IsSound before → (table : Bool) (name : List ℕ) (b : StatementBody) → IsKept (stated table name b)
-    → IsAccepted (relations before) (stated table name b) → (i : Item) → IsItemOf (relations before) (stated table name b) i → IsNew before i
-item-new before sound table name (body.Declared cs ps) kept accepted (Declared r) h =
+    → HasFewCalls b → IsAccepted (relations before) (stated table name b) → (i : Item) → IsItemOf (relations before) (stated table name b) i → IsNew before i
+item-new before sound table name (body.Declared cs ps) kept few accepted (Declared r) h =
     let keeps = declaration-kept (relations before) table name cs ps accepted in
     let count : length (relations before) ≡ length before = length-map before relation_of in
     let made = declared_relation (length (relations before)) (stated table name (body.Declared cs ps)) cs ps in
@@ -132,10 +155,11 @@ item-new before sound table name (body.Declared cs ps) kept accepted (Declared r
       name = ap (λ o. list_any (has_name o.name) (relations before)) h ∙ free.0;
       topic = ap (λ o. list_any (has_topic o.topic) (relations before)) h ∙ ap (λ o. list_any (has_topic (unwrap_or o [])) (relations before)) topic.1
           ∙ new-topic (relations before) (topic_in ps) topic.0 topic.1 free.1;
+      few = tt;
     }
-item-new before sound table name (body.Declared cs ps) kept accepted (Started made) h = absurd h
-item-new before sound table name (body.Query ps q) kept accepted (Declared r) h = absurd h
-item-new before sound table name (body.Query ps q) kept accepted (Started made) h =
+item-new before sound table name (body.Declared cs ps) kept few accepted (Started made) h = absurd h
+item-new before sound table name (body.Query ps q) kept few accepted (Declared r) h = absurd h
+item-new before sound table name (body.Query ps q) kept few accepted (Started made) h =
     let count : length (relations before) ≡ length before = length-map before relation_of in
     let s = query-item before sound.sound table name ps q kept.within.body kept.plain kept.within.named (length (relations before)) made accepted h in
     let free = or-false (list_any (has_name name) (relations before)) (is_topic_taken (relations before) (topic_of name (body.Query ps q)))
@@ -144,6 +168,7 @@ item-new before sound table name (body.Query ps q) kept accepted (Started made) 
       sound = (subst (λ n. IsSoundRelation n made.out) count s.0, s.1);
       name = ap (λ n. list_any (has_name n) (relations before)) h.gives.named ∙ free.0;
       topic = new-topic (relations before) (topic_of name (body.Query ps q)) made.out.topic (sym h.gives.topic) free.1;
+      few = query-few (relations before) table name ps q accepted few made.shape h.makes;
     }
 
 -- ---- one item more
@@ -172,26 +197,28 @@ pushed before i sound few new =
           ∙ distinct-push (relation_of i).topic (map (λ r. r.topic) (relations before)) sound.topics_differ
           (among-mapped (λ r. r.topic) (relation_of i).topic (relations before) ∙ new.topic);
       sound = push-sound [] before i sound.sound (subst (λ b. IsSoundItem b i) (sym (nothing-before before)) new.sound);
+      few_aggregates = each-append ItemHasFewAggregates before (i ∷ []) sound.few_aggregates (new.few, tt);
     }
   where
     nothing-before : (xs : List Item) → [] ++ xs ≡ xs
     nothing-before xs = refl
 
-judged-sound : {before : List Item} {sts : List Statement} {items : List Item} → Judged before sts items → IsSound before → All IsKept sts → IsSound items
-judged-sound done sound kept = sound
-judged-sound (next {before = before} {st = st} {sts = sts} i accepted item rest) sound kept =
+judged-sound : {before : List Item} {sts : List Statement} {items : List Item} → Judged before sts items → IsSound before → All IsKept sts → All (λ st. HasFewCalls st.body) sts → IsSound items
+judged-sound done sound kept few = sound
+judged-sound (next {before = before} {st = st} {sts = sts} i accepted item rest) sound kept few =
+    let own : HasFewCalls st.body = All-head (λ (s : Statement). HasFewCalls s.body) st sts few in
     judged-sound rest
-    (pushed before i sound (not-full (relations before) st accepted) (item-new before sound st.table st.name st.body (All-head IsKept st sts kept) accepted i item))
-    (All-tail IsKept st sts kept)
+    (pushed before i sound (not-full (relations before) st accepted) (item-new before sound st.table st.name st.body (All-head IsKept st sts kept) own accepted i item))
+    (All-tail IsKept st sts kept) (All-tail (λ (s : Statement). HasFewCalls s.body) st sts few)
 
 nothing-sound : IsSound []
-nothing-sound = record { few = omega arith; names_differ = refl; topics_differ = refl; sound = tt }
+nothing-sound = record { few = omega arith; names_differ = refl; topics_differ = refl; sound = tt; few_aggregates = tt }
 
 -- the program of parsed statements is sound
 pub sound : (sts : List Statement) (items : List Item) → AreParsed sts → IsProgramOf sts items → IsSound items
-sound sts items parsed program = judged-sound program nothing-sound (parsed-kept sts parsed)
+sound sts items parsed program = judged-sound program nothing-sound (parsed-kept sts parsed) (parsed-few sts parsed)
 
--- what is answered as the program of parsed statements is sound
+-- the program of parsed statements, if they have one, is sound
 pub judgement-sound : (sts : List Statement) (answer : Result Program AnalyseFault) → AreParsed sts → IsJudgement sts answer
     → IfOk answer (λ program. IsSound program.items)
 judgement-sound sts (Ok program) parsed found = sound sts program.items parsed found

@@ -72,7 +72,7 @@ items-part P q h = each-front P (flat_map item_exprs q.items) (there q.having) h
 pub having-part : (P : Expr → Type 0) (q : Select) → Each P (late_exprs q) → Each P (there q.having)
 having-part P q h = each-behind P (flat_map item_exprs q.items) (there q.having) h
 
--- ---- what is made without a grouping
+-- ---- shapes without a grouping
 
 -- the columns of the key and the others, where something holds of all
 pub keys-hold : (P : Expr → Type 0) (q : Select) (ks : List Known) → Each (λ c. P c.expr) (result_columns q ks) → Each P (exprs (key_columns q ks))

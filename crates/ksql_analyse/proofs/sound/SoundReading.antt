@@ -204,7 +204,7 @@ module _ (before : List Item) (q : Select) (l r : Known) (j : JoinText) (joins :
     keys : is_grouped q ≡ false → AreKeys (needs q (l ∷ r ∷ [])) (key_columns q (l ∷ r ∷ []))
     keys g = keys-are (result_columns q (l ∷ r ∷ [])) (needs q (l ∷ r ∷ [])) (all-there g)
 
-    -- one column, of which something is known
+    -- one column with a known property
     one-key : (f : From) (es : List Expr) (found : List Named) (xs : List Typed) → AreKeys (es ∷ []) found → AreTypedTrees (item_scope q (l ∷ r ∷ [])) (exprs found) xs
         → ((c : Named) (x : Typed) → list_any (same_expr c.expr) es ≡ true → Stands (item_scope q (l ∷ r ∷ [])) (st.one c.expr x) → IsKeyed before f (x ∷ [])) → IsKeyed before f xs
     one-key f es [] xs m v k = absurd m
@@ -255,7 +255,7 @@ module _ (before : List Item) (q : Select) (l r : Known) (j : JoinText) (joins :
     joined-needs : (key : Expr × Expr) → Needed key (Some j)
     joined-needs key is = rw is
 
-    -- what a join needs where there is no PARTITION BY
+    -- what a join needs if there is no PARTITION BY
     plain-needs : (key : Expr × Expr) → is_grouped q ≡ false → q.partition ≡ None → join_key q (l ∷ r ∷ []) ≡ Some key
         → needs q (l ∷ r ∷ []) ≡ (if is_stream l.relation then stream_needs j.kind r (Some (left-of key)) else tables_need j.kind l r)
     plain-needs key g none is =
@@ -278,7 +278,7 @@ module _ (before : List Item) (q : Select) (l r : Known) (j : JoinText) (joins :
         found : List Named
         found = key_columns q (l ∷ r ∷ [])
 
-        -- the needs, where there is no PARTITION BY and where there is one
+        -- the needs, with and without PARTITION BY
         partitioned : (p : Expr) → q.partition ≡ Some p → needs q (l ∷ r ∷ []) ≡ (resolved (from_scope q (l ∷ r ∷ [])) p ∷ []) ∷ []
         partitioned p m = ap₂ (λ es w. needs (record q { group = es; partition = w }) (l ∷ r ∷ [])) (no-group q g) m
 

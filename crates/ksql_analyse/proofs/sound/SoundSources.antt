@@ -1,4 +1,4 @@
--- The sources of an accepted query: relations that stand before it and are sound.
+-- The sources of an accepted query: earlier relations that are sound.
 use Rattle.std.proofs.Common.{◌≡◌, ℕ, zero, suc, ◌+◌, ◌==◌, arith, Bool, true, false, ◌||◌, if◌then◌else◌, List, [], ◌∷◌, ◌++◌, length, Option, Some, None, refl, ap, ap₂, sym, ◌∙◌, subst, inl, inr}
 use Rattle.std.specs.Prelude.{◌⊎◌, slice_get, find}
 use Rattle.std.specs.List.{list_any, flat_map}
@@ -33,7 +33,7 @@ at-sound before (i ∷ items) h (suc k) r e =
     let z : length (before ++ i ∷ []) + k ≡ length before + suc k = omega (arith, length-append before (i ∷ [])) in
     subst (λ n. IsSoundRelation n r) z (at-sound (before ++ i ∷ []) items h.1 k r e)
 
--- a relation that stands at its number and is sound
+-- a sound relation at its number
 pub record IsThere (before : List Item) (r : Relation) : Type 0 where
   pub at : relation_at before r.number ≡ Some r
   pub sound : IsSoundRelation r.number r

@@ -1,4 +1,4 @@
--- The typed trees of expressions without aggregates and with short literals are sound; a condition is one.
+-- The typed trees of expressions without aggregates and with short literals are sound; so is a condition.
 use Rattle.std.proofs.Common.{◌≡◌, Bool, true, false, List, [], ◌∷◌, ◌++◌, map, Option, Some, None, refl, ap, sym, ◌∙◌, subst}
 use Rattle.std.specs.List.{list_any, AllByRecursion as Each}
 use Rattle.ksql_types.specs.declared.relation.Column.{Column}

@@ -107,7 +107,7 @@ one-from q ks (from.Join kind left right on) (from.Join kind2 left2 right2 on2) 
     let tree : on ≡ on2 = one-tree (on_scope q ks) k.6.0 on on2 (subst (λ b. IsTypedTree (on_scope q ks) b.0 on) a h.8) k.8 in
     λ i. from.Join (some-alike h.3 k.3 i) ((h.4 ∙ ap (λ s. s.relation.number) l ∙ sym k.4) i) ((h.5 ∙ ap (λ s. s.relation.number) r ∙ sym k.5) i) (tree i)
 
--- ---- what is made of the rows
+-- ---- shapes
 
 not-both : {A : Type 0} (b : Bool) → IsTrue (not b) → IsTrue b → A
 not-both true h k = absurd (cc (h))

@@ -84,7 +84,7 @@ never-both before (st ∷ sts) items m c h k = at (λ i. never-both (before ++ i
         let same : x.0 ≡ y.0 = one-item (relations before) st x.0 y.0 x.2 y.3 in
         rest y.0 items y.1 c (subst (λ i. Judged (before ++ i ∷ []) sts items) same x.3) y.4
 
--- ---- what is answered
+-- ---- results
 
 pub unique-program : (sts : List Statement) (a b : List Item) → IsProgramOf sts a → IsProgramOf sts b → a ≡ b
 unique-program sts a b h k = one-program [] sts a b h k

@@ -1,5 +1,5 @@
-//! The clauses of a query, each where it is there. A clause ends where nothing stands, or a later clause. Their trees are
-//! held as `Boxed`: the check goes once through one that is let go, but through every form of an `Expr`.
+//! Reading the clauses of a query. Each is optional, and ends at the end or at a later clause. Their trees are held as
+//! `Boxed`: the check goes once through such a value that isn't needed, but through every form of an `Expr`.
 
 ghost use Rattle.std.specs.Prelude.{◌≡◌, List, Option, Some, IfOk};
 ghost use Rattle.std.specs.Option.{option_copied};
@@ -13,11 +13,11 @@ ghost use Rattle.ksql_parser.specs.Queries as query;
 ghost use Rattle.ksql_parser.specs.Statements.{BeginsFrom};
 ghost use Rattle.ksql_parser.specs.Statements as part;
 
-use crate::statement::step::{alias, after_by, after_word, key, name};
+use crate::statement::step::{after_by, after_word, alias, key, name};
 use expression_trees::{Expr, ExprTexts};
 use ksql_grammar::{Keyword, ReadError, Symbol, after_key, read_expression, read_expressions};
-use statement_trees::{JoinText, JoinWord, Source};
 use ksql_types::{Boxed, CopyOf, Items};
+use statement_trees::{JoinText, JoinWord, Source};
 use std::alloc::Global;
 
 /// An expression, and the symbols after it.
@@ -47,7 +47,7 @@ pub(crate) fn read_source(
     Ok((Source { name, alias }, rest))
 }
 
-/// The symbols after JOIN, before which this reserved word may stand.
+/// The symbols after JOIN, which `word` may precede.
 #[tactic(auto, unfolding(crate::specs::Queries::after_join))]
 fn after_join(word: Keyword, symbols: &[Symbol]) -> Option<&[Symbol]>
     ensures { option_copied result ≡ query.after_join word symbols.now }
@@ -58,7 +58,7 @@ fn after_join(word: Keyword, symbols: &[Symbol]) -> Option<&[Symbol]>
     }
 }
 
-/// How the next source is joined, where one is, and the symbols after JOIN.
+/// How the next source is joined, if one is, and the symbols after JOIN.
 fn join_words(symbols: &[Symbol]) -> Option<(JoinWord, &[Symbol])>
     ensures { option_with_rest result ≡ part.join_words symbols.now }
 {
@@ -156,7 +156,7 @@ fn after_changes(symbols: &[Symbol]) -> Option<&[Symbol]>
     after_word("CHANGES", rest)
 }
 
-/// The symbols after EMIT CHANGES, where it is there.
+/// The symbols after EMIT CHANGES, if present.
 #[tactic(auto, unfolding(crate::specs::Statements::emit))]
 pub(crate) fn after_emit(symbols: &[Symbol]) -> &[Symbol]
     ensures { result.now ≡ part.emit symbols.now }

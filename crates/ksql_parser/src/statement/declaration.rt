@@ -1,4 +1,4 @@
-//! Columns and properties.
+//! Reading columns and properties.
 
 ghost use Rattle.std.specs.Prelude.{◌≡◌, List, [], ◌∷◌, Some, IfOk};
 ghost use Rattle.ksql_lexer.specs.declared.token.Mark.TheVariants as mark;
@@ -14,11 +14,11 @@ ghost use Rattle.ksql_parser.specs.Statements as part;
 use crate::statement::step::{after_word, after_words, name, sign, sql_type};
 use ksql_grammar::{Keyword, ReadError, Symbol, after_key, after_sign};
 use ksql_lexer::Mark;
-use statement_trees::{ColumnText, ColumnTexts, KeyMark, Properties, Property, PropertyValue};
 use ksql_types::{CopyOf, Items};
+use statement_trees::{ColumnText, ColumnTexts, KeyMark, Properties, Property, PropertyValue};
 use std::alloc::Global;
 
-/// Which mark of a key stands first, and the symbols after it.
+/// The leading key mark, if any, and the symbols after it.
 #[tactic(auto, unfolding(crate::specs::Statements::key_mark))]
 fn key_mark(symbols: &[Symbol]) -> (KeyMark, &[Symbol])
     ensures { with_rest result ≡ part.key_mark symbols.now }
@@ -43,7 +43,7 @@ fn read_column(alloc: Global, symbols: &[Symbol]) -> Result<(ColumnText, &[Symbo
     Ok((ColumnText { name, ty, mark }, rest))
 }
 
-/// One or more columns with commas between them.
+/// One or more columns, separated by commas.
 pub(crate) fn read_columns(
     alloc: Global,
     symbols: &[Symbol],
@@ -92,7 +92,7 @@ fn read_property(alloc: Global, symbols: &[Symbol]) -> Result<(Property, &[Symbo
     Ok((Property { name, value }, rest))
 }
 
-/// One or more properties with commas between them.
+/// One or more properties, separated by commas.
 fn property_list(alloc: Global, symbols: &[Symbol]) -> Result<(Properties, &[Symbol]), ReadError>
     ensures found { IfOk result (λ x. Spells (prop_list x.0) symbols.now x.1.now) }
     ensures only { (ps : List OneProperty) (rest : List OneSymbol)
@@ -126,7 +126,7 @@ pub(crate) fn read_properties(
     Ok((properties, rest))
 }
 
-/// WITH and properties, where they are there.
+/// WITH and its properties, if present.
 pub(crate) fn optional_properties(
     alloc: Global,
     symbols: &[Symbol],

@@ -1,4 +1,4 @@
-//! SELECT and what stands after it.
+//! Reading SELECT and what follows it.
 
 ghost use Rattle.std.specs.Prelude.{◌≡◌, List, [], ◌∷◌, Some, IfOk, option_map};
 ghost use Rattle.ksql_grammar.specs.declared.symbol.Keyword.TheVariants as key;
@@ -18,16 +18,16 @@ ghost use Rattle.ksql_parser.specs.Statements as part;
 use crate::statement::clauses::{
     after_emit, read_filter, read_group, read_having, read_join, read_partition, read_source,
 };
-use crate::statement::step::{alias, after_name, key};
+use crate::statement::step::{after_name, alias, key};
 use crate::statement::windows::read_window;
 use expression_trees::{Expr, ExprTexts};
 use ksql_grammar::{Keyword, ReadError, Symbol, after_sign, read_expression};
 use ksql_lexer::Mark;
-use statement_trees::{JoinText, Select, SelectItem, SelectItems, Source, WindowText};
 use ksql_types::{Boxed, Chars, CopyOf, Items};
+use statement_trees::{JoinText, Select, SelectItem, SelectItems, Source, WindowText};
 use std::alloc::Global;
 
-/// The name before `. *`, and the symbols after.
+/// The name before `.*`, and the symbols after.
 fn after_star_of(symbols: &[Symbol]) -> Option<(&Chars, &[Symbol])>
     ensures { option_map lent result ≡ part.star_of symbols.now }
 {
@@ -54,7 +54,7 @@ fn read_item(alloc: Global, symbols: &[Symbol]) -> Result<(SelectItem, &[Symbol]
     Ok((SelectItem::One { expr, alias }, rest))
 }
 
-/// One or more items with commas between them.
+/// One or more items, separated by commas.
 fn read_items(alloc: Global, symbols: &[Symbol]) -> Result<(SelectItems, &[Symbol]), ReadError>
     ensures found { IfOk result (λ x. Spells (items x.0) symbols.now x.1.now) }
     ensures only { (is : List OneItem) (rest : List OneSymbol) → Spells (items is) symbols.now (Key key.From ∷ rest)
@@ -72,7 +72,7 @@ fn read_items(alloc: Global, symbols: &[Symbol]) -> Result<(SelectItems, &[Symbo
     }
 }
 
-/// What a query reads and selects: SELECT and what stands after it up to the window.
+/// The first half of a query: SELECT and what follows it, up to and including the window.
 #[derive(Drop)]
 struct Front {
     items: SelectItems,
@@ -81,7 +81,7 @@ struct Front {
     window: Option<WindowText>,
 }
 
-/// What stands after the window of a query.
+/// The second half of a query: what follows the window.
 #[derive(Drop)]
 struct Clauses {
     filter: Option<Boxed<Expr>>,
@@ -137,7 +137,7 @@ fn unboxed<T>(part: Option<Boxed<T>>) -> Option<T>
     }
 }
 
-/// The query of two halves.
+/// The query of its two halves.
 fn select_of(front: Front, clauses: Clauses) -> Select
     ensures { result ≡ query.select_of front clauses }
 {
@@ -153,7 +153,7 @@ fn select_of(front: Front, clauses: Clauses) -> Select
     }
 }
 
-/// A query, which ends where nothing more stands.
+/// A query, up to its last clause.
 pub(crate) fn read_select(
     alloc: Global,
     symbols: &[Symbol],

@@ -1,4 +1,4 @@
-//! What is read from the front of some symbols without an expression: names, words and aliases.
+//! Reading names, words and aliases.
 
 ghost use Rattle.std.specs.Prelude.{◌≡◌, Some, None, option_map};
 ghost use Rattle.std.specs.Option.{option_copied};
@@ -12,21 +12,21 @@ use ksql_lexer::Mark;
 use ksql_types::{Chars, CopyOf, SqlType};
 use std::alloc::Global;
 
-/// The symbols after this reserved word, which has to stand there.
+/// The symbols after this reserved word, which is required.
 pub(crate) fn key(key: Keyword, symbols: &[Symbol]) -> Result<&[Symbol], ReadError>
     ensures { Gives (λ rest. rest.now) result (read.after_key key symbols.now) }
 {
     after_key(key, symbols).ok_or(ReadError::Unspelled)
 }
 
-/// The symbols after this sign, which has to stand there.
+/// The symbols after this sign, which is required.
 pub(crate) fn sign(sign: Mark, symbols: &[Symbol]) -> Result<&[Symbol], ReadError>
     ensures { Gives (λ rest. rest.now) result (read.after_sign sign symbols.now) }
 {
     after_sign(sign, symbols).ok_or(ReadError::Unspelled)
 }
 
-/// The symbols after this word.
+/// The symbols after this word, if it comes first.
 #[tactic(auto, unfolding(crate::specs::Statements::after_word))]
 pub(crate) fn after_word<'a>(word: &str, symbols: &'a [Symbol]) -> Option<&'a [Symbol]>
     ensures { option_copied result ≡ part.after_word word.now symbols.now }
@@ -37,20 +37,16 @@ pub(crate) fn after_word<'a>(word: &str, symbols: &'a [Symbol]) -> Option<&'a [S
     }
 }
 
-/// The symbols after these two words.
+/// The symbols after these two words, if they come first.
 #[tactic(auto, unfolding(crate::specs::Statements::after_words))]
-pub(crate) fn after_words<'a>(
-    word: &str,
-    next: &str,
-    symbols: &'a [Symbol],
-) -> Option<&'a [Symbol]>
+pub(crate) fn after_words<'a>(word: &str, next: &str, symbols: &'a [Symbol]) -> Option<&'a [Symbol]>
     ensures { option_copied result ≡ part.after_words word.now next.now symbols.now }
 {
     let rest = after_word(word, symbols)?;
     after_word(next, rest)
 }
 
-/// The symbols after this reserved word and BY.
+/// The symbols after this reserved word and BY, if they come first.
 #[tactic(auto, unfolding(crate::specs::Statements::after_by))]
 pub(crate) fn after_by(key: Keyword, symbols: &[Symbol]) -> Option<&[Symbol]>
     ensures { option_copied result ≡ part.after_by key symbols.now }
@@ -59,14 +55,14 @@ pub(crate) fn after_by(key: Keyword, symbols: &[Symbol]) -> Option<&[Symbol]>
     after_key(Keyword::By, rest)
 }
 
-/// The symbols after this word, which has to stand there.
+/// The symbols after this word, which is required.
 pub(crate) fn word<'a>(word: &str, symbols: &'a [Symbol]) -> Result<&'a [Symbol], ReadError>
     ensures { Gives (λ rest. rest.now) result (part.after_word word.now symbols.now) }
 {
     after_word(word, symbols).ok_or(ReadError::Unspelled)
 }
 
-/// A name, and the symbols after it.
+/// A name, if one comes first, and the symbols after it.
 #[tactic(auto, unfolding(ksql_grammar::specs::Expressions::first))]
 pub(crate) fn after_name(symbols: &[Symbol]) -> Option<(&Chars, &[Symbol])>
     ensures { option_map part.lent result ≡ read.first named symbols.now }
@@ -75,7 +71,7 @@ pub(crate) fn after_name(symbols: &[Symbol]) -> Option<(&Chars, &[Symbol])>
     Some((name_of(symbol)?, rest))
 }
 
-/// A name, which has to stand there, and the symbols after it.
+/// A name, which is required, and the symbols after it.
 pub(crate) fn name(symbols: &[Symbol]) -> Result<(&Chars, &[Symbol]), ReadError>
     ensures { Gives part.lent result (read.first named symbols.now) }
 {
@@ -92,7 +88,7 @@ pub(crate) fn sql_type(symbols: &[Symbol]) -> Result<(SqlType, &[Symbol]), ReadE
     Ok((ty, rest))
 }
 
-/// The name after AS, and the symbols after it.
+/// The name after AS, if AS and a name come first, and the symbols after it.
 #[tactic(auto, unfolding(crate::specs::Statements::after_as))]
 fn after_as(symbols: &[Symbol]) -> Option<(&Chars, &[Symbol])>
     ensures { option_map part.lent result ≡ part.after_as symbols.now }
@@ -101,7 +97,7 @@ fn after_as(symbols: &[Symbol]) -> Option<(&Chars, &[Symbol])>
     after_name(rest)
 }
 
-/// An alias, where there is one, and the symbols after it.
+/// An alias, if any, and the symbols after it.
 #[tactic(auto, unfolding(crate::specs::Statements::alias))]
 pub(crate) fn alias(
     alloc: Global,

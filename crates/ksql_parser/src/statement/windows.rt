@@ -1,4 +1,4 @@
-//! WINDOW and what stands after it.
+//! Reading WINDOW and what follows it.
 
 ghost use Rattle.std.specs.Prelude.{◌≡◌};
 ghost use Rattle.std.specs.Option.{option_copied};
@@ -13,7 +13,7 @@ use ksql_grammar::{Keyword, ReadError, Symbol, after_key, after_sign};
 use ksql_lexer::Mark;
 use statement_trees::{SpanText, Unit, WindowText};
 
-/// The unit of time that a word is.
+/// The unit of time that a word names, if any.
 fn unit_named(word: &str) -> Option<Unit>
     ensures { result ≡ beside spec.unit_words word.now }
 {
@@ -27,7 +27,7 @@ fn unit_named(word: &str) -> Option<Unit>
     }
 }
 
-/// The unit of time that a symbol is.
+/// The unit of time that a symbol names, if any.
 fn unit_of(symbol: &Symbol) -> Option<Unit>
     ensures { result ≡ spec.unit_of symbol.now }
 {
@@ -84,7 +84,7 @@ fn after_grace(symbols: &[Symbol]) -> Option<&[Symbol]>
     after_words("GRACE", "PERIOD", rest)
 }
 
-/// The retention, where there is one.
+/// The retention, if any.
 fn retention(symbols: &[Symbol]) -> Result<(Option<SpanText>, &[Symbol]), ReadError>
     ensures { Gives with_rest result (part.span_at symbols.now (part.after_retention symbols.now)) }
 {
@@ -95,7 +95,7 @@ fn retention(symbols: &[Symbol]) -> Result<(Option<SpanText>, &[Symbol]), ReadEr
     Ok((Some(span), rest))
 }
 
-/// The grace period, where there is one.
+/// The grace period, if any.
 fn grace(symbols: &[Symbol]) -> Result<(Option<SpanText>, &[Symbol]), ReadError>
     ensures { Gives with_rest result (part.span_at symbols.now (part.after_grace symbols.now)) }
 {
@@ -106,7 +106,7 @@ fn grace(symbols: &[Symbol]) -> Result<(Option<SpanText>, &[Symbol]), ReadError>
     Ok((Some(span), rest))
 }
 
-/// The retention and the grace period, and then `)`.
+/// The retention and the grace period, if any, and then `)`.
 #[tactic(auto, unfolding(crate::specs::Statements::limits))]
 fn limits(
     symbols: &[Symbol],
@@ -170,7 +170,7 @@ fn hopping(symbols: &[Symbol]) -> Result<(WindowText, &[Symbol]), ReadError>
     Ok((window, rest))
 }
 
-/// What stands after WINDOW.
+/// Reads what follows WINDOW.
 #[tactic(auto, unfolding(crate::specs::Statements::window))]
 fn window(symbols: &[Symbol]) -> Result<(WindowText, &[Symbol]), ReadError>
     ensures { Gives with_rest result (part.window symbols.now) }
@@ -184,7 +184,7 @@ fn window(symbols: &[Symbol]) -> Result<(WindowText, &[Symbol]), ReadError>
     }
 }
 
-/// The window of a query, where there is one.
+/// The window of a query, if any.
 #[tactic(auto, unfolding(crate::specs::Statements::windowed))]
 pub(crate) fn read_window(symbols: &[Symbol]) -> Result<(Option<WindowText>, &[Symbol]), ReadError>
     ensures { Gives with_rest result (part.windowed symbols.now) }

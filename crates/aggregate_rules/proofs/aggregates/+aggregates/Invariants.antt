@@ -3,7 +3,7 @@ use Rattle.ksql_scopes.specs.Uses.{all_of}
 use Rattle.aggregate_rules.specs.Grouping.{gives, whole_aggregate}
 use Rattle.aggregate_rules.proofs.aggregates.+aggregates.Given as goal
 
--- what is found, and what is left
+-- what is found, and what remains
 abbrev pub invariant-add_all-loop-expr : goal.invariant-add_all-loop-expr
 invariant-add_all-loop-expr l =
     l.found.items ++ all_of (map (gives whole_aggregate) (drop l.expr-index l.expr-items)) ≡ l.fn.found.items ++ all_of (map (gives whole_aggregate) l.expr-items)

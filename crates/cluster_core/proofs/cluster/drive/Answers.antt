@@ -6,7 +6,7 @@ use Rattle.topic_files.specs.declared.topic.TopicLines.{TopicLines}
 use Rattle.topology.specs.Topologies.{topology_of}
 use Rattle.topology.specs.declared.schedule.Lined.{Lined}
 use Rattle.cluster_core.specs.Cluster.{HasCome, IsBuilt}
-use Rattle.cluster_core.specs.Progress.{after_steps, opening}
+use Rattle.cluster_laws.specs.Progress.{after_steps, opening}
 use Rattle.cluster_core.proofs.Driving.{IsDriven, driven-all, driven-next, driven-none}
 use Rattle.cluster_core.proofs.cluster.drive.Goals as goal
 

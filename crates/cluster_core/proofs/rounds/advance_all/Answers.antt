@@ -5,10 +5,10 @@ use Rattle.std.specs.Prelude.{Contains}
 use Rattle.std.specs.List.{AllByRecursion}
 use Rattle.std.specs.Vec.Iter.{into_iter_items}
 use Rattle.meaning_laws.proofs.Lists.{Pairwise, Pairwise-from_all}
-use Rattle.cluster_core.specs.Giving.{Gone}
-use Rattle.cluster_core.specs.Rounds.{CanGo, TakesAlone}
-use Rattle.cluster_core.specs.declared.seats.Seat.{Seat}
-use Rattle.cluster_core.proofs.Going.{Going, go-on, have-gone}
+use Rattle.cluster_laws.specs.Giving.{Gone}
+use Rattle.cluster_laws.specs.Rounds.{CanGo, TakesAlone}
+use Rattle.cluster_laws.specs.declared.seats.Seat.{Seat}
+use Rattle.cluster_laws.proofs.Going.{Going, go-on, have-gone}
 use Rattle.cluster_core.proofs.rounds.advance_all.Goals as goal
 
 pub loop-seat-init : goal.loop-seat-init

@@ -4,12 +4,12 @@ use Rattle.std.specs.List.{AllByRecursion}
 use Rattle.std.specs.Vec.Iter.{into_iter_items}
 use Rattle.meaning_laws.proofs.Lists.{Pairwise}
 use Rattle.topic_log.specs.Shelves.{topics_of}
-use Rattle.cluster_core.specs.Giving.{Gone}
-use Rattle.cluster_core.specs.Rounds.{CanAllGo, TakesAlone}
-use Rattle.cluster_core.proofs.Going.{Going}
+use Rattle.cluster_laws.specs.Giving.{Gone}
+use Rattle.cluster_laws.specs.Rounds.{CanAllGo, TakesAlone}
+use Rattle.cluster_laws.proofs.Going.{Going}
 use Rattle.cluster_core.proofs.rounds.advance_all.Given as goal
 
--- the tasks so far went over what the broker had, and what is left of the tasks can
+-- the tasks so far processed what the broker had, and the remaining ones can
 abbrev pub invariant-loop-seat : goal.invariant-loop-seat
 invariant-loop-seat l = record {
   topics : topics_of l.broker ≡ topics_of l.fn.broker;

@@ -7,9 +7,9 @@ use Rattle.topic_log.specs.Shelves.{routes_in, shelf_of}
 use Rattle.topic_log.specs.declared.shelves.Shelves.{Shelves}
 use Rattle.task_core.specs.Tasks.{CanStore, TaskView}
 use Rattle.task_core.specs.declared.task.Moved.{Moved}
-use Rattle.cluster_core.specs.Rounds.{IsAdvanced}
-use Rattle.cluster_core.proofs.Given.{has-gone, storable-given}
-use Rattle.cluster_core.proofs.Gone.{advanced-gone, store-gone}
+use Rattle.cluster_laws.specs.Rounds.{IsAdvanced}
+use Rattle.cluster_laws.proofs.Given.{has-gone, storable-given}
+use Rattle.cluster_laws.proofs.Gone.{advanced-gone, store-gone}
 use Rattle.cluster_core.proofs.rounds.advanced.Goals as goal
 
 pub advance_over-requires-clause-storable : goal.advance_over-requires-clause-storable

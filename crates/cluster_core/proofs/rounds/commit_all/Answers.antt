@@ -10,10 +10,10 @@ use Rattle.core_state.specs.declared.log.Proposal.{Proposal}
 use Rattle.ksql_types.specs.declared.topic.TopicSpec.{TopicSpec}
 use Rattle.meaning_laws.proofs.Lists.{Pairwise, Pairwise-from_all}
 use Rattle.topic_log.specs.Shelves.{routes_in, shelf_of}
-use Rattle.cluster_core.specs.Rounds.{AllSettle, CanCommit, ProposeApart, Settles, noted, offered, seat_of}
-use Rattle.cluster_core.specs.declared.rounds.Ran.{Ran}
-use Rattle.cluster_core.specs.declared.seats.Seat.{Seat}
-use Rattle.cluster_core.proofs.Staying.{still-all}
+use Rattle.cluster_laws.specs.Rounds.{AllSettle, CanCommit, ProposeApart, Settles, noted, offered, seat_of}
+use Rattle.cluster_laws.specs.declared.seats.Ran.{Ran}
+use Rattle.cluster_laws.specs.declared.seats.Seat.{Seat}
+use Rattle.cluster_laws.proofs.Staying.{still-all}
 use Rattle.cluster_core.proofs.rounds.commit_all.Goals as goal
 
 pub loop-ran-init : goal.loop-ran-init

@@ -6,10 +6,10 @@ use Rattle.core_state.specs.Shelf.{Shelf}
 use Rattle.core_state.specs.declared.log.Proposal.{Proposal}
 use Rattle.meaning_laws.proofs.Lists.{Pairwise}
 use Rattle.topic_log.specs.Shelves.{routes_in, shelf_of, topics_of}
-use Rattle.cluster_core.specs.Rounds.{AllSettle, CanCommit, ProposeApart, noted, offered, seat_of}
+use Rattle.cluster_laws.specs.Rounds.{AllSettle, CanCommit, ProposeApart, noted, offered, seat_of}
 use Rattle.cluster_core.proofs.rounds.commit_all.Given as goal
 
--- what is left to be offered can be committed, and what was committed so far goes on to all
+-- the remaining proposals can be committed, and the commits so far lead on to all
 abbrev pub invariant-loop-ran : goal.invariant-loop-ran
 invariant-loop-ran l =
     let left = into_iter_items l.ran-iterator in

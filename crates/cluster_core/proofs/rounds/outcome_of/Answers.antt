@@ -4,7 +4,7 @@ use Rattle.topic_log.specs.Shelves.{routes_in, shelf_of}
 use Rattle.topic_log.specs.declared.shelves.Shelves.{Shelves}
 use Rattle.task_core.specs.declared.task.Moved.{Moved}
 use Rattle.assignor.specs.Rule.{is_with}
-use Rattle.cluster_core.specs.Rounds.{IsAdvanced}
+use Rattle.cluster_laws.specs.Rounds.{IsAdvanced}
 use Rattle.cluster_core.proofs.rounds.outcome_of.Goals as goal
 use Rattle.cluster_core.proofs.rounds.outcome_of.Goals.{then-is_lost, else-is_lost+in_ok-moved}
 

@@ -11,9 +11,9 @@ use Rattle.core_state.specs.Routes.{IsWriter, routes_of}
 use Rattle.core_state.specs.Shelf.{Shelf}
 use Rattle.core_state.specs.declared.journal.JournalEntry.{JournalEntry}
 use Rattle.topic_log.specs.Shelves.{routes_in, shelf_of}
-use Rattle.cluster_core.specs.Moves.{AllLeave, LeavesOrStays, kept_of}
-use Rattle.cluster_core.specs.declared.seats.Seat.{Seat}
-use Rattle.cluster_core.proofs.Seating.{none-leave, one-leaves}
+use Rattle.cluster_laws.specs.Moves.{AllLeave, LeavesOrStays, kept_of}
+use Rattle.cluster_laws.specs.declared.seats.Seat.{Seat}
+use Rattle.cluster_laws.proofs.Seating.{none-leave, one-leaves}
 use Rattle.cluster_core.proofs.seats.leave_all.Goals as goal
 
 pub loop-seat-init : goal.loop-seat-init

@@ -7,11 +7,11 @@ use Rattle.core_state.specs.Routes.{IsWriter}
 use Rattle.core_state.specs.Shelf.{Shelf}
 use Rattle.core_state.specs.declared.journal.JournalEntry.{JournalEntry}
 use Rattle.topic_log.specs.Shelves.{routes_in, shelf_of, topics_of}
-use Rattle.cluster_core.specs.Moves.{AllLeave, kept_of}
-use Rattle.cluster_core.specs.declared.seats.Seat.{Seat}
+use Rattle.cluster_laws.specs.Moves.{AllLeave, kept_of}
+use Rattle.cluster_laws.specs.declared.seats.Seat.{Seat}
 use Rattle.cluster_core.proofs.seats.leave_all.Given as goal
 
--- those that are left can leave, and what left so far goes on to all
+-- the remaining ones can leave, and those that left so far lead on to all
 abbrev pub invariant-loop-seat : goal.invariant-loop-seat
 invariant-loop-seat l =
     let seats = into_iter_items (zip_first l.seat-iterator) in

@@ -1,5 +1,5 @@
 use Rattle.std.proofs.Common.{◌≡◌, map, take}
-use Rattle.cluster_core.specs.Moves.{owned_of}
+use Rattle.cluster_laws.specs.Moves.{owned_of}
 use Rattle.cluster_core.proofs.seats.owners_of.Given as goal
 
 -- the owners so far

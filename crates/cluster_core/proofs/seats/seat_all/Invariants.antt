@@ -1,7 +1,7 @@
 use Rattle.std.proofs.Common.{◌≡◌, ◌++◌, drop}
 use Rattle.std.specs.Vec.Iter.{into_iter_items}
 use Rattle.topic_log.specs.Shelves.{shelf_of}
-use Rattle.cluster_core.specs.Moves.{seat_notes, seated}
+use Rattle.cluster_laws.specs.Moves.{seat_notes, seated}
 use Rattle.cluster_core.proofs.seats.seat_all.Given as goal
 
 -- the tasks so far, and those at the owners that are left

@@ -1,6 +1,6 @@
 use Rattle.std.proofs.Common.{◌≡◌, map, not, take}
-use Rattle.cluster_core.specs.Progress.{is_task}
-use Rattle.cluster_core.specs.declared.seats.Seat.{Seat}
+use Rattle.cluster_laws.specs.Progress.{is_task}
+use Rattle.cluster_laws.specs.declared.seats.Seat.{Seat}
 use Rattle.cluster_core.proofs.seats.staying_but.Given as goal
 
 -- which stay so far

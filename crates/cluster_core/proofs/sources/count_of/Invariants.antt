@@ -1,6 +1,6 @@
 use Rattle.std.proofs.Common.{◌≡◌, drop}
 use Rattle.feed_laws.specs.Feeds.{Source}
-use Rattle.cluster_core.specs.Progress.{counted}
+use Rattle.cluster_laws.specs.Progress.{counted}
 use Rattle.cluster_core.proofs.sources.count_of.Given as goal
 
 -- the counts that are left decide

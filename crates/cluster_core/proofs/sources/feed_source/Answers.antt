@@ -4,7 +4,7 @@ use Rattle.ksql_types.specs.declared.relation.Relation.{Relation}
 use Rattle.topic_files.specs.declared.topic.Fed.{Fed}
 use Rattle.topic_feeds.specs.Feeding.{fed_from}
 use Rattle.topic_feeds.specs.Reaching.{Reaches}
-use Rattle.cluster_core.specs.Progress.{taken}
+use Rattle.cluster_laws.specs.Progress.{taken}
 use Rattle.cluster_core.specs.declared.sources.Source.{Source as Kept}
 use Rattle.cluster_core.proofs.Sourcing.{drop-least, kept-after, take-least}
 use Rattle.cluster_core.proofs.sources.feed_source.Goals as goal

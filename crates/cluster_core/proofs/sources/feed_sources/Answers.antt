@@ -4,7 +4,7 @@ use Rattle.std.specs.Vec.Iter.{into_iter_items}
 use Rattle.std.proofs.lemmas.List.{nil_from_length}
 use Rattle.ksql_place.specs.declared.change.SourceRecord.{SourceRecord}
 use Rattle.feed_laws.specs.Feeds.{Source}
-use Rattle.cluster_core.specs.Progress.{taken}
+use Rattle.cluster_laws.specs.Progress.{taken}
 use Rattle.cluster_core.specs.declared.sources.Source.{Source as Kept}
 use Rattle.cluster_core.proofs.Sourcing.{AreFed, fed-all, fed-first, fed-next, fed-none}
 use Rattle.cluster_core.proofs.sources.feed_sources.Goals as goal

@@ -3,8 +3,8 @@ use Rattle.std.specs.List.{All, AllZip}
 use Rattle.std.specs.Vec.Iter.{into_iter_items}
 use Rattle.feed_laws.specs.Feeds.{Source}
 use Rattle.cluster_core.specs.Cluster.{IsKept}
-use Rattle.cluster_core.specs.Progress.{taken}
-use Rattle.cluster_core.specs.Sourcing.{CanFeed}
+use Rattle.cluster_laws.specs.Progress.{taken}
+use Rattle.cluster_laws.specs.Feeding.{CanFeed}
 use Rattle.cluster_core.proofs.Sourcing.{AreFed}
 use Rattle.cluster_core.proofs.sources.feed_sources.Given as goal
 

@@ -1,7 +1,7 @@
 use Rattle.std.proofs.Common.{◌≡◌, ◌++◌, length}
 use Rattle.cluster_core.proofs.sources.take_feds.Given as goal
 
--- those taken stand before those left
+-- those taken come before the remaining ones
 abbrev pub invariant-loop : goal.invariant-loop
 invariant-loop l = record {
   whole : l.feds.items ++ l.left.items ≡ l.fn.left.items;

@@ -1,5 +1,5 @@
 use Rattle.std.proofs.Common.{◌≡◌, map, take}
-use Rattle.cluster_core.specs.Giving.{is_taker}
+use Rattle.cluster_laws.specs.Giving.{is_taker}
 use Rattle.cluster_core.proofs.takers.takers_of.Given as goal
 
 -- those so far

@@ -2,7 +2,7 @@ use Rattle.std.proofs.Common.{◌≡◌, ◌||◌, drop, map}
 use Rattle.expression_trees.specs.Parts.{any_of, passes}
 use Rattle.expression_trees.proofs.deciding.+passes.Given as goal
 
--- what is left decides
+-- the rest decides
 abbrev pub invariant-one_passes-loop-expr : goal.invariant-one_passes-loop-expr
 invariant-one_passes-loop-expr g l =
     any_of (map (passes (g.D.Decides.decide l.decides)) (drop l.expr-index l.expr-items)) ≡ any_of (map (passes (g.D.Decides.decide l.decides)) l.expr-items)

@@ -2,7 +2,7 @@ use Rattle.std.proofs.Common.{◌≡◌, take, map}
 use Rattle.grouped_expressions.specs.Grouped.{after, when_after}
 use Rattle.grouped_expressions.proofs.grouped.+after.Given as goal
 
--- what was made so far is of the front of the list
+-- the results so far are those of a prefix of the list
 abbrev pub invariant-each_after-loop-tree : goal.invariant-each_after-loop-tree
 invariant-each_after-loop-tree l = l.made.items ≡ map (after l.columns) (take l.tree-index l.tree-items)
 

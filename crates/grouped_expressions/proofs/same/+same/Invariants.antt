@@ -1,7 +1,7 @@
 use Rattle.std.proofs.Common.{◌≡◌, ◌++◌, take}
 use Rattle.grouped_expressions.proofs.same.+same.Given as goal
 
--- the front of both lists is one
+-- the prefixes of both lists are the same
 abbrev pub invariant-same_trees-loop-x : goal.invariant-same_trees-loop-x
 invariant-same_trees-loop-x l = take l.x-index l.x-items ++ l.rest ≡ l.fn.b
 

@@ -3,7 +3,7 @@ use Rattle.std.proofs.lemmas.Result.{IfOk-weaker}
 use Rattle.std.specs.Prelude.{option_map}
 use Rattle.ksql_nodes.specs.Entries.{Row, of_key, of_side, row_after}
 use Rattle.row_ops.proofs.InputTable.{row-latest}
-use Rattle.table_steps.specs.Joining.{beside}
+use Rattle.row_steps.specs.Joining.{beside}
 use Rattle.join_ops.proofs.Sides.{key-of_side}
 use Rattle.join_ops.proofs.stream_table_op.beside_row.Goals as goal
 

@@ -6,7 +6,7 @@ use Rattle.ksql_place.specs.declared.change.Change.{Change}
 use Rattle.ksql_nodes.specs.Entries.{Row, Entry, of_key, of_side, row_after, time_after}
 use Rattle.ksql_nodes.specs.Joins.{other_side}
 use Rattle.row_ops.proofs.InputTable.{row-latest, time-latest}
-use Rattle.table_steps.specs.Joining.{turned_beside, standing_before}
+use Rattle.row_steps.specs.Joining.{turned_beside, standing_before}
 use Rattle.join_ops.proofs.table_table_op.give.Goals as goal
 
 pub returns-clause-next : goal.returns-clause-next

@@ -3,7 +3,7 @@ use Rattle.ksql_types.specs.Names.{are_distinct}
 use Rattle.ksql_clauses.specs.Properties.{name_of, has_kind, value_of}
 use Rattle.ksql_clauses.proofs.properties.are_distinct.Given as goal
 
--- what is left decides
+-- the rest decides
 abbrev pub invariant-loop-properties : goal.invariant-loop-properties
 invariant-loop-properties l = are_distinct (map name_of l.properties) ≡ are_distinct (map name_of l.fn.properties)
 

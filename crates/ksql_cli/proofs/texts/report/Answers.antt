@@ -20,7 +20,7 @@ broker_report-requires-clause-topics c =
     subst (λ (b : Broker). All (HasTopicOf b) (relations c.args.ran.now.program.items)) (sym c.broker.ensures)
     (run-topics c.requires.came.0 c.args.ran.now.program c.args.ran.now.cluster c.requires.came.1 c.requires.sound c.requires.came.2)
 
--- the lines after the sections are the trace, where it is asked for
+-- the lines after the sections are the trace, if it is printed
 lines-are : (c : goal.After-drop-lines-2) (run : Run) → run.steps ≡ c.args.ran.now.schedule.steps → run.trace ≡ c.args.trace → HasRun run c.args.ran.now.cluster →
     string_bytes c.if-trace.lines ≡ trace_in run
 lines-are c run of-steps of-trace come = elim c.if-trace.branch [

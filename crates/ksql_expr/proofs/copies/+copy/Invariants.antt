@@ -1,7 +1,7 @@
 use Rattle.std.proofs.Common.{◌≡◌, take}
 use Rattle.ksql_expr.proofs.copies.+copy.Given as goal
 
--- what was copied so far is the front of the list
+-- the copies so far are a prefix of the list
 abbrev pub invariant-copy_exprs-loop-expr : goal.invariant-copy_exprs-loop-expr
 invariant-copy_exprs-loop-expr l = l.copied.items ≡ take l.expr-index l.expr-items
 

@@ -2,7 +2,7 @@ use Rattle.std.proofs.Common.{◌≡◌, length}
 use Rattle.ksql_grammar.specs.Expressions.{after_prefixes}
 use Rattle.ksql_grammar.proofs.expression.after_all.Given as goal
 
--- what stands after the prefixes that are left
+-- what follows the remaining prefixes
 abbrev pub invariant-loop-last : goal.invariant-loop-last
 invariant-loop-last l = after_prefixes l.left l.whole ≡ after_prefixes l.fn.prefixes l.fn.arg
 

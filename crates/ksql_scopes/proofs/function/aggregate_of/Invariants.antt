@@ -3,7 +3,7 @@ use Rattle.expression_trees.specs.Words.{beside}
 use Rattle.ksql_scopes.specs.Functions.{aggregate_of}
 use Rattle.ksql_scopes.proofs.function.aggregate_of.Given as goal
 
--- what is left of the table decides
+-- the rest of the table decides
 abbrev pub invariant-loop-table : goal.invariant-loop-table
 invariant-loop-table l = beside (map (λ row. (row.0.now, row.1)) l.table) l.name ≡ aggregate_of l.name
 

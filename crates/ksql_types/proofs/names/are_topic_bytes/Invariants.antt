@@ -3,7 +3,7 @@ use Rattle.std.specs.List.{list_all}
 use Rattle.ksql_types.specs.Names.{is_topic_byte}
 use Rattle.ksql_types.proofs.names.are_topic_bytes.Given as goal
 
--- what is left decides
+-- the rest decides
 abbrev pub invariant-loop-bytes : goal.invariant-loop-bytes
 invariant-loop-bytes l = list_all is_topic_byte l.bytes ≡ list_all is_topic_byte l.fn.bytes
 

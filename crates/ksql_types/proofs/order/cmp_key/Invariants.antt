@@ -4,7 +4,7 @@ use Rattle.std.specs.Slice.Iter.{iter_rest}
 use Rattle.ksql_types.specs.Order.{AreAlike, key_cmp}
 use Rattle.ksql_types.proofs.order.cmp_key.Given as goal
 
--- the values that were gone over are equal, so those that are left decide
+-- the values visited so far are equal, so the remaining ones decide
 abbrev pub invariant-loop-first : goal.invariant-loop-first
 invariant-loop-first l =
     let first = iter_rest (zip_first l.first-iterator) in

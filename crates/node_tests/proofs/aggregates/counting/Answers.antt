@@ -4,13 +4,9 @@ use Rattle.std.proofs.lemmas.Result.{IfOk-weaker}
 use Rattle.ksql_types.specs.declared.relation.Kind.TheVariants.{Stream}
 use Rattle.ksql_program.specs.declared.query.Agg.{Agg}
 use Rattle.ksql_nodes.specs.declared.node.Node.TheVariants.{Aggregate}
-use Rattle.node_tests.specs.Counting.{CountsRows}
-use Rattle.agg_ops.specs.WindowAggs.{WindowAggView}
 use Rattle.node_tests.proofs.aggregates.counting.Goals as goal
 
 pub returns : goal.returns
 returns c =
     let w = c.args.window in
-    IfOk-weaker c.new.result (λ (made : WindowAggView). Aggregate Stream made.aggs (Some made.window) ≡ Aggregate Stream c.of.result (Some w))
-    (λ (made : WindowAggView). CountsRows (Aggregate Stream made.aggs (Some made.window)))
-    (λ made is. (w, is ∙ ap (λ (aggs : List Agg). Aggregate Stream aggs (Some w)) (c.of.ensures ∙ c.in_ok-vec.ensures.items))) c.new.ensures.node
+    IfOk-weaker c.new.result _ _ (λ made is. (w, is ∙ ap (λ (aggs : List Agg). Aggregate Stream aggs (Some w)) (c.of.ensures ∙ c.in_ok-vec.ensures.items))) c.new.ensures.node

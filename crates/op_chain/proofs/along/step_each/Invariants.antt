@@ -9,7 +9,7 @@ use Rattle.op_chain.specs.Chain.{entries_of}
 use Rattle.op_chain.proofs.Ops.{held_of, node_of}
 use Rattle.op_chain.proofs.along.step_each.Given as goal
 
--- the steps of those that were taken, and those that are left
+-- the steps of the entries taken, and the remaining ones
 abbrev pub invariant-loop-entry : goal.invariant-loop-entry
 invariant-loop-entry l = record {
   node : node_of l.op ≡ node_of l.fn.op;

@@ -8,7 +8,7 @@ use Rattle.op_chain.specs.Along.{Steps}
 use Rattle.op_chain.proofs.Ops.{held_of, node_of}
 use Rattle.op_chain.proofs.along.step_left.Given as goal
 
--- the steps of those that were taken, and those that are left
+-- the steps of the changes taken, and the remaining ones
 abbrev pub invariant-loop-change : goal.invariant-loop-change
 invariant-loop-change l = record {
   node : node_of l.op ≡ node_of l.fn.op;

@@ -2,7 +2,7 @@ use Rattle.std.proofs.Common.{◌≡◌, ◌*◌, ◌++◌, min, length, take, d
 use Rattle.row_pool.specs.Layout.{after, bytes_from}
 use Rattle.row_pool.proofs.block.read_text.Given as goal
 
--- so many pieces are read, and the rest is as it was
+-- n pieces are read, and the rest is unchanged
 abbrev pub invariant-loop-n : goal.invariant-loop-n
 invariant-loop-n l = record {
   at : l.at ≡ after l.blocks l.first l.n;

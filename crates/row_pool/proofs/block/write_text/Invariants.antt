@@ -3,7 +3,7 @@ use Rattle.row_pool.specs.Layout.{after}
 use Rattle.row_pool.proofs.Written.{Written}
 use Rattle.row_pool.proofs.block.write_text.Given as goal
 
--- so many pieces are written, and the rest of the text is left
+-- n pieces are written, and the rest of the text is unchanged
 abbrev pub invariant-loop : goal.invariant-loop
 invariant-loop l = record {
   at : l.at ≡ after l.fn.blocks l.first l.counter;

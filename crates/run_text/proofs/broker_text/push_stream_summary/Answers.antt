@@ -7,8 +7,8 @@ use Rattle.ksql_place.specs.declared.change.Change.{Change}
 use Rattle.ksql_place.specs.declared.change.SourceRecord.{SourceRecord}
 use Rattle.ksql_place.proofs.Orders.{record_total}
 use Rattle.query_meaning.specs.Meaning.{declared_changes}
-use Rattle.query_meaning.specs.Plain.{rows_said}
-use Rattle.query_meaning.proofs.ChangeByChange.{changed-from-side}
+use Rattle.query_meaning.specs.Parts.{rows_said}
+use Rattle.query_meaning.proofs.QuerySteps.{changed-from-side}
 use Rattle.query_meaning.proofs.DeclaredChanges.{declared_changes-by}
 use Rattle.run_text.specs.Printed.{shown_in}
 use Rattle.run_text.specs.Report.{skipped_of, summary_rows, summary_text, table_rows, Section}

@@ -3,8 +3,8 @@ use Rattle.std.specs.Prelude.{IfOk}
 use Rattle.ksql_types.specs.declared.relation.Kind.TheVariants.{Stream, Table, Windowed}
 use Rattle.ksql_place.specs.declared.change.Change.{Change}
 use Rattle.ksql_place.specs.declared.change.SourceRecord.{SourceRecord}
-use Rattle.query_meaning.specs.Plain.{rows_said, said_to}
-use Rattle.query_meaning.proofs.ChangeByChange.{changed-from-side}
+use Rattle.query_meaning.specs.Parts.{rows_said, said_to}
+use Rattle.query_meaning.proofs.QuerySteps.{changed-from-side}
 use Rattle.query_meaning.proofs.DeclaredChanges.{declared_changes-by}
 use Rattle.run_text.specs.Lines.{shown_of}
 use Rattle.run_text.specs.RowKeys.{as_fed}

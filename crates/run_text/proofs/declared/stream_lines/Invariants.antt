@@ -1,5 +1,5 @@
 use Rattle.std.proofs.Common.{◌≡◌, map, take}
-use Rattle.query_meaning.specs.Plain.{rows_said}
+use Rattle.query_meaning.specs.Parts.{rows_said}
 use Rattle.run_text.specs.Lines.{shown_of}
 use Rattle.run_text.specs.RowKeys.{as_fed}
 use Rattle.run_text.proofs.declared.stream_lines.Given as goal

@@ -5,7 +5,7 @@ use Rattle.std.specs.Cmp.Lexicographic.{slice_cmp}
 use Rattle.run_text.specs.Report.{cell_cmp}
 use Rattle.run_text.proofs.rows.cmp_several.Given as goal
 
--- the values that were gone over are equal, so those that are left decide
+-- the values visited so far are equal, so the remaining ones decide
 abbrev pub invariant-loop-first : goal.invariant-loop-first
 invariant-loop-first l =
     let first = iter_rest (zip_first l.first-iterator) in

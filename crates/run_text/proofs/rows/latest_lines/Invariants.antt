@@ -5,7 +5,7 @@ use Rattle.indexmap.specs.IndexSet.{insert_all}
 use Rattle.run_text.proofs.LatestLemmas.{is_same_line}
 use Rattle.run_text.proofs.rows.latest_lines.Given as goal
 
--- the lines that are left, from the last one on, make of the set what all lines make
+-- the remaining lines, from the last one on, make the same set as all lines
 abbrev pub invariant-loop-line : goal.invariant-loop-line
 invariant-loop-line l = record {
   set : insert_all is_same_line l.latest.keys (reverse (iter_rest (rev_source l.line-iterator))) ≡ insert_all is_same_line [] (reverse l.lines);

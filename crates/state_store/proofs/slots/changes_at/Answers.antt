@@ -9,7 +9,7 @@ use Rattle.state_store.proofs.LastOfEach.{All-last_of_each}
 use Rattle.state_store.proofs.SlotLemmas.{change_of-slot, changes_of-content_of}
 use Rattle.state_store.proofs.slots.changes_at.Goals as goal
 
--- the indexes that are gone through are those of slots
+-- the indexes of the loop are those of slots
 within : (c : goal.After-get_index) → get_or c.as_slice-index-items.result.now c.loop-index.index-index 0 < length c.args.slots.now.entries
 within c =
     let P : ℕ → Type 0 = λ index. index < length c.args.slots.now.entries in

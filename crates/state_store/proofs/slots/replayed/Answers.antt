@@ -7,7 +7,7 @@ use Rattle.state_store.proofs.ReplayLemmas.{replay-numbered_more}
 use Rattle.state_store.proofs.slots.replayed.Goals as goal
 use Rattle.state_store.proofs.slots.replayed.Goals.{then-entry-number+in_ok-apply, else-entry-number}
 
--- the entry of an iteration is passed over where it has another number
+-- the entry of an iteration is skipped if it has another number
 values_more : (c : goal.Joined-entry-number) (b : Bool) → (c.entry-item.result.store == c.args.number) ≡ b → replay empty (numbered c.args.number (take (c.loop-entry.entry-index + 1) c.args.log.now)) ≡ cond b (with_value (values_in c.loop-entry.slots.entries) c.entry-item.result.key c.entry-item.result.value) (values_in c.loop-entry.slots.entries)
 values_more c b e =
     let entry = c.entry-item.result in

@@ -1,4 +1,4 @@
--- A field that is not empty has the value that it writes, where it is UTF-8.
+-- A non-empty field has the value that it spells, if it is UTF-8.
 use Rattle.std.proofs.Common.{Some, None, sym, ap, ◌∙◌, ◌==◌, length, cond}
 use Rattle.std.specs.Str.{is_utf8}
 use Rattle.std.proofs.lemmas.Bool.{cond-true, cond-false, false_from_ne_true}

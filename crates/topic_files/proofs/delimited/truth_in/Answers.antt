@@ -1,4 +1,4 @@
--- A field is like one of the two texts where it equals it in small letters.
+-- A field matches one of the two texts if it equals it in lower case.
 use Rattle.std.proofs.Common.{Bool, true, false, cond, Option, Some, None, codes, sym, ap, ap₂}
 use Rattle.topic_files.specs.Cells.{is_like}
 use Rattle.topic_files.proofs.FieldLemmas.{is_like-text}

@@ -1,4 +1,4 @@
--- Of each member in turn: where it is like the name, the lesser of it and of what was found before it.
+-- For each member in turn: if it matches the name, the lesser of it and what was found before it.
 use Rattle.std.proofs.Common.{ℕ, List, true, false, Some, Bor, option_map, sym, ap, ◌∙◌}
 use Rattle.topic_files.specs.Cells.{lesser}
 use Rattle.topic_files.specs.Tree.{named}

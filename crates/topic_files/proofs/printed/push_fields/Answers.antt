@@ -10,7 +10,7 @@ pub loop-label-init : goal.loop-label-init
 unfolding fields_of
 loop-label-init c = record { written = grind (arith, common_steps); can = (tt, tt); finite = tt }
 
--- this pair stands at the place that was reached, so its field is the next one
+-- this pair is at the place that was reached, so its field is the next one
 pub loop-label-preserved : goal.loop-label-preserved
 loop-label-preserved c =
     let turn = zip_turn c.args.labels.now c.args.row.now c.loop-label.yielded

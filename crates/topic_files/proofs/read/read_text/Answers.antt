@@ -1,4 +1,4 @@
--- The fields of an object's members are the text's, where the brace comes first and nothing follows.
+-- The fields of an object's members are the text's, if the brace comes first and nothing follows.
 use Rattle.std.proofs.Common.{◌≡◌, Some, None, option_map, sym, ap, ◌∙◌}
 use Rattle.json.specs.Json.{parse_map}
 use Rattle.topic_files.specs.LineFields.{after_begin_object, fields_in, if_read, members_within, seen}

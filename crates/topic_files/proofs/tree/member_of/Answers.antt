@@ -1,4 +1,4 @@
--- Of each member in turn, from the last: it is what is found where it has the name.
+-- For each member in turn, from the last: it is what is found if it has the name.
 use Rattle.std.proofs.Common.{◌≡◌, ◌+◌, ◌-◌, take, sym, ap, ◌∙◌, arith}
 use Rattle.serde_json.specs.Find.{get_member}
 use Rattle.topic_files.specs.Tree.{members_view}

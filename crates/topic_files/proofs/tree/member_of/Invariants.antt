@@ -3,7 +3,7 @@ use Rattle.serde_json.specs.Find.{get_member}
 use Rattle.topic_files.specs.Tree.{members_view}
 use Rattle.topic_files.proofs.tree.member_of.Given as goal
 
--- no member after those that are left has the name
+-- no member after the remaining ones has the name
 abbrev pub invariant-members : goal.invariant-members
 invariant-members l = record {
   inside : l.left ≤ length l.fn.members;

@@ -3,7 +3,7 @@ use Rattle.std.specs.Vec.Iter.{into_iter_items}
 use Rattle.topic_log.specs.Feeding.{IsThere, WillShowAll}
 use Rattle.topic_log.proofs.feeds.show_all.Given as goal
 
--- with the records that are left each partition comes to show all that stand there
+-- with the remaining records, each partition will show all records for it
 abbrev pub invariant-loop-record : goal.invariant-loop-record
 invariant-loop-record l = record {
   there : All (IsThere l.fn.topics.items) (into_iter_items l.record-iterator);

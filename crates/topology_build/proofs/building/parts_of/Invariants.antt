@@ -2,7 +2,7 @@ use Rattle.std.proofs.Common.{◌≡◌, ◌+◌, ◌*◌, ◌≤◌, ◌++◌, 
 use Rattle.topology.specs.Topologies.{cut_topics, subs, subs_of}
 use Rattle.topology_build.proofs.building.parts_of.Given as goal
 
--- what is built, and what is left to build, is what is built in all
+-- what is built so far, and what remains, is what is built in all
 abbrev pub invariant-loop-number : goal.invariant-loop-number
 invariant-loop-number l =
     let items = l.program.items in

@@ -1,5 +1,5 @@
 use Rattle.topology.specs.Topologies.{topology_of}
-use Rattle.topology_laws.proofs.SentByFeeds.{sent-by_feeds}
+use Rattle.sending_laws.proofs.SentByFeeds.{sent-by_feeds}
 use Rattle.topology_laws.proofs.laws.sends_are_by_feeds.Goals as goal
 
 pub returns : goal.returns

@@ -18,7 +18,7 @@ pub returns-clause-noted : goal.returns-clause-noted
 returns-clause-noted c =
     on_ok_weaker c.note.result (noted-itself c.args.starts.now c.note.new.starts c.args.at.now) c.note.ensures.noted
 
--- what holds where there is a place
+-- a property that holds if there is a place
 at_place : (place : Option ℕ) (P : Type 0) → true ≡ is_some place → IfSome place (λ _. P) → P
 at_place None P e h = absurd (true≢false e)
 at_place (Some n) P e h = h

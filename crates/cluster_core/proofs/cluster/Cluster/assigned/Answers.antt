@@ -3,8 +3,8 @@ use Rattle.topology.specs.Tasks.{tasks_of}
 use Rattle.assignor.specs.Rule.{assignment}
 use Rattle.assignor.specs.declared.assignment.Owned.{Owned}
 use Rattle.cluster_core.specs.Cluster.{HasCome}
-use Rattle.cluster_core.specs.Moves.{are_at, owned_of}
-use Rattle.cluster_core.specs.Progress.{after_moves, has_left}
+use Rattle.cluster_laws.specs.Moves.{are_at, owned_of}
+use Rattle.cluster_laws.specs.Progress.{after_moves, has_left}
 use Rattle.cluster_core.specs.declared.cluster.Cluster.{Cluster}
 use Rattle.cluster_core.proofs.Coming.{same-come}
 use Rattle.cluster_core.proofs.Turning.{assign-moves, ok-more}

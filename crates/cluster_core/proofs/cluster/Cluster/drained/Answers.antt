@@ -2,7 +2,7 @@ use Rattle.std.proofs.Common.{◌≡◌, ◌∙◌, ℕ, subst, sym, arith}
 use Rattle.std.specs.Prelude.{None}
 use Rattle.topology.specs.declared.topology.Topology.{Topology}
 use Rattle.cluster_core.specs.Cluster.{HasCome}
-use Rattle.cluster_core.specs.Progress.{Progress, round, rounds}
+use Rattle.cluster_laws.specs.Progress.{Progress, round, rounds}
 use Rattle.cluster_core.proofs.Numbers.{rounds-next}
 use Rattle.cluster_core.proofs.cluster.Cluster.drained.Goals as goal
 

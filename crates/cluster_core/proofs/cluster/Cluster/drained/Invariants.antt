@@ -2,10 +2,10 @@ use Rattle.std.proofs.Common.{◌≡◌, List}
 use Rattle.ksql_program.specs.Sound.{IsSound}
 use Rattle.ksql_program.specs.declared.program.Item.{Item}
 use Rattle.cluster_core.specs.Cluster.{HasCome}
-use Rattle.cluster_core.specs.Progress.{Progress, rounds}
+use Rattle.cluster_laws.specs.Progress.{Progress, rounds}
 use Rattle.cluster_core.proofs.cluster.Cluster.drained.Given as goal
 
--- the cluster after so many rounds
+-- the cluster after n rounds
 abbrev pub invariant-loop-turn : goal.invariant-loop-turn
 invariant-loop-turn l = record {
   topology : l.cluster.topology ≡ l.fn.self.topology;

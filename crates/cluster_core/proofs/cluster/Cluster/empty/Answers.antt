@@ -1,6 +1,5 @@
 -- The cluster before any worker.
 use Rattle.std.proofs.Common.{◌≡◌, ◌∙◌, ap, refl, sym, subst, length, map, List}
-use Rattle.std.specs.Prelude.{All}
 use Rattle.std.specs.List.{AllZip}
 use Rattle.ksql_program.specs.declared.program.Item.{Item}
 use Rattle.topic_files.specs.declared.topic.TopicLines.{TopicLines}
@@ -12,16 +11,15 @@ use Rattle.topic_log.specs.Shelves.{AreTopics, routes_in, shelf_of, topics_of}
 use Rattle.topic_log.specs.declared.shelves.Shelves.{Shelves}
 use Rattle.feed_laws.specs.Feeds.{sources_of}
 use Rattle.cluster_core.specs.Cluster.{IsKept}
-use Rattle.cluster_core.specs.Few.{NodesHaveFew}
-use Rattle.cluster_core.specs.Giving.{is_taker}
+use Rattle.cluster_laws.specs.Giving.{is_taker}
 use Rattle.cluster_core.specs.declared.cluster.Cluster.{Cluster}
 use Rattle.cluster_core.proofs.Opening.{opening-come}
-use Rattle.cluster_core.proofs.Topics.{are-topics}
+use Rattle.cluster_laws.proofs.Topics.{are-topics}
 use Rattle.cluster_core.proofs.cluster.Cluster.empty.Goals as goal
 
 pub new-requires : goal.new-requires
 new-requires c =
-    subst AreTopics (sym (c.items-2.ensures ∙ ap (λ (t : Topology). t.topics) c.requires.topology)) (are-topics c.args.program.now.items c.requires.sound)
+    subst AreTopics (sym (c.items.ensures ∙ ap (λ (t : Topology). t.topics) c.requires.topology)) (are-topics c.args.program.now.items c.requires.sound)
 
 pub returns : goal.returns
 returns c =
@@ -41,16 +39,15 @@ returns c =
     opening-come items c.requires.sound c.texts_are_utf8.ensures files (c.feeds_fit.ensures.begins items files c.requires.sound c.requires.files) made
     (record {
       topology = c.requires.topology;
-      few = subst (All NodesHaveFew) (c.items.ensures ∙ ap (λ (t : Topology). t.subs) c.requires.topology) c.in_ok-check_few.ensures;
       chain = c.in_ok-chain_of.ensures ∙ ap (λ (t : Topology). chain_of t.subs) c.requires.topology;
       takers =
-          let same : c.items-5.result.now ≡ (topology_of items).subs = c.items-5.ensures ∙ ap (λ (t : Topology). t.subs) c.requires.topology in
-          c.in_ok-takers_of.ensures ∙ (λ i. map (is_taker (length (c.items-4.ensures i)) (same i)) (same i));
-      topics = ap topics_of c.broker.view_is ∙ c.in_ok-broker.ensures.topics ∙ c.items-2.ensures ∙ ap (λ (t : Topology). t.topics) c.requires.topology;
+          let same : c.items-4.result.now ≡ (topology_of items).subs = c.items-4.ensures ∙ ap (λ (t : Topology). t.subs) c.requires.topology in
+          c.in_ok-takers_of.ensures ∙ (λ i. map (is_taker (length (c.items-3.ensures i)) (same i)) (same i));
+      topics = ap topics_of c.broker.view_is ∙ c.in_ok-broker.ensures.topics ∙ c.items.ensures ∙ ap (λ (t : Topology). t.topics) c.requires.topology;
       opens = subst (λ (b : Shelves). ShelfOpens (routes_in b) (shelf_of b)) (sym c.broker.view_is) c.in_ok-broker.ensures.opens;
       live = c.new-2.ensures.items;
       seats = c.new-3.ensures.items;
       rounds = refl;
       journal = c.in_ok-vec.ensures.items;
-      sources = subst (λ (is : List Item). AllZip IsKept c.in_ok-sources.sources.items (sources_of is files)) c.items-3.ensures c.in_ok-sources.ensures;
+      sources = subst (λ (is : List Item). AllZip IsKept c.in_ok-sources.sources.items (sources_of is files)) c.items-2.ensures c.in_ok-sources.ensures;
     })

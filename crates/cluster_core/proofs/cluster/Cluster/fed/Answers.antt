@@ -1,4 +1,4 @@
--- A feed: its records stand in the broker's source partitions, and the state stays good.
+-- A feed: its records are in the broker's source partitions, and the state stays good.
 use Rattle.std.proofs.Common.{◌≡◌, ◌∙◌, ap, ap₂, refl, sym, subst, ℕ, ◌+◌, ◌≤◌, List, [], ◌∷◌, ◌++◌, length, rules}
 use Rattle.std.specs.Prelude.{All, flat_map}
 use Rattle.std.specs.List.{AllByRecursion}
@@ -13,18 +13,18 @@ use Rattle.topology.specs.declared.topology.Topology.{Topology}
 use Rattle.core_state.specs.Shelf.{ShelfFeeds}
 use Rattle.core_state.specs.declared.journal.JournalEntry.TheVariants as entry
 use Rattle.topic_log.specs.Feeding.{RiseApart}
-use Rattle.topic_log.specs.Shelves.{AreTopics, IsSourcePart, routes_in, shelf_of, topics_of}
+use Rattle.topic_log.specs.Shelves.{IsSourcePart, routes_in, shelf_of, topics_of}
 use Rattle.topic_log.specs.declared.shelves.Shelves.{Shelves}
 use Rattle.feed_laws.specs.Feeds.{Source, fed_of}
 use Rattle.feed_laws.specs.Fitting.{IsSourceOf}
 use Rattle.cluster_core.specs.Cluster.{HasCome}
-use Rattle.cluster_core.specs.Progress.{Progress, taken}
+use Rattle.cluster_laws.specs.Progress.{Progress, taken}
 use Rattle.cluster_core.specs.declared.cluster.Cluster.{Cluster}
 use Rattle.cluster_core.specs.declared.sources.Source.{Source as Kept}
-use Rattle.cluster_core.proofs.Apart.{fed-apart, fed-feeds, fed-many}
+use Rattle.cluster_laws.proofs.Apart.{fed-apart, fed-feeds, fed-many}
 use Rattle.cluster_core.proofs.Feeding.{all-can-feed, feed-come, records-are, sources-are}
-use Rattle.cluster_core.proofs.SourceParts.{all-there, fed-there}
-use Rattle.cluster_core.proofs.Topics.{are-topics}
+use Rattle.cluster_laws.proofs.SourceParts.{all-there, fed-there}
+use Rattle.cluster_laws.proofs.Parts.{all-parts}
 use Rattle.cluster_core.proofs.cluster.Cluster.fed.Goals as goal
 
 -- the broker's topics are those of the program's topology
@@ -33,14 +33,6 @@ same-topics items p c come = come.topics ∙ ap (λ (t : Topology). t.topics) co
 
 each-source : (items : List Item) (p : Progress) (c : Cluster) → HasCome items p c → AllByRecursion (IsSourceOf items p.fed) p.sources
 each-source items p c come = recursion_from_All (IsSourceOf items p.fed) p.sources come.progress.sources.each
-
-pub ask_parts-requires-clause-topics : goal.ask_parts-requires-clause-topics
-ask_parts-requires-clause-topics c = c.requires.come.3.topics ∙ sym c.items.ensures
-
-pub ask_parts-requires-clause-numbered : goal.ask_parts-requires-clause-numbered
-ask_parts-requires-clause-numbered c =
-    let come = c.requires.come in
-    subst AreTopics (ap (λ (t : Topology). t.topics) (sym come.3.topology) ∙ sym c.items.ensures) (are-topics come.0 come.2)
 
 pub feed-requires-clause-rises_apart : goal.feed-requires-clause-rises_apart
 feed-requires-clause-rises_apart c =
@@ -79,7 +71,7 @@ feed-requires-clause-sources c =
     subst (λ (rs : List SourceRecord). All (λ r. IsSourcePart b r.stamp.topic r.stamp.part) rs) (sym records)
     (fed-there b (p.fed + 1) count p.sources
     (All-weaker (IsSourceOf items p.fed) (λ (s : Source). 1 ≤ s.relation.partitions) (λ s is. is.some) p.sources each)
-    (all-there items c.requires.come.2 b (same-topics items p c.args.self come) c.ask_parts.ensures p.fed p.sources each))
+    (all-there items c.requires.come.2 b (same-topics items p c.args.self come) (all-parts c.args.self.broker c.has_parts.ensures) p.fed p.sources each))
 
 pub returns : goal.returns
 returns c items p sound come =

@@ -1,11 +1,12 @@
 use Rattle.std.proofs.Common.{◌≡◌, ◌∙◌, ap, subst, List, map}
 use Rattle.std.specs.Prelude.{not}
 use Rattle.assignor.specs.declared.assignment.Owned.{Owned}
-use Rattle.cluster_core.specs.Cluster.{HasCome, idle}
-use Rattle.cluster_core.specs.Moves.{owned_of}
-use Rattle.cluster_core.specs.Progress.{after_moves, is_task}
+use Rattle.cluster_core.specs.Cluster.{HasCome}
+use Rattle.cluster_laws.specs.Tasks.{idle}
+use Rattle.cluster_laws.specs.Moves.{owned_of}
+use Rattle.cluster_laws.specs.Progress.{after_moves, is_task}
 use Rattle.cluster_core.specs.declared.cluster.Cluster.{Cluster}
-use Rattle.cluster_core.specs.declared.seats.Seat.{Seat}
+use Rattle.cluster_laws.specs.declared.seats.Seat.{Seat}
 use Rattle.cluster_core.proofs.Turning.{can-lose, ok-more}
 use Rattle.cluster_core.proofs.cluster.Cluster.losing.Goals as goal
 

@@ -4,9 +4,9 @@ use Rattle.ksql_types.specs.declared.topic.TopicSpec.{TopicSpec}
 use Rattle.core_state.specs.Routes.{routes_of}
 use Rattle.core_state.specs.declared.journal.JournalEntry.{JournalEntry}
 use Rattle.topic_log.specs.Shelves.{shelf_of}
-use Rattle.cluster_core.specs.Moves.{CanRestore, seat_notes, seated}
+use Rattle.cluster_laws.specs.Moves.{CanRestore, seat_notes, seated}
 use Rattle.cluster_core.specs.declared.cluster.Cluster.{Cluster}
-use Rattle.cluster_core.specs.declared.seats.Seat.{Seat}
+use Rattle.cluster_laws.specs.declared.seats.Seat.{Seat}
 use Rattle.cluster_core.proofs.Moving.{after-moving, leave-places, leave-ready, restore-ready}
 use Rattle.cluster_core.proofs.cluster.Cluster.moved.Goals as goal
 

@@ -5,11 +5,12 @@ use Rattle.ksql_program.specs.declared.program.Item.{Item}
 use Rattle.topic_files.specs.declared.topic.TopicLines.{TopicLines}
 use Rattle.topology.specs.Topologies.{topology_of}
 use Rattle.topology.specs.declared.topology.Topology.{Topology}
-use Rattle.cluster_core.specs.Cluster.{HasCome, idle}
-use Rattle.cluster_core.specs.Progress.{after_assignment, before_workers}
+use Rattle.cluster_core.specs.Cluster.{HasCome}
+use Rattle.cluster_laws.specs.Tasks.{idle}
+use Rattle.cluster_laws.specs.Progress.{after_assignment, before_workers}
 use Rattle.cluster_core.specs.declared.cluster.Cluster.{Cluster}
-use Rattle.cluster_core.specs.declared.seats.Seat.{Seat}
-use Rattle.cluster_core.proofs.LiveWorkers.{first-rising}
+use Rattle.cluster_laws.specs.declared.seats.Seat.{Seat}
+use Rattle.cluster_laws.proofs.LiveWorkers.{first-rising}
 use Rattle.cluster_core.proofs.Turning.{idle-live, ok-more}
 use Rattle.cluster_core.proofs.cluster.Cluster.new.Goals as goal
 

@@ -1,40 +1,30 @@
-use Rattle.std.proofs.Common.{◌∙◌, ◌+◌, ◌++◌, List, ap, map, refl, subst, sym}
+use Rattle.std.proofs.Common.{◌∙◌, ◌+◌, ◌++◌, List, ap, map, refl}
 use Rattle.std.specs.Prelude.{flat_map}
-use Rattle.topology.specs.declared.topology.Topology.{Topology}
 use Rattle.core_state.specs.declared.journal.JournalEntry.{JournalEntry}
-use Rattle.topic_log.specs.Shelves.{AreTopics}
-use Rattle.cluster_core.specs.Rounds.{noted, offered}
+use Rattle.cluster_laws.specs.Rounds.{noted, offered}
 use Rattle.cluster_core.specs.declared.cluster.Cluster.{Cluster}
-use Rattle.cluster_core.specs.declared.rounds.Ran.{Ran}
+use Rattle.cluster_laws.specs.declared.seats.Ran.{Ran}
 use Rattle.cluster_core.proofs.Ready.{after-round, all-went, can-go, commit-apart, commit-ready}
-use Rattle.cluster_core.proofs.Topics.{are-topics}
+use Rattle.cluster_laws.proofs.Parts.{all-parts}
 use Rattle.cluster_core.proofs.cluster.Cluster.round.Goals as goal
-
-pub ask_parts-requires-clause-topics : goal.ask_parts-requires-clause-topics
-ask_parts-requires-clause-topics c = c.requires.come.3.topics ∙ sym c.items.ensures
-
-pub ask_parts-requires-clause-numbered : goal.ask_parts-requires-clause-numbered
-ask_parts-requires-clause-numbered c =
-    let come = c.requires.come in
-    subst AreTopics (ap (λ (t : Topology). t.topics) (sym come.3.topology) ∙ sym c.items.ensures) (are-topics come.0 come.2)
 
 pub advance_all-requires : goal.advance_all-requires
 advance_all-requires c =
     let come = c.requires.come in
-    (come.3.gone, can-go come.0 come.1 c.args.self come.2 come.3 c.as_slice.result.now c.as_slice.ensures.value c.ask_parts.ensures)
+    (come.3.gone, can-go come.0 come.1 c.args.self come.2 come.3 c.as_slice.result.now c.as_slice.ensures.value (all-parts c.args.self.broker c.has_parts.ensures))
 
 pub commit_all-requires-clause-each : goal.commit_all-requires-clause-each
 commit_all-requires-clause-each c =
     let come = c.requires.come in
     commit-ready come.0 come.1 c.args.self come.2 come.3 c.args.lost c.advance_all.new.broker c.in_ok-rans.ensures.topics c.in_ok-rans.rans.items
-    (all-went come.0 come.1 c.args.self come.2 come.3 c.as_slice.result.now c.as_slice.ensures.value c.ask_parts.ensures c.args.lost c.advance_all.new.broker c.in_ok-rans.rans.items
+    (all-went come.0 come.1 c.args.self come.2 come.3 c.as_slice.result.now c.as_slice.ensures.value (all-parts c.args.self.broker c.has_parts.ensures) c.args.lost c.advance_all.new.broker c.in_ok-rans.rans.items
     c.in_ok-rans.ensures.ran)
 
 pub commit_all-requires-clause-apart : goal.commit_all-requires-clause-apart
 commit_all-requires-clause-apart c =
     let come = c.requires.come in
     commit-apart come.0 come.1 c.args.self come.2 come.3 c.args.lost c.advance_all.new.broker c.in_ok-rans.ensures.topics c.in_ok-rans.rans.items
-    (all-went come.0 come.1 c.args.self come.2 come.3 c.as_slice.result.now c.as_slice.ensures.value c.ask_parts.ensures c.args.lost c.advance_all.new.broker c.in_ok-rans.rans.items
+    (all-went come.0 come.1 c.args.self come.2 come.3 c.as_slice.result.now c.as_slice.ensures.value (all-parts c.args.self.broker c.has_parts.ensures) c.args.lost c.advance_all.new.broker c.in_ok-rans.rans.items
     c.in_ok-rans.ensures.ran)
 
 pub returns-clause-next : goal.returns-clause-next
@@ -54,7 +44,7 @@ returns-clause-next c items p sound h =
     } in
     after-round items p old sound h c.args.lost c.advance_all.new.broker rans next
     (record {
-      has = all-went items p old sound h c.as_slice.result.now c.as_slice.ensures.value c.ask_parts.ensures c.args.lost c.advance_all.new.broker rans c.in_ok-rans.ensures.ran;
+      has = all-went items p old sound h c.as_slice.result.now c.as_slice.ensures.value (all-parts c.args.self.broker c.has_parts.ensures) c.args.lost c.advance_all.new.broker rans c.in_ok-rans.ensures.ran;
       topics_mid = c.in_ok-rans.ensures.topics;
       settled = c.in_ok-seats.ensures.settled;
       seats = c.in_ok-seats.ensures.seats;

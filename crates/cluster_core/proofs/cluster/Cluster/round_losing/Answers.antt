@@ -2,7 +2,7 @@ use Rattle.std.proofs.Common.{subst, sym, ℕ}
 use Rattle.std.specs.Prelude.{Option}
 use Rattle.topology.specs.declared.topology.Topology.{Topology}
 use Rattle.cluster_core.specs.Cluster.{HasCome}
-use Rattle.cluster_core.specs.Progress.{after_assignment, after_loss, round, without_worker}
+use Rattle.cluster_laws.specs.Progress.{after_assignment, after_loss, round, without_worker}
 use Rattle.cluster_core.proofs.Turning.{ok-more}
 use Rattle.cluster_core.proofs.cluster.Cluster.round_losing.Goals as goal
 

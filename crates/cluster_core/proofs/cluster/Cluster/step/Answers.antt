@@ -3,7 +3,7 @@ use Rattle.std.proofs.Common.{◌∷◌, ◌++◌, [], refl, subst, sym}
 use Rattle.topology.specs.declared.schedule.Step.{Step}
 use Rattle.core_state.specs.declared.journal.JournalEntry.TheVariants as entry
 use Rattle.cluster_core.specs.Cluster.{HasCome}
-use Rattle.cluster_core.specs.Progress.{Progress, after_step, feed, taken}
+use Rattle.cluster_laws.specs.Progress.{Progress, after_step, feed, taken}
 use Rattle.cluster_core.proofs.Turning.{begun, ok-more}
 use Rattle.cluster_core.proofs.cluster.Cluster.step.Goals as goal
 

@@ -1,10 +1,11 @@
 use Rattle.std.proofs.Common.{◌∙◌, ap, subst, sym, ℕ, List, map}
 use Rattle.std.specs.List.Sorted.{IsStrictlyIncreasing}
-use Rattle.cluster_core.specs.Cluster.{HasCome, idle}
-use Rattle.cluster_core.specs.Progress.{after_assignment, without_worker}
+use Rattle.cluster_core.specs.Cluster.{HasCome}
+use Rattle.cluster_laws.specs.Tasks.{idle}
+use Rattle.cluster_laws.specs.Progress.{after_assignment, without_worker}
 use Rattle.cluster_core.specs.declared.cluster.Cluster.{Cluster}
-use Rattle.cluster_core.specs.declared.seats.Seat.{Seat}
-use Rattle.cluster_core.proofs.LiveWorkers.{without-rising}
+use Rattle.cluster_laws.specs.declared.seats.Seat.{Seat}
+use Rattle.cluster_laws.proofs.LiveWorkers.{without-rising}
 use Rattle.cluster_core.proofs.Turning.{idle-live, ok-more}
 use Rattle.cluster_core.proofs.cluster.Cluster.without.Goals as goal
 

@@ -25,7 +25,7 @@ use Rattle.ksql_parser.proofs.Selects.{front_begins, items_there, source_there, 
 use Rattle.ksql_parser.proofs.statement.queries.read_front.Goals as goal
 use Rattle.ksql_parser.proofs.statement.queries.read_front.Goals.{In_ok-items, In_ok-source, In_ok-join}
 
--- the items that stand there are those that were read
+-- the items that are there are those that were read
 items_read : (c : In_ok-items) (f : Front) (rest : List Symbol) (d : SpellsFront f c.args.symbols.now rest) → (f.items ≡ c.in_ok-items.items) × (Key key.From ∷ d.1 ≡ c.in_ok-items.rest.now)
 items_read c f rest d =
     same_read (c.in_ok-items.items, c.in_ok-items.rest) f.items (Key key.From ∷ d.1)

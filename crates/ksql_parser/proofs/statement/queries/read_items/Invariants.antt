@@ -2,7 +2,7 @@ use Rattle.std.proofs.Common.{length}
 use Rattle.ksql_parser.proofs.Items.{FrontSpelled, FrontOnly}
 use Rattle.ksql_parser.proofs.statement.queries.read_items.Given as goal
 
--- what was read so far stands before what is spelled from here on
+-- what was read so far, followed by what is spelled from here on
 abbrev pub invariant-loop-items : goal.invariant-loop-items
 invariant-loop-items l = record {
   spelled : FrontSpelled l.items.items l.rest l.symbols;

@@ -8,7 +8,7 @@ use Rattle.ksql_types.specs.Catalog.{is_taken, AreNamed, IsCatalog}
 use Rattle.ksql_types.proofs.CatalogLemmas.{insert_entry-free, values-push, AreNamed-push, IsCatalog-push}
 use Rattle.ksql_types.proofs.catalog.Catalog.add.Goals as goal
 
--- a relation that is inserted under its own name, which nobody has, stands last
+-- a relation inserted under its own name, which is new, comes last
 last : (es after : List (List ℕ × Relation)) (name : List ℕ) (r : Relation) → AreNamed es → is_taken r.name r.topic (values_of es) ≡ false → name ≡ r.name → after ≡ insert_entry bytes_eq es name r → after ≡ es ++ (r.name, r) ∷ []
 last es after name r named free same e =
     e ∙ ap (λ n. insert_entry bytes_eq es n r) same ∙ insert_entry-free r es named free

@@ -4,7 +4,7 @@ use Rattle.std.proofs.lemmas.List.{append-nil, map-append}
 use Rattle.ksql_types.specs.declared.relation.Kind.TheVariants.{Table}
 use Rattle.ksql_types.specs.declared.value.Value.{Value}
 use Rattle.ksql_place.specs.declared.change.Body.TheVariants.{Turned}
-use Rattle.query_meaning.specs.Plain.{said_to}
+use Rattle.query_meaning.specs.Parts.{said_to}
 use Rattle.run_text.specs.Lines.{shown_of}
 use Rattle.run_text.specs.Printed.{Shown}
 use Rattle.run_text.proofs.TableLemmas.{change_by, is_some-lent, lines-more, row_before, row_brought-said, row_keys-more, said_to-table, shown_by}

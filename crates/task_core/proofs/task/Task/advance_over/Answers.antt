@@ -13,7 +13,7 @@ use Rattle.task_core.proofs.Only.{only-is}
 use Rattle.task_core.proofs.task.Task.advance_over.Goals as goal
 use Rattle.task_core.proofs.task.Task.advance_over.Goals.{After-reader_over-reader}
 
--- the reader is over what the task is to go over, up to the feed up to which its input is closed
+-- the reader is over what the task is to process, up to the feed up to which its input is closed
 over : (c : After-reader_over-reader) →
     (c.bound_of-bound.result ≡ bound_of (routes_in c.args.broker.now) (showing (map Said c.args.changes.items) (shelf_of c.args.broker.now)) c.args.self)
     × (pending c.reader_over-reader.result ≡ next_entries (routes_in c.args.broker.now) (showing (map Said c.args.changes.items) (shelf_of c.args.broker.now)) c.args.self)

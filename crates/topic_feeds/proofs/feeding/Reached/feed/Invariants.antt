@@ -6,7 +6,7 @@ use Rattle.topic_feeds.specs.Reaching.{Reaches}
 use Rattle.topic_feeds.proofs.Reaching.{IsFed}
 use Rattle.topic_feeds.proofs.feeding.Reached.feed.Given as goal
 
--- the records of the feed so far stand after those that were there before
+-- the records of the feed so far come after those from before
 abbrev pub invariant-loop-fed : goal.invariant-loop-fed
 invariant-loop-fed l =
     let since = drop (length l.fn.records.items) l.records.items in

@@ -4,7 +4,7 @@ use Rattle.topology.specs.declared.stage.Stage.{Stage}
 use Rattle.topology.specs.Topologies.{subs_from, topics_from}
 use Rattle.topology_build.proofs.building.Parts.push_stages.Given as goal
 
--- what is pushed, and what is left to push, is what is pushed in all
+-- what is appended so far, and what remains, is what is appended in all
 abbrev pub invariant-loop-stage : goal.invariant-loop-stage
 invariant-loop-stage l =
     let n = l.numbering in

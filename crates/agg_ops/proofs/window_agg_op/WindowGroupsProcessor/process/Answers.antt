@@ -1,0 +1,13 @@
+use Rattle.std.proofs.lemmas.Result.{on_ok_weaker}
+use Rattle.ksql_nodes.specs.Entries.{Entry}
+use Rattle.agg_ops.proofs.WindowHeld.{windows-next}
+use Rattle.agg_ops.proofs.window_agg_op.WindowGroupsProcessor.process.Goals as goal
+
+pub returns-clause-next : goal.returns-clause-next
+returns-clause-next c =
+    let old = c.self.inside in
+    let e : Entry = record { side = c.args._side; change = c.args.change } in
+    rw (← c.self.view_is)
+    (on_ok_weaker c.give.result
+    (λ next. windows-next c.items-aggs.result.now old.aggs old.window old.kept c.give.new.windows c.args.out.now.items c.give.new.out.items e c.items-aggs.ensures (next c.args._side))
+    c.give.ensures.next)

@@ -1,7 +1,0 @@
-use Rattle.std.proofs.Common.{◌≡◌, map, take}
-use Rattle.ksql_nodes.specs.Aggregates.{arguments, entered}
-use Rattle.node_steps.specs.Steps.{entry_of}
-use Rattle.node_steps.proofs.group_changes.entered.Given as goal
-
-abbrev pub invariant-loop-entry : goal.invariant-loop-entry
-invariant-loop-entry l = l.values.items ≡ arguments l.arg (entered (map entry_of (take l.entry-index l.entries)))

@@ -1,0 +1,10 @@
+pub mod Draining
+pub mod Owning
+pub mod Finishing
+pub mod DrainWorkers
+pub mod Feeding
+pub mod Alike
+pub mod Commands
+pub mod Workers
+pub mod Demo
+pub mod Demos

@@ -1,0 +1,15 @@
+pub mod GroupStages
+pub mod ItemLists
+pub mod KeyColumns
+pub mod ColumnValues
+pub mod SubContents
+pub mod Numbering
+pub mod SentByFeeds
+pub mod SentSizes
+pub mod SentTypes
+pub mod SentShapes
+pub mod CutNames
+pub mod StageColumns
+pub mod SentColumns
+pub mod Paths
+pub mod SubOrder

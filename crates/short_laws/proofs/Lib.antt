@@ -1,0 +1,4 @@
+pub mod Texts
+pub mod ShortValues
+pub mod WindowSpans
+pub mod ShortChanges

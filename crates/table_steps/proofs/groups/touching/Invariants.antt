@@ -1,7 +1,0 @@
-use Rattle.std.proofs.Common.{◌≡◌, map, take}
-use Rattle.node_steps.specs.Steps.{entry_of}
-use Rattle.table_steps.specs.Grouping.{lent, view_touching}
-use Rattle.table_steps.proofs.groups.touching.Given as goal
-
-abbrev pub invariant-loop-entry : goal.invariant-loop-entry
-invariant-loop-entry l = map entry_of l.mine.items ≡ view_touching l.group (map lent (take l.entry-index l.entries))

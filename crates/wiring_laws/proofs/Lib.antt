@@ -1,0 +1,9 @@
+pub mod Given
+pub mod Members
+pub mod Writers
+pub mod Wirings
+pub mod Steps
+pub mod LinkReads
+pub mod SubReads
+pub mod SubTopics
+pub mod Taking
