@@ -14,6 +14,7 @@ use Rattle.ksql_nodes.specs.Entries.{Entry, latest_time}
 use Rattle.ksql_nodes.specs.Nodes.{gives}
 use Rattle.ksql_nodes.specs.Windows.{timed, windowed, with_times}
 use Rattle.state_store.specs.Store.{replay, numbered, with_value, IsBase, Values}
+use Rattle.operator.specs.Front.{IsFront}
 use Rattle.operator.specs.Holding.{maps_of, nothing, unwritten, in_store, is_of_time, replayed, time_after, Held, IsBaseOf, IsWindowEntry, Maps}
 use Rattle.operator.specs.StandsFor.{StandsFor}
 use Rattle.operator.proofs.Fresh.{none}
@@ -38,14 +39,16 @@ IsNextOf aggs w old new before after e =
     (es : List Entry) → old.time ≡ latest_time es → HoldsWindows aggs w old.content.map old.time es →
     (after ≡ before ++ windowed Stream aggs w (with_times 1 es) (timed 1 es e)) × (new.time ≡ latest_time (es ++ e ∷ [])) × HoldsWindows aggs w new.content.map new.time (es ++ e ∷ [])
 
+stands-holds : (aggs : List Agg) (w : Window) (windows : Windows) (es : List Entry) → StandsFor (Aggregate Stream aggs (Some w)) (held_of windows) es → HoldsWindows aggs w windows.content.map windows.time es
+stands-holds aggs w windows es s =
+    let late : latest_time es ≤ latest_time es = omega arith in
+    subst (λ (time : ℕ). HoldsWindows aggs w windows.content.map time es) (sym s.exact.time) (record { keys = s.spelled.0; spelled = s.spelled.1; windows = s.exact.windows; late = late })
+
 next-of : (aggs : List Agg) (w : Window) (old new : Windows) (before after : List Change) (e : Entry) → IsNextOf aggs w old new before after e → (es : List Entry) →
     StandsFor (Aggregate Stream aggs (Some w)) (held_of old) es → (after ≡ before ++ gives 1 (Aggregate Stream aggs (Some w)) es e) × StandsFor (Aggregate Stream aggs (Some w)) (held_of new) (es ++ e ∷ [])
 unfolding gives
 next-of aggs w old new before after e is es s =
-    let late : latest_time es ≤ latest_time es = omega arith in
-    let holds : HoldsWindows aggs w old.content.map old.time es =
-    subst (λ (time : ℕ). HoldsWindows aggs w old.content.map time es) (sym s.exact.time) (record { keys = s.spelled.0; spelled = s.spelled.1; windows = s.exact.windows; late = late }) in
-    let next = is es s.exact.time holds in
+    let next = is es s.exact.time (stands-holds aggs w old es s) in
     let now = subst (λ (time : ℕ). HoldsWindows aggs w new.content.map time (es ++ e ∷ [])) next.1 next.2 in (
       next.0,
       record {
@@ -58,6 +61,21 @@ next-of aggs w old new before after e is es s =
 pub windows-next : (lent aggs : List Agg) (w : Window) (old new : Windows) (before after : List Change) (e : Entry) → lent ≡ aggs → IsNextOf lent w old new before after e → (es : List Entry) →
     StandsFor (Aggregate Stream aggs (Some w)) (held_of old) es → (after ≡ before ++ gives 1 (Aggregate Stream aggs (Some w)) es e) × StandsFor (Aggregate Stream aggs (Some w)) (held_of new) (es ++ e ∷ [])
 windows-next lent aggs w old new before after e same is = next-of aggs w old new before after e (subst (λ (aggs : List Agg). IsNextOf aggs w old new before after e) same is)
+
+-- what a step that ran out of memory says: these changes are a front of what it gives
+abbrev IsFrontFor : List Agg → Window → Windows → List Change → Entry → Type 0
+IsFrontFor aggs w old some e =
+    (es : List Entry) → old.time ≡ latest_time es → HoldsWindows aggs w old.content.map old.time es → IsFront some (windowed Stream aggs w (with_times 1 es) (timed 1 es e))
+
+front-for : (aggs : List Agg) (w : Window) (old : Windows) (some : List Change) (e : Entry) → IsFrontFor aggs w old some e → (es : List Entry) → StandsFor (Aggregate Stream aggs (Some w)) (held_of old) es →
+    IsFront some (gives 1 (Aggregate Stream aggs (Some w)) es e)
+unfolding gives
+front-for aggs w old some e is es s = is es s.exact.time (stands-holds aggs w old es s)
+
+-- the same, where the step had equal aggregates
+pub windows-front : (lent aggs : List Agg) (w : Window) (old : Windows) (some : List Change) (e : Entry) → lent ≡ aggs → IsFrontFor lent w old some e → (es : List Entry) →
+    StandsFor (Aggregate Stream aggs (Some w)) (held_of old) es → IsFront some (gives 1 (Aggregate Stream aggs (Some w)) es e)
+windows-front lent aggs w old some e same is = front-for aggs w old some e (subst (λ (aggs : List Agg). IsFrontFor aggs w old some e) same is)
 
 -- ---- the changelog, under the number 2
 

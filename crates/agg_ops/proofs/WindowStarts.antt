@@ -6,7 +6,6 @@ use Rattle.std.proofs.lemmas.Bool.{and_parts}
 use Rattle.std.proofs.lemmas.Bool.Decides.{Decides-eqb, nat_tests}
 use Rattle.std.proofs.lemmas.List.{length-append}
 use Rattle.std.proofs.lemmas.Nat.{from_be_bytes-to_be_bytes_8}
-use Rattle.std.proofs.lemmas.Option.{some_pair_parts}
 use Rattle.std.proofs.lemmas.Slice.Eq.{bytes_eq-Decides}
 use Rattle.std.specs.Cmp.Derive.{both_true}
 use Rattle.std.specs.Int.{w64, from_be_bytes}
@@ -19,8 +18,7 @@ use Rattle.ksql_types.specs.declared.value.Value.{Value}
 use Rattle.ksql_nodes.specs.Entries.{Entry}
 use Rattle.ksql_nodes.specs.Windows.{is_same_span, windows_of}
 use Rattle.record_codec.specs.Spelling.{eight, values, IsSpellableRow}
-use Rattle.record_codec.specs.Reading.{row_at}
-use Rattle.record_codec.proofs.Parts.{reads-row}
+use Rattle.record_codec.proofs.Parts.{values-apart}
 use Rattle.agg_ops.specs.Totals.{is_sound_window}
 use Rattle.window_store.specs.Windows.{under, start_of}
 
@@ -110,7 +108,7 @@ bytes-start b key m n lm ln em en =
 -- keys and starts with the same bytes are the same
 pub under-apart : (a b : List Value) (m n : ℕ) → IsSpellableRow a → IsSpellableRow b → m < 2 ^ 64 → n < 2 ^ 64 → under (values a) m ≡ under (values b) n → (a ≡ b) × (m ≡ n)
 under-apart a b m n ha hb lm ln e =
-    let p = some_pair_parts a b (eight m) (eight n) (sym (reads-row.only a (eight m) ha) ∙ ap row_at e ∙ reads-row.only b (eight n) hb) in
+    let p = values-apart a b (eight m) (eight n) ha hb e in
     (p.0, sym (eight-read m lm) ∙ ap (from_be_bytes w64) p.1 ∙ eight-read n ln)
 
 -- ---- one of some spans

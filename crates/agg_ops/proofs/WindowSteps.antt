@@ -3,7 +3,7 @@ use Rattle.std.proofs.Common.{◌≡◌, ◌∙◌, ap, ap₂, refl, sym, subst,
 use Rattle.std.specs.Prelude.{Option, Some, IfSome, IsTrue, nat_lt, option_map, unwrap_or}
 use Rattle.std.specs.FinMap.{get, insert}
 use Rattle.std.specs.List.{enumerate_from}
-use Rattle.std.proofs.lemmas.List.{append-nil, length-take, take_more, take-append-drop}
+use Rattle.std.proofs.lemmas.List.{append-nil, append_cancel_left, length-take, take_more, take-append-drop}
 use Rattle.std.proofs.lemmas.Grind.{flat_map-append}
 use Rattle.ksql_types.specs.declared.relation.Kind.TheVariants.{Stream}
 use Rattle.ksql_types.specs.declared.relation.Span.{Span}
@@ -14,9 +14,10 @@ use Rattle.ksql_program.specs.declared.query.Agg.{Agg}
 use Rattle.ksql_nodes.specs.Aggregates.{group_change}
 use Rattle.ksql_nodes.specs.Entries.{Entry, latest_time}
 use Rattle.ksql_nodes.specs.Rows.{at_path}
-use Rattle.ksql_nodes.specs.Windows.{added, timed, window_change, windows_of, with_times}
+use Rattle.ksql_nodes.specs.Windows.{added, timed, window_change, windowed, windows_of, with_times}
 use Rattle.record_codec.specs.Spelling.{AreSpellable, values}
 use Rattle.state_store.specs.Store.{Values}
+use Rattle.operator.specs.Front.{IsFront}
 use Rattle.operator.specs.Kept.{totals}
 use Rattle.window_store.specs.Windows.{under}
 use Rattle.agg_ops.specs.Totals.{changed, is_sound_window, next_totals}
@@ -42,10 +43,29 @@ added-along aggs w m n time now es e spans old mid new map at out h =
     subst (λ (m : Values). IsAddedTo aggs w m now es e spans old new) (sym map)
     (subst (λ (time : ℕ). IsAddedTo aggs w m time es e spans old new) (sym at) (subst (λ (mid : List Change). IsAddedTo aggs w m time es e spans old mid) (sym out) h))
 
-enumerate-more : {A : Type 0} (n : ℕ) (xs : List A) (x : A) → enumerate_from n (xs ++ x ∷ []) ≡ enumerate_from n xs ++ (n + length xs, x) ∷ []
-enumerate-more n [] x = ap (λ (i : ℕ). (i, x) ∷ []) (omega arith)
-enumerate-more n (y ∷ xs) x =
-    ap (λ rest. (n, y) ∷ rest) (enumerate-more (n + 1) xs x ∙ ap (λ (i : ℕ). enumerate_from (n + 1) xs ++ (i, x) ∷ []) (omega arith))
+enumerate-append : {A : Type 0} (n : ℕ) (xs ys : List A) → enumerate_from n (xs ++ ys) ≡ enumerate_from n xs ++ enumerate_from (n + length xs) ys
+enumerate-append n [] ys = ap (λ (i : ℕ). enumerate_from i ys) (omega arith)
+enumerate-append n (x ∷ xs) ys =
+    ap (λ rest. (n, x) ∷ rest) (enumerate-append (n + 1) xs ys ∙ ap (λ (i : ℕ). enumerate_from (n + 1) xs ++ enumerate_from i ys) (omega arith))
+
+-- the changes of the first windows are a front of those of all windows
+pub first-given : (aggs : List Agg) (w : Window) (es : List Entry) (e : Entry) (spans : List Span) (i : ℕ) → IsFront (given_of aggs w es e (take i spans)) (given_of aggs w es e spans)
+first-given aggs w es e spans i =
+    let change = window_change Stream aggs w (with_times 1 es) (timed 1 es e) in
+    let firsts = take i spans in
+    let others = enumerate_from (0 + length firsts) (drop i spans) in (
+      flat_map change others,
+      sym (flat_map-append change (enumerate_from 0 firsts) others) ∙ ap (flat_map change) (sym (enumerate-append 0 firsts (drop i spans)))
+          ∙ ap (given_of aggs w es e) (take-append-drop i spans),
+    )
+
+-- so is what was added for them
+pub added-front : (aggs : List Agg) (w : Window) (es : List Entry) (e : Entry) (spans : List Span) (i : ℕ) (some old mid : List Change) → spans ≡ windows_of w e.change.time → mid ≡ old ++ some →
+    mid ≡ old ++ given_of aggs w es e (take i spans) → IsFront some (windowed Stream aggs w (with_times 1 es) (timed 1 es e))
+added-front aggs w es e spans i some old mid all out given =
+    let front = first-given aggs w es e spans i in
+    let same : some ≡ given_of aggs w es e (take i spans) = append_cancel_left old some (given_of aggs w es e (take i spans)) (sym out ∙ given) in
+    (front.0, ap (λ (some : List Change). some ++ front.0) same ∙ front.1 ∙ ap (given_of aggs w es e) all)
 
 -- the change of the window with these bytes, whatever was kept of it
 abbrev pub IsTurnOf : List Agg → Change → List ℕ → ℕ → Span → Values → Values → Change → Type 0
@@ -81,7 +101,7 @@ module _ (aggs : List Agg) (w : Window) (time : ℕ) (es : List Entry) (e : Entr
   given-more =
       let change = window_change Stream aggs w (with_times 1 es) (timed 1 es e) in
       let long : 0 + length (take i spans) ≡ i = omega (arith, length-take i spans) in
-      ap (λ (spans : List Span). given_of aggs w es e spans) front ∙ ap (flat_map change) (enumerate-more 0 (take i spans) s)
+      ap (λ (spans : List Span). given_of aggs w es e spans) front ∙ ap (flat_map change) (enumerate-append 0 (take i spans) (s ∷ []))
       ∙ flat_map-append change (enumerate_from 0 (take i spans)) ((0 + length (take i spans), s) ∷ [])
       ∙ ap (λ (j : ℕ). given_of aggs w es e (take i spans) ++ (change (j, s) ++ [])) long
       ∙ ap (λ (made : List Change). given_of aggs w es e (take i spans) ++ made) (append-nil (change (i, s)))

@@ -10,6 +10,7 @@ ghost use Rattle.ksql_nodes.specs.Rows.{at_path};
 ghost use Rattle.ksql_nodes.specs.Windows.{timed, windowed, with_times};
 ghost use Rattle.state_store.specs.Store.{Values, IsBase};
 ghost use Rattle.record_codec.specs.Spelling.{values, AreSpellable, IsShort};
+ghost use Rattle.operator.specs.Front.{IsFront};
 ghost use Rattle.operator.specs.Holding.{nothing};
 ghost use Rattle.operator.specs.Storable.{HasShortArguments};
 ghost use Rattle.window_store.specs.Windows.{IsWindowKey};
@@ -95,7 +96,8 @@ impl StoredProcessor for WindowGroups {
     }
 }
 
-/// Adds a change to those of its windows that are still open by stream time, and gives the change of each.
+/// Adds a change to those of its windows that are still open by stream time, and gives the change of each. After an error
+/// `out` has what it had, perhaps followed by the changes of the first windows.
 fn give(
     windows: &mut WStore,
     alloc: Global,
@@ -118,7 +120,10 @@ fn give(
     ensures size { windows.new.size ≡ windows.old.size }
     ensures later { windows.old.time ≤ windows.new.time }
     ensures base { (base : Values) → IsBase base windows.old.content → IsBase base windows.new.content }
-    ensures out { OnErr result ((some : List OneChange) × (out.new.items ≡ out.old.items ++ some)) }
+    ensures out { OnErr result ((some : List OneChange) × (out.new.items ≡ out.old.items ++ some)
+        × ((side : ℕ) (es : List Entry) → windows.old.time ≡ latest_time es → HoldsWindows aggs.now window windows.old.content.map windows.old.time es →
+        let e : Entry = record { side = side; change = change.now } in
+        IsFront some (windowed kinds.Stream aggs.now window (with_times 1 es) (timed 1 es e)))) }
 {
     windows.advance_time(change.time);
     windows.expire(alloc, windows.time().saturating_sub(window.grace))?;

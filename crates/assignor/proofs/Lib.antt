@@ -5,3 +5,4 @@ pub mod Counts
 pub mod Shares
 pub mod Whole
 pub mod Keeping
+pub mod OneAssignment

@@ -8,22 +8,27 @@ use Rattle.std.proofs.lemmas.Bool.Decides.{nat_tests}
 use Rattle.ksql_types.specs.declared.relation.TaskName.{TaskName}
 use Rattle.assignor.specs.declared.assignment.Owned.{Owned}
 use Rattle.assignor.specs.declared.assignment.Share.{Share}
-use Rattle.assignor.specs.Rule.{how_many, is_live, tasks_of, first_pass, is_before, first_of_both, with_fewest, second_pass, owned_at, owner_of, kept_of, share_of, assignment, kept_place}
-use Rattle.assignor.specs.Laws.{count_of, IsWhole, IsBalanced}
+use Rattle.assignor.specs.Rule.{how_many, is_live, tasks_of, first_pass, is_before, first_of_both, with_fewest, second_pass, owned_at, IsLightest, owner_of, kept_of, share_of, assignment, kept_place, count_of}
+use Rattle.assignor.specs.Laws.{IsWhole, IsBalanced}
 use Rattle.assignor.proofs.LoadLemmas.{how_many-append, how_many-le, tasks_of-at}
 use Rattle.assignor.proofs.Counts.{Distinct, Distinct-ascending, same_from_test, or_left, or_right, or_cases, and_parts, bool_cases, test_of_same, total-each, total-add, is_sound, total-placed, total-fewer, total-least}
 use Rattle.assignor.proofs.Shares.{Fits, HasRoom, list_all-append, and_both, fits-more, fits-first_pass, fits-none}
 
--- no live worker has fewer tasks
-pub record IsFewest (places : List (Option ℕ)) (live : List ℕ) (w : ℕ) : Type 0 where
-  pub live_too : is_live live w ≡ true
-  pub least : (v : ℕ) → is_live live v ≡ true → tasks_of w places ≤ tasks_of v places
+-- the worker with the fewest tasks, of several the one with the smallest number
+abbrev pub IsFewest : List (Option ℕ) → List ℕ → ℕ → Type 0
+IsFewest places live w = IsLightest live (λ v. tasks_of v places) w
 
 before_fewer : (a b x y : ℕ) → (nat_lt a b || (a == b && nat_lt x y)) ≡ true → a ≤ b
 before_fewer a b x y e = grind (arith, nat_tests)
 
 after_more : (a b x y : ℕ) → (nat_lt a b || (a == b && nat_lt x y)) ≡ false → b ≤ a
 after_more a b x y e = grind (arith, nat_tests)
+
+before_smaller : (a b x y : ℕ) → (nat_lt a b || (a == b && nat_lt x y)) ≡ true → b ≡ a → x ≤ y
+before_smaller a b x y e same = grind (arith, nat_tests)
+
+after_greater : (a b x y : ℕ) → (nat_lt a b || (a == b && nat_lt x y)) ≡ false → a ≡ b → y ≤ x
+after_greater a b x y e same = grind (arith, nat_tests)
 
 pub below : (a b : ℕ) → nat_lt a b ≡ true → a < b
 below a b e = grind (arith, nat_tests)
@@ -33,9 +38,13 @@ not_below a b e = grind (arith, nat_tests)
 
 fewest_alone : (places : List (Option ℕ)) (x : ℕ) (xs : List ℕ) → xs ≡ [] → IsFewest places (x ∷ xs) x
 fewest_alone places x xs alone = record {
-  live_too = or_left (x == x) (is_live xs x) (test_of_same x);
-  least = λ v live_too. elim (or_cases (x == v) (is_live xs v) live_too) [
+  is_there = or_left (x == x) (is_live xs x) (test_of_same x);
+  fewest = λ v live_too. elim (or_cases (x == v) (is_live xs v) live_too) [
     | inl same ↦ (let e : tasks_of x places ≡ tasks_of v places = ap (λ (u : ℕ). tasks_of u places) (same_from_test x v same) in omega (arith, e))
+    | inr there ↦ absurd (let e : false ≡ true = ap (λ (ws : List ℕ). is_live ws v) (sym alone) ∙ there in cc (e))
+  ];
+  first = λ v live_too as_few. elim (or_cases (x == v) (is_live xs v) live_too) [
+    | inl same ↦ (let e = same_from_test x v same in omega (arith, e))
     | inr there ↦ absurd (let e : false ≡ true = ap (λ (ws : List ℕ). is_live ws v) (sym alone) ∙ there in cc (e))
   ];
 }
@@ -55,10 +64,17 @@ with_fewest-is places (x ∷ xs) = elim (with_fewest-is places xs) [
           w,
           found ∙ ap (λ (b : Bool). Some (if b then w else x)) first,
           record {
-            live_too = or_right (x == w) (is_live xs w) fewest.live_too;
-            least = λ v live_too. elim (or_cases (x == v) (is_live xs v) live_too) [
+            is_there = or_right (x == w) (is_live xs w) fewest.is_there;
+            fewest = λ v live_too. elim (or_cases (x == v) (is_live xs v) live_too) [
               | inl same ↦ (let e : tasks_of x places ≡ tasks_of v places = ap (λ (u : ℕ). tasks_of u places) (same_from_test x v same) in let le = before_fewer (tasks_of w places) (tasks_of x places) w x first in omega (arith, e, le))
-              | inr there ↦ fewest.least v there
+              | inr there ↦ fewest.fewest v there
+            ];
+            first = λ v live_too as_few. elim (or_cases (x == v) (is_live xs v) live_too) [
+              | inl same ↦
+                  (let at = same_from_test x v same in
+                  let e : tasks_of x places ≡ tasks_of v places = ap (λ (u : ℕ). tasks_of u places) at in
+                  let le = before_smaller (tasks_of w places) (tasks_of x places) w x first (e ∙ as_few) in omega (arith, at, le))
+              | inr there ↦ fewest.first v there as_few
             ];
           },
         )
@@ -66,10 +82,19 @@ with_fewest-is places (x ∷ xs) = elim (with_fewest-is places xs) [
           x,
           found ∙ ap (λ (b : Bool). Some (if b then w else x)) later,
           record {
-            live_too = or_left (x == x) (is_live xs x) (test_of_same x);
-            least = λ v live_too. elim (or_cases (x == v) (is_live xs v) live_too) [
+            is_there = or_left (x == x) (is_live xs x) (test_of_same x);
+            fewest = λ v live_too. elim (or_cases (x == v) (is_live xs v) live_too) [
               | inl same ↦ (let e : tasks_of x places ≡ tasks_of v places = ap (λ (u : ℕ). tasks_of u places) (same_from_test x v same) in omega (arith, e))
-              | inr there ↦ (let le = after_more (tasks_of w places) (tasks_of x places) w x later in let rest = fewest.least v there in omega (arith, le, rest))
+              | inr there ↦ (let le = after_more (tasks_of w places) (tasks_of x places) w x later in let rest = fewest.fewest v there in omega (arith, le, rest))
+            ];
+            first = λ v live_too as_few. elim (or_cases (x == v) (is_live xs v) live_too) [
+              | inl same ↦ (let e = same_from_test x v same in omega (arith, e))
+              | inr there ↦
+                  (let le = after_more (tasks_of w places) (tasks_of x places) w x later in
+                  let rest = fewest.fewest v there in
+                  let even : tasks_of w places ≡ tasks_of x places = omega (arith, le, rest, as_few) in
+                  let greater = after_greater (tasks_of w places) (tasks_of x places) w x later even in
+                  let first = fewest.first v there (as_few ∙ sym even) in omega (arith, greater, first))
             ];
           },
         )
@@ -82,7 +107,7 @@ pub record IsShare (share : Share) (live : List ℕ) (count : ℕ) : Type 0 wher
   pub some : share.extra < length live
 
 -- while a task is set aside the worker with the fewest has room
-room_fewest : (share : Share) (live : List ℕ) (places : List (Option ℕ)) (count w : ℕ) → IsShare share live count → Distinct live → Fits share live places → IsFewest places live w → how_many is_some places < count → HasRoom share live places w
+pub room_fewest : (share : Share) (live : List ℕ) (places : List (Option ℕ)) (count w : ℕ) → IsShare share live count → Distinct live → Fits share live places → IsFewest places live w → how_many is_some places < count → HasRoom share live places w
 room_fewest share live places count w shared distinct fits fewest few =
     let sum = total-placed live places distinct fits.sound in
     let all = shared.all in let some = shared.some in
@@ -91,11 +116,11 @@ room_fewest share live places count w shared distinct fits fewest few =
       | inr over ↦
           (let least = not_below (tasks_of w places) share.low over in
           let low = total-each share.low live in
-          let tops = total-least (λ v. tasks_of v places) share.low live (λ v live_too. let more = fewest.least v live_too in omega (arith, least, more)) in
+          let tops = total-least (λ v. tasks_of v places) share.low live (λ v live_too. let more = fewest.fewest v live_too in omega (arith, least, more)) in
           let exactly : tasks_of w places ≡ share.low = elim (bool_cases (nat_lt share.low (tasks_of w places))) [
             | inl above ↦ absurd
                 (let more = below share.low (tasks_of w places) above in
-                let tall = total-least (λ v. tasks_of v places) (share.low + 1) live (λ v live_too. let least_too = fewest.least v live_too in omega (arith, more, least_too)) in
+                let tall = total-least (λ v. tasks_of v places) (share.low + 1) live (λ v live_too. let least_too = fewest.fewest v live_too in omega (arith, more, least_too)) in
                 let split = total-add (λ v. share.low) (λ v. 1) live in
                 let ones = total-each 1 live in
                 omega (arith, tall, split, ones, low, sum, few, all, some))
@@ -110,7 +135,7 @@ pub record Final (share : Share) (live : List ℕ) (count : ℕ) (places : List 
   pub full : how_many is_some places ≡ length places
   pub length : length places ≡ count
 
-sound-at : (live : List ℕ) (before rest : List (Option ℕ)) (w : ℕ) → list_all (is_sound live) (before ++ None ∷ rest) ≡ true → is_live live w ≡ true → list_all (is_sound live) (before ++ Some w ∷ rest) ≡ true
+pub sound-at : (live : List ℕ) (before rest : List (Option ℕ)) (w : ℕ) → list_all (is_sound live) (before ++ None ∷ rest) ≡ true → is_live live w ≡ true → list_all (is_sound live) (before ++ Some w ∷ rest) ≡ true
 sound-at live before rest w sound live_too =
     let parts = and_parts (list_all (is_sound live) before) (list_all (is_sound live) rest) (sym (list_all-append (is_sound live) before (None ∷ rest)) ∙ sound) in
     list_all-append (is_sound live) before (Some w ∷ rest) ∙ and_both (list_all (is_sound live) before) (is_live live w && list_all (is_sound live) rest) parts.0 (and_both (is_live live w) (list_all (is_sound live) rest) live_too parts.1)
@@ -118,7 +143,7 @@ sound-at live before rest w sound live_too =
 pub full-end : (before : List (Option ℕ)) (w : ℕ) → how_many is_some before ≡ length before → how_many is_some (before ++ Some w ∷ []) ≡ length (before ++ Some w ∷ [])
 full-end before w full = let a = how_many-append is_some before (Some w ∷ []) in let b = length-append before (Some w ∷ []) in omega (arith, a, b, full)
 
-few-aside : (before rest : List (Option ℕ)) → how_many is_some (before ++ None ∷ rest) < length (before ++ None ∷ rest)
+pub few-aside : (before rest : List (Option ℕ)) → how_many is_some (before ++ None ∷ rest) < length (before ++ None ∷ rest)
 few-aside before rest =
     let a = how_many-append is_some before (None ∷ rest) in let b = length-append before (None ∷ rest) in
     let front = how_many-le is_some before in let back = how_many-le is_some rest in omega (arith, a, b, front, back)
@@ -142,7 +167,7 @@ second_pass-final share live count before (None ∷ rest) shared distinct full f
       let few = few-aside before rest in
       let room = room_fewest share live (before ++ None ∷ rest) count w shared distinct fits found.2 (omega (arith, few, same)) in
       let more : Fits share live (before ++ Some w ∷ rest) =
-      fits-more share live (before ++ None ∷ rest) (before ++ Some w ∷ rest) w distinct fits found.2.live_too room (λ v. tasks_of-at v w before rest) (sound-at live before rest w fits.sound found.2.live_too) in
+      fits-more share live (before ++ None ∷ rest) (before ++ Some w ∷ rest) w distinct fits found.2.is_there room (λ v. tasks_of-at v w before rest) (sound-at live before rest w fits.sound found.2.is_there) in
       let as_long : length (before ++ Some w ∷ rest) ≡ count = length-append before (Some w ∷ rest) ∙ sym (length-append before (None ∷ rest)) ∙ same in
       subst (λ (place : Option ℕ). Final share live count (second_pass live (before ++ place ∷ []) rest)) (sym found.1)
       (second_pass-final share live count (before ++ Some w ∷ []) rest shared distinct (full-end before w full) (subst (Fits share live) grouped more) (ap length (sym grouped) ∙ as_long)))

@@ -1,13 +1,9 @@
 -- What the assignment rule achieves.
-use Rattle.std.specs.Prelude.{◌≡◌, ℕ, ◌+◌, ◌≤◌, List, [], map, take, slice_get, ◌==◌, IsTrue, Option, Some}
+use Rattle.std.specs.Prelude.{◌≡◌, ℕ, ◌+◌, ◌≤◌, List, [], map, take, slice_get, IsTrue, Option, Some}
 use Rattle.std.specs.List.{list_all}
 use Rattle.ksql_types.specs.declared.relation.TaskName.{TaskName}
 use Rattle.assignor.specs.declared.assignment.Owned.{Owned}
-use Rattle.assignor.specs.Rule.{how_many, owner_of, is_live, is_with, first_pass, share_of}
-
--- how many of the tasks a worker has
-abbrev pub count_of : ℕ → List Owned → ℕ
-count_of worker made = how_many (λ owned. owned.worker == worker) made
+use Rattle.assignor.specs.Rule.{count_of, how_many, owner_of, is_live, is_with, first_pass, share_of}
 
 -- each task has exactly one owner, and it is live
 abbrev pub IsWhole : List ℕ → List TaskName → List Owned → Type 0

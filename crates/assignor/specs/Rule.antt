@@ -1,9 +1,8 @@
--- The assignment rule. A place says where a task is while the rule runs: with a worker, or set aside (None).
-use Rattle.std.specs.Prelude.{ℕ, ◌+◌, ◌/◌, ◌%◌, List, [], ◌∷◌, ◌++◌, length, map, Bool, false, ◌==◌, nat_lt, ◌&&◌, ◌||◌, if◌then◌else◌, Option, None, Some}
+-- The assignment of tasks to the live workers, given who owned them before: what it is (`IsAssignment`), and how it is
+-- found (`assignment`).
+use Rattle.std.specs.Prelude.{◌≡◌, ◌≢◌, ◌⊎◌, ◌↔◌, ℕ, ◌+◌, ◌/◌, ◌%◌, ◌<◌, ◌≤◌, List, [], ◌∷◌, ◌++◌, length, map, take, drop, slice_get, Bool, false, IsTrue, ◌==◌, nat_lt, ◌&&◌, ◌||◌, if◌then◌else◌, Option, None, Some}
 use Rattle.std.specs.List.{list_any}
 use Rattle.std.specs.Option.{option_or}
-use Rattle.std.specs.declared.cmp.Ordering.{Ordering}
-use Rattle.std.specs.Ordering.{nat_cmp, ordering_then}
 use Rattle.ksql_types.specs.declared.relation.TaskName.{TaskName}
 use Rattle.assignor.specs.declared.assignment.Owned.{Owned}
 use Rattle.assignor.specs.declared.assignment.Share.{Share}
@@ -23,10 +22,64 @@ owner_of (owned ∷ rest) task =
 abbrev pub is_live : List ℕ → ℕ → Bool
 is_live live worker = list_any (λ other. other == worker) live
 
--- whether a place is with the worker
+-- whether the worker is the one of an owner or a place, if any
 abbrev pub is_with : ℕ → Option ℕ → Bool
 is_with worker None = false
 is_with worker (Some other) = other == worker
+
+-- each worker's share: the tasks divided by the live workers, and the remainder
+abbrev pub share_of : List ℕ → List TaskName → Share
+share_of live tasks = record { low = length tasks / length live; extra = length tasks % length live }
+
+-- ---- what an assignment is
+
+-- how many of the tasks a worker has
+abbrev pub count_of : ℕ → List Owned → ℕ
+count_of worker made = how_many (λ owned. owned.worker == worker) made
+
+-- whether a task stays with the worker that had it
+abbrev pub has_stayed : List Owned → Owned → Bool
+has_stayed previous owned = is_with owned.worker (owner_of previous owned.task)
+
+-- how many of the tasks stay with a worker
+abbrev pub kept_by : List Owned → List Owned → ℕ → ℕ
+kept_by previous made worker = how_many (λ owned. owned.worker == worker && has_stayed previous owned) made
+
+-- a worker may keep one more task than the ones before: of these fewer than `low` stay with it, or exactly `low` do while
+-- fewer than `extra` live workers keep low + 1 of them
+abbrev pub CanKeep : Share → List Owned → List ℕ → List Owned → ℕ → Type 0
+CanKeep share previous live before worker =
+    (kept_by previous before worker < share.low)
+    ⊎ ((kept_by previous before worker ≡ share.low)
+    × (how_many (λ other. kept_by previous before other == share.low + 1) live < share.extra))
+
+-- how many tasks a worker has when the task at an index is placed: the ones before it, and of the others those that stay
+abbrev pub load_at : List Owned → List Owned → ℕ → ℕ → ℕ
+load_at previous made i worker = count_of worker (take i made) + kept_by previous (drop i made) worker
+
+-- the live worker with the smallest load, of several the one with the smallest number
+pub record IsLightest (live : List ℕ) (load : ℕ → ℕ) (worker : ℕ) : Type 0 where
+  -- it is live
+  pub is_there : IsTrue (is_live live worker)
+  -- no live worker has a smaller load
+  pub fewest : (other : ℕ) → IsTrue (is_live live other) → load worker ≤ load other
+  -- no live worker with this load has a smaller number
+  pub first : (other : ℕ) → IsTrue (is_live live other) → load other ≡ load worker → worker ≤ other
+
+-- the tasks are assigned to the live workers, given who owned them before
+pub record IsAssignment (previous : List Owned) (live : List ℕ) (tasks : List TaskName) (made : List Owned) : Type 0 where
+  -- without a live worker no task has an owner
+  pub none : live ≡ [] → made ≡ []
+  -- else each task has one owner, in the order of the tasks
+  pub each : live ≢ [] → map (λ owned. owned.task) made ≡ tasks
+  -- a task stays with the worker that had it exactly if that one is live and may keep one more
+  pub stays : (i worker : ℕ) (owned : Owned) → slice_get made i ≡ Some owned → owner_of previous owned.task ≡ Some worker →
+      owned.worker ≡ worker ↔ (IsTrue (is_live live worker) × CanKeep (share_of live tasks) previous live (take i made) worker)
+  -- any other task goes to the live worker with the fewest tasks at that moment
+  pub goes : (i : ℕ) (owned : Owned) → slice_get made i ≡ Some owned → has_stayed previous owned ≡ false →
+      IsLightest live (load_at previous made i) owned.worker
+
+-- ---- how it is found: a place says where a task is meanwhile, with a worker or set aside (None)
 
 -- how many tasks a worker has
 abbrev pub tasks_of : ℕ → List (Option ℕ) → ℕ
@@ -35,10 +88,6 @@ tasks_of worker places = how_many (is_with worker) places
 -- how many live workers have exactly this many tasks
 abbrev pub workers_with : ℕ → List ℕ → List (Option ℕ) → ℕ
 workers_with count live places = how_many (λ worker. tasks_of worker places == count) live
-
--- each worker's share: the tasks divided by the live workers, and the remainder
-abbrev pub share_of : List ℕ → List TaskName → Share
-share_of live tasks = record { low = length tasks / length live; extra = length tasks % length live }
 
 -- whether a worker may keep one more task: so far it has kept fewer than `low`, or exactly `low` while fewer than
 -- `extra` workers have kept low + 1
@@ -91,7 +140,8 @@ owned_at (task ∷ tasks) (Some worker ∷ places) = record { task = task; worke
 abbrev pub kept_of : List Owned → List ℕ → List TaskName → List (Option ℕ)
 kept_of previous live tasks = first_pass (share_of live tasks) live [] (map (owner_of previous) tasks)
 
--- the assignment of the tasks to the live workers, given the previous one; without live workers no task has an owner
+-- the assignment of the tasks to the live workers, given the previous one: if the live workers ascend, the one and only
+-- `IsAssignment` (the law `one_assignment`). Without live workers no task has an owner
 abbrev pub assignment : List Owned → List ℕ → List TaskName → List Owned
 assignment previous [] tasks = []
 assignment previous live tasks = owned_at tasks (second_pass live [] (kept_of previous live tasks))

@@ -1,5 +1,6 @@
 ghost use Rattle.std.specs.Prelude.{◌≡◌, IfOk};
-ghost use Rattle.assignor.specs.Rule.{assignment, owned_at};
+ghost use Rattle.std.specs.List.Sorted.{IsStrictlyIncreasing};
+ghost use Rattle.assignor.specs.Rule.{assignment, owned_at, IsAssignment};
 
 use crate::assignment::{Assignment, Owned, Share};
 use crate::places::{first_pass, second_pass};
@@ -15,7 +16,8 @@ pub fn assign(
     live: &[u32],
     tasks: &[TaskName],
 ) -> Result<Assignment, AllocError>
-    ensures { IfOk result (λ made. made ≡ assignment previous.now live.now tasks.now) }
+    ensures value { IfOk result (λ made. made ≡ assignment previous.now live.now tasks.now) }
+    ensures assigned { IfOk result (λ made. IsStrictlyIncreasing live.now → IsAssignment previous.now live.now tasks.now made) }
 {
     if live.is_empty() {
         return Ok(Items::of(Vec::new(alloc)));

@@ -3,8 +3,14 @@ ghost use Rattle.std.specs.Prelude.{◌≡◌, ◌≢◌, ℕ, ◌≤◌, [], Li
 ghost use Rattle.std.specs.List.Sorted.{IsStrictlyIncreasing};
 ghost use Rattle.ksql_types.specs.declared.relation.TaskName.{TaskName};
 ghost use Rattle.assignor.specs.declared.assignment.Owned.{Owned};
-ghost use Rattle.assignor.specs.Rule.{assignment, may_keep, share_of};
+ghost use Rattle.assignor.specs.Rule.{assignment, may_keep, share_of, IsAssignment};
 ghost use Rattle.assignor.specs.Laws.{had_of, kept_before, HadAt, IsBalanced, IsWhole, Keeps};
+
+/// There is one assignment of tasks to live workers, given who owned them before: the one that the passes find.
+pub fn one_assignment()
+    ensures is { (previous : List Owned) (live : List ℕ) (tasks : List TaskName) → IsStrictlyIncreasing live → IsAssignment previous live tasks (assignment previous live tasks) }
+    ensures only { (previous : List Owned) (live : List ℕ) (tasks : List TaskName) (made other : List Owned) → IsAssignment previous live tasks made → IsAssignment previous live tasks other → made ≡ other }
+{}
 
 /// If a worker is live, each task has exactly one owner, and it is live.
 pub fn each_task_owned()

@@ -10,4 +10,4 @@ mod previous;
 
 pub use assigning::assign;
 pub use assignment::{Assignment, Owned};
-pub use laws::{balanced, each_task_owned, keeps_all, stays_within_share};
+pub use laws::{balanced, each_task_owned, keeps_all, one_assignment, stays_within_share};

@@ -9,7 +9,7 @@ use Rattle.ksql_nodes.specs.Entries.{Entry}
 use Rattle.meaning_laws.proofs.Lists.{Pairwise}
 use Rattle.topology.specs.Tasks.{tasks_of}
 use Rattle.topology.specs.Topologies.{subs, topology_of}
-use Rattle.core_state.specs.Events.{Runs}
+use Rattle.core_state.specs.Events.{Happens, Runs, advance}
 use Rattle.core_state.specs.Good.{Good}
 use Rattle.core_state.specs.Routes.{Routes}
 use Rattle.core_state.specs.Shelf.{Shelf}
@@ -22,7 +22,7 @@ use Rattle.task_core.specs.Tasks.{IsProposedBy, IsSameTask, TaskView, bound_of, 
 use Rattle.task_core.specs.declared.task.Moved.{Moved}
 use Rattle.feed_laws.specs.Fitting.{Fits}
 use Rattle.cluster_laws.specs.Tasks.{IsTaskIn, idle, instance_in, instance_of}
-use Rattle.cluster_laws.specs.Rounds.{IsAdvanced}
+use Rattle.task_core.specs.Advancing.{IsAdvanced}
 use Rattle.cluster_core.proofs.Advancing.{bound-same, in-topology, is, shown, takes-same, within}
 use Rattle.cluster_laws.proofs.Lists.{all-instead, map-instead}
 use Rattle.cluster_laws.proofs.Names.{AreApart}
@@ -62,20 +62,36 @@ module _ (items : List Item) (order : List SourceRecord) (sound : IsSound items)
         next-here items order sound fits b front (idle task) back run next same.name
         ∙ (λ i. Some (record { generation = same.generation i; done = done_is i; stores = next.task.maps; proposal = offers i }))
 
-    good : Good (top items order sound fits) (d items order sound fits) (on_shelf b (front ++ next ∷ back))
-    good =
-        advance-keeps (top items order sound fits) (d items order sound fits) (means items order sound fits) task.name
-        (is items order sound fits b front task back run)
-        (on_shelf b (front ++ idle task ∷ back)) (on_shelf b (front ++ next ∷ back)) run.good
-        (advanced (top items order sound fits) (means items order sound fits).writes task.name (is items order sound fits b front task back run)
+    event : Happens (top items order sound fits) (advance task.name) (on_shelf b (front ++ idle task ∷ back)) (on_shelf b (front ++ next ∷ back))
+    event =
+        advanced (top items order sound fits) (means items order sound fits).writes task.name (is items order sound fits b front task back run)
         (parts_of b (front ++ idle task ∷ back)) (parts_of b (front ++ next ∷ back))
         (same-else items order sound fits b front (idle task) back run next b same.name)
         (instance_of (idle task)) next.task.maps p (here items order sound fits b front (idle task) back run)
         (newest items order sound fits b front (idle task) back run) refl proposed.generation proposed.from rises
-        (proposed.to ∙ bound-same items order sound fits b front task back run) runs refl made refl).1
+        (proposed.to ∙ bound-same items order sound fits b front task back run) runs refl made refl
+
+    good : Good (top items order sound fits) (d items order sound fits) (on_shelf b (front ++ next ∷ back))
+    good =
+        advance-keeps (top items order sound fits) (d items order sound fits) (means items order sound fits) task.name
+        (is items order sound fits b front task back run)
+        (on_shelf b (front ++ idle task ∷ back)) (on_shelf b (front ++ next ∷ back)) run.good event.1
 
   -- the state stays good
   module _ (has : IsAdvanced routes b task next) where
+    -- a task that proposes nothing waits as before
+    pub still-waits : next.proposal ≡ None → idle task ≡ next
+    still-waits none =
+        let still : next.task ≡ task = subst (λ (o : Option Proposal). IfNone o (next.task ≡ task)) none has.still in
+        λ i. record { task = sym still i; proposal = sym none i }
+
+    -- and that a task processed what the broker has, and proposes this, is an event of the core
+    pub advance-happens : (p : Proposal) → next.proposal ≡ Some p →
+        Happens (top items order sound fits) (advance task.name) (on_shelf b (front ++ idle task ∷ back)) (on_shelf b (front ++ next ∷ back))
+    advance-happens p offers =
+        event p offers has.same has.done (ap is_none (sym offers) ∙ has.none)
+        (subst (λ (o : Option Proposal). IfSome o (IsProposedBy routes b task next.task)) offers has.proposal)
+
     good-next : Good (top items order sound fits) (d items order sound fits) (on_shelf b (front ++ next ∷ back))
     good-next = by next.proposal refl has.none has.still has.proposal
       where

@@ -33,7 +33,8 @@ use Rattle.core_laws.proofs.StageNodes.{task-stores}
 use Rattle.wiring_laws.proofs.SubReads.{ReadsIn}
 use Rattle.feed_laws.specs.Fitting.{Fits}
 use Rattle.cluster_laws.specs.Tasks.{IsTaskIn, idle}
-use Rattle.cluster_laws.specs.Rounds.{CanAdvance, HasParts, count_at}
+use Rattle.task_core.specs.Advancing.{CanAdvance}
+use Rattle.cluster_laws.specs.Rounds.{HasParts, count_at}
 use Rattle.cluster_laws.proofs.Inputs.{ReadsAlike, subs-alike}
 use Rattle.cluster_laws.proofs.Reading.{inputs-are, part-within, reads-in, reads-same, sub-at}
 use Rattle.cluster_laws.proofs.Running.{on_shelf}

@@ -1,5 +1,5 @@
 -- A cluster that has come so far: the tasks that run on its broker, and its numbers.
-use Rattle.std.proofs.Common.{◌≡◌, ◌∙◌, ap, refl, sym, subst, ℕ, ◌<◌, List, [], ◌∷◌, length, map, inl, inr}
+use Rattle.std.proofs.Common.{◌≡◌, ◌∙◌, ap, refl, sym, subst, ℕ, List, [], ◌∷◌, map, inl, inr}
 use Rattle.std.proofs.lemmas.List.Elements.{All-contains_itself, All-from_recursion, recursion_from_All}
 use Rattle.std.specs.Prelude.{All, Contains}
 use Rattle.std.specs.List.{AllByRecursion, AllZip}
@@ -14,7 +14,6 @@ use Rattle.sending_laws.proofs.Paths.{holds-of}
 use Rattle.core_state.specs.Good.{Good}
 use Rattle.core_state.specs.declared.journal.JournalEntry.{JournalEntry}
 use Rattle.short_laws.specs.Short.{HoldTexts}
-use Rattle.topic_log.specs.Giving.{with_gone}
 use Rattle.topic_log.specs.Shelves.{shelf_of, topics_of}
 use Rattle.topic_log.specs.declared.shelves.Shelves.{Shelves}
 use Rattle.task_core.specs.Core.{core_of}
@@ -23,8 +22,7 @@ use Rattle.task_core.specs.declared.task.Moved.{Moved}
 use Rattle.core_laws.specs.Core.{meaning_in_core}
 use Rattle.assignor.specs.declared.assignment.Owned.{Owned}
 use Rattle.cluster_core.specs.Cluster.{HasComeWith, IsKept, IsProgress}
-use Rattle.cluster_laws.specs.Tasks.{IsOwned, IsRead, IsTaskIn, core_state_of, idle}
-use Rattle.cluster_laws.specs.Giving.{Gone, is_taker}
+use Rattle.cluster_laws.specs.Tasks.{IsOwned, IsTaskIn, core_state_of, idle}
 use Rattle.cluster_laws.specs.Moves.{owned_of}
 use Rattle.cluster_laws.specs.Progress.{Progress}
 use Rattle.cluster_core.specs.declared.cluster.Cluster.{Cluster}
@@ -71,7 +69,7 @@ module _ (items : List Item) (p : Progress) (ms : List Moved) (c : Cluster) wher
     of-tasks P all = all-mapped P (λ (m : Moved). m.task) ms (subst (AllByRecursion P) (sym h.running) (All-map P (λ (s : Seat). s.task) c.seats.items all))
 
     -- the tasks of a cluster run
-    pub running-of : AreRunning items p.order (with_gone h.gone (shelf_of c.broker)) ms
+    pub running-of : AreRunning items p.order (shelf_of c.broker) ms
     running-of = record {
       apart = subst (Pairwise AreApart) (sym names-come) (owned-apart items p.owners h.progress.owned);
       among = all-mapped (Contains (tasks_of (subs items))) (λ (m : Moved). m.task.name) ms
@@ -81,7 +79,7 @@ module _ (items : List Item) (p : Progress) (ms : List Moved) (c : Cluster) wher
       named = recursion_from_All IsNamed ms h.named;
       newest = of-tasks (λ (t : TaskView). t.generation ≡ (shelf_of c.broker).newest t.name)
           (recursion_from_All (λ (s : Seat). s.task.generation ≡ (shelf_of c.broker).newest s.task.name) c.seats.items h.instances);
-      good = subst (λ (t : Topology). Good (core_of t) (meaning_in_core items p.order) (core_state_of h.gone c.broker ms)) h.topology h.good;
+      good = subst (λ (t : Topology). Good (core_of t) (meaning_in_core items p.order) (core_state_of c.broker ms)) h.topology h.good;
     }
 
     at-tasks : (P : TaskName → Type 0) → All P (tasks_of c.topology.subs) → (u : TaskName) → Contains (tasks_of (subs items)) u → P u
@@ -94,14 +92,6 @@ module _ (items : List Item) (p : Progress) (ms : List Moved) (c : Cluster) wher
 
     pub newest-come : (u : TaskName) → Contains (tasks_of (subs items)) u → (shelf_of c.broker).newest u ≡ p.newest u
     newest-come = at-tasks (λ u. (shelf_of c.broker).newest u ≡ p.newest u) h.newest
-
-    -- what the broker handed over of what a task reads
-    pub read-come : (u : TaskName) → Contains (tasks_of (subs items)) u → IsRead (topology_of items) h.gone (shelf_of c.broker) u
-    read-come u among =
-        subst (λ (t : Topology). IsRead t h.gone (shelf_of c.broker) u) h.topology (at-tasks (IsRead c.topology h.gone (shelf_of c.broker)) h.read u among)
-
-    pub takers-come : c.takers.items ≡ map (is_taker (length items) (subs items)) (subs items)
-    takers-come = h.takers ∙ ap (λ (t : Topology). map (is_taker (length items) t.subs) t.subs) h.topology
 
     pub topics-come : topics_of c.broker ≡ (topology_of items).topics
     topics-come = h.topics ∙ ap (λ (t : Topology). t.topics) h.topology
@@ -125,11 +115,7 @@ module _ (items : List Item) (p : Progress) (ms : List Moved) (c : Cluster) wher
     pub live : c.live.items ≡ p.live
     pub owners : map owned_of c.seats.items ≡ p.owners
     pub running : map (λ (m : Moved). m.task) ms ≡ map (λ (s : Seat). s.task) c.seats.items
-    pub takers : c.takers.items ≡ map (is_taker (length items) (subs items)) (subs items)
-    pub gone : Gone
-    pub whole : (topic q : ℕ) → topic < length items → gone topic q ≡ []
-    pub read : (u : TaskName) → Contains (tasks_of (subs items)) u → IsRead (topology_of items) gone (shelf_of c.broker) u
-    pub run : AreRunning items p.order (with_gone gone (shelf_of c.broker)) ms
+    pub run : AreRunning items p.order (shelf_of c.broker) ms
     pub fed : c.broker.fed ≡ p.fed
     pub newest : (u : TaskName) → Contains (tasks_of (subs items)) u → (shelf_of c.broker).newest u ≡ p.newest u
     pub done : (u : TaskName) → Contains (tasks_of (subs items)) u → (shelf_of c.broker).done u ≡ p.done u
@@ -152,11 +138,7 @@ module _ (items : List Item) (p : Progress) (ms : List Moved) (c : Cluster) wher
         (subst (λ (t : Topology). AllByRecursion (λ (s : Seat). IsTaskIn t s.task) c.seats.items) (sym is.topology) (from-tasks (IsTaskIn (topology_of items)) is.run.tasks));
     instances = All-from_recursion (λ (s : Seat). s.task.generation ≡ (shelf_of c.broker).newest s.task.name) c.seats.items
         (from-tasks (λ (t : TaskView). t.generation ≡ (shelf_of c.broker).newest t.name) is.run.newest);
-    takers = is.takers ∙ sym (ap (λ (t : Topology). map (is_taker (length items) t.subs) t.subs) is.topology);
-    gone = is.gone;
-    whole = is.whole;
-    read = subst (λ (t : Topology). All (IsRead t is.gone (shelf_of c.broker)) (tasks_of t.subs)) (sym is.topology) (to-tasks (IsRead (topology_of items) is.gone (shelf_of c.broker)) is.read);
-    good = subst (λ (t : Topology). Good (core_of t) (meaning_in_core items p.order) (core_state_of is.gone c.broker ms)) (sym is.topology) is.run.good;
+    good = subst (λ (t : Topology). Good (core_of t) (meaning_in_core items p.order) (core_state_of c.broker ms)) (sym is.topology) is.run.good;
     fed = is.fed;
     newest = subst (λ (t : Topology). All (λ u. (shelf_of c.broker).newest u ≡ p.newest u) (tasks_of t.subs)) (sym is.topology) (to-tasks (λ u. (shelf_of c.broker).newest u ≡ p.newest u) is.newest);
     done = subst (λ (t : Topology). All (λ u. (shelf_of c.broker).done u ≡ p.done u) (tasks_of t.subs)) (sym is.topology) (to-tasks (λ u. (shelf_of c.broker).done u ≡ p.done u) is.done);
@@ -174,7 +156,6 @@ module _ (items : List Item) (p : Progress) (ms : List Moved) (c : Cluster) wher
 pub record IsSameBut (live : List ℕ) (journal : List JournalEntry) (c next : Cluster) : Type 0 where
   pub topology : next.topology ≡ c.topology
   pub chain : next.chain ≡ c.chain
-  pub takers : next.takers.items ≡ c.takers.items
   pub broker : next.broker ≡ c.broker
   pub these : next.live.items ≡ live
   pub seats : next.seats.items ≡ c.seats.items
@@ -194,11 +175,7 @@ same-come items p ms c next live journal is rises h =
       live = is.these;
       owners = ap (map owned_of) is.seats ∙ h.owners;
       running = h.running ∙ sym (ap (map (λ (s : Seat). s.task)) is.seats);
-      takers = is.takers ∙ takers-come items p ms c h;
-      gone = h.gone;
-      whole = h.whole;
-      read = λ u among. subst (λ (b : Shelves). IsRead (topology_of items) h.gone (shelf_of b) u) (sym is.broker) (read-come items p ms c h u among);
-      run = subst (λ (b : Shelves). AreRunning items p.order (with_gone h.gone (shelf_of b)) ms) (sym is.broker) (running-of items p ms c h);
+      run = subst (λ (b : Shelves). AreRunning items p.order (shelf_of b) ms) (sym is.broker) (running-of items p ms c h);
       fed = ap (λ (b : Shelves). b.fed) is.broker ∙ h.fed;
       newest = λ u among. ap (λ (b : Shelves). (shelf_of b).newest u) is.broker ∙ newest-come items p ms c h u among;
       done = λ u among. ap (λ (b : Shelves). (shelf_of b).done u) is.broker ∙ done-come items p ms c h u among;

@@ -9,32 +9,28 @@ use Rattle.ksql_program.specs.declared.program.Item.{Item}
 use Rattle.meaning_laws.proofs.Lists.{All-weaker}
 use Rattle.topology.specs.Tasks.{chain_of, tasks_of}
 use Rattle.topology.specs.Topologies.{topology_of}
-use Rattle.topology.specs.declared.topology.SubInput.{SubInput}
 use Rattle.topology.specs.declared.topology.Topology.{Topology}
 use Rattle.core_state.proofs.Lifting.{fed}
-use Rattle.core_state.specs.Events.{feed as fed_event}
+use Rattle.core_state.specs.Events.{Happens, feed as fed_event}
 use Rattle.core_state.specs.Routes.{routes_of}
 use Rattle.core_state.specs.Shelf.{Shelf, ShelfFeeds}
 use Rattle.core_state.specs.declared.journal.JournalEntry.TheVariants as entry
 use Rattle.core_laws.proofs.Fitting.{keeps-good}
 use Rattle.wiring_laws.proofs.Wirings.{wired-well}
-use Rattle.topic_log.specs.Giving.{with_gone}
 use Rattle.topic_log.specs.Shelves.{routes_in, shelf_of, topics_of}
-use Rattle.task_core.specs.Core.{core_of, inputs_at}
+use Rattle.task_core.specs.Core.{core_of}
 use Rattle.task_core.specs.declared.task.Moved.{Moved}
 use Rattle.feed_laws.specs.Feeds.{Source, after_feed, fed_of, records_of}
 use Rattle.feed_laws.specs.Fitting.{AreSourcesOf, Fits, IsSourceOf}
-use Rattle.cluster_core.specs.Cluster.{HasCome, HasComeWith, IsKept, IsProgress}
+use Rattle.cluster_core.specs.Cluster.{HasCome, HasComeWith, HasHappened, IsKept, IsProgress}
 use Rattle.cluster_laws.specs.Tasks.{idle}
-use Rattle.cluster_laws.specs.Giving.{IsReadUpTo}
 use Rattle.cluster_laws.specs.Moves.{owned_of}
 use Rattle.cluster_laws.specs.Progress.{Progress, feed}
 use Rattle.cluster_laws.specs.Feeding.{CanFeed}
 use Rattle.cluster_core.specs.declared.cluster.Cluster.{Cluster}
 use Rattle.cluster_laws.specs.declared.seats.Seat.{Seat}
 use Rattle.cluster_core.specs.declared.sources.Source.{Source as Kept}
-use Rattle.cluster_core.proofs.Coming.{come-of, done-come, idle-tasks, newest-come, read-come, running-of, takers-come, topics-come}
-use Rattle.cluster_laws.proofs.Gone.{feeds-gone}
+use Rattle.cluster_core.proofs.Coming.{come-of, done-come, idle-tasks, newest-come, running-of, topics-come}
 use Rattle.cluster_laws.proofs.Running.{on_shelf, parts_of}
 use Rattle.cluster_core.proofs.Tasks.{AreRunning, IsNewest}
 
@@ -93,6 +89,12 @@ module _ (items : List Item) (p : Progress) (count : Source → ℕ) (come : IsP
     abbrev t : Topology
     t = topology_of items
 
+    -- the feed is an event of the core
+    feed-happens : (b next : Shelf) (ms : List Moved) → b.fed ≡ p.fed → ShelfFeeds (routes_of t.topics) records b next → Happens (core_of t) (fed_event records) (on_shelf b ms) (on_shelf next ms)
+    feed-happens b next ms last feeds =
+        fed (core_of t) (wired-well items sound).writes records (parts_of b ms) (parts_of next ms)
+        (subst (λ n. All (λ r. r.stamp.feed ≡ n + 1) records) (sym last) of_feed) feeds (λ u among. refl) (λ u among. refl)
+
     -- running tasks keep running
     feed-run : (b next : Shelf) (ms : List Moved) → b.fed ≡ p.fed → ShelfFeeds (routes_of t.topics) records b next →
         AreRunning items p.order b ms → AreRunning items (p.order ++ records) next ms
@@ -102,9 +104,7 @@ module _ (items : List Item) (p : Progress) (count : Source → ℕ) (come : IsP
       tasks = run.tasks;
       named = run.named;
       newest = newest-next ms run.among run.newest;
-      good = keeps-good items sound p.order (fed_event records) (on_shelf b ms) (on_shelf next ms) fits.counted run.good
-          (fed (core_of t) (wired-well items sound).writes records (parts_of b ms) (parts_of next ms)
-          (subst (λ n. All (λ r. r.stamp.feed ≡ n + 1) records) (sym last) of_feed) feeds (λ u among. refl) (λ u among. refl));
+      good = keeps-good items sound p.order (fed_event records) (on_shelf b ms) (on_shelf next ms) fits.counted run.good (feed-happens b next ms last feeds);
     }
       where
         -- the generations stay the newest ones
@@ -119,7 +119,6 @@ module _ (items : List Item) (p : Progress) (count : Source → ℕ) (come : IsP
     pub record IsFed (c next : Cluster) : Type 0 where
       pub topology : next.topology ≡ c.topology
       pub chain : next.chain ≡ c.chain
-      pub takers : next.takers.items ≡ c.takers.items
       pub live : next.live.items ≡ c.live.items
       pub seats : next.seats.items ≡ c.seats.items
       pub rounds : next.rounds ≡ c.rounds
@@ -128,7 +127,24 @@ module _ (items : List Item) (p : Progress) (count : Source → ℕ) (come : IsP
       pub journal : next.journal.items ≡ c.journal.items ++ entry.Fed (p.fed + 1) (length records) ∷ []
       pub sources : AllZip IsKept next.sources.items (map (after_feed (p.fed + 1) count) p.sources)
 
-    pub feed-come : (c next : Cluster) → HasCome items p c → IsFed c next → HasCome items (feed count p) next
+    feeds-so : (c next : Cluster) → HasCome items p c → IsFed c next → ShelfFeeds (routes_of t.topics) records (shelf_of c.broker) (shelf_of next.broker)
+    feeds-so c next was is =
+        subst (λ ts. ShelfFeeds (routes_of ts) records (shelf_of c.broker) (shelf_of next.broker)) (topics-come items p (map (λ (s : Seat). idle s.task) c.seats.items) c was) is.feeds
+
+    -- what happened: the feed
+    feed-happened : (c next : Cluster) → HasCome items p c → IsFed c next → HasHappened items records c next
+    feed-happened c next was is = record {
+      notes = entry.Fed (p.fed + 1) (length records) ∷ [];
+      journal = is.journal;
+      in_round = refl;
+      happen = (
+        on_shelf (shelf_of next.broker) (map (λ (s : Seat). idle s.task) c.seats.items),
+        feed-happens (shelf_of c.broker) (shelf_of next.broker) (map (λ (s : Seat). idle s.task) c.seats.items) was.fed (feeds-so c next was is),
+        ap (λ (ss : List Seat). on_shelf (shelf_of next.broker) (map (λ (s : Seat). idle s.task) ss)) (sym is.seats),
+      );
+    }
+
+    feed-come : (c next : Cluster) → HasCome items p c → IsFed c next → HasCome items (feed count p) next
     feed-come c next was is =
         subst (λ (ss : List Seat). HasComeWith items (feed count p) (map (λ (s : Seat). idle s.task) ss) next) (sym is.seats)
         (come-of items (feed count p) waiting next (record {
@@ -140,17 +156,10 @@ module _ (items : List Item) (p : Progress) (count : Source → ℕ) (come : IsP
           live = is.live ∙ was.live;
           owners = ap (map owned_of) is.seats ∙ was.owners;
           running = idle-tasks c.seats.items ∙ sym (ap (map (λ (s : Seat). s.task)) is.seats);
-          takers = is.takers ∙ takers-come items p waiting c was;
-          gone = was.gone;
-          whole = was.whole;
-          read = λ u among.
-              subst (λ (n : ℕ). IsReadUpTo was.gone (map (λ (i : SubInput). i.topic) (inputs_at t u)) u.part n) (sym (feeds-so.done u ((wired-well items sound).writes u among)))
-              (read-come items p waiting c was u among);
-          run = feed-run (with_gone was.gone (shelf_of c.broker)) (with_gone was.gone (shelf_of next.broker)) waiting was.fed
-              (feeds-gone was.gone (routes_of t.topics) records (shelf_of c.broker) (shelf_of next.broker) feeds-so) (running-of items p waiting c was);
+          run = feed-run (shelf_of c.broker) (shelf_of next.broker) waiting was.fed feeds (running-of items p waiting c was);
           fed = is.feeds.fed ∙ ap (λ n. n + 1) was.fed;
-          newest = λ u among. feeds-so.newest u ((wired-well items sound).writes u among) ∙ newest-come items p waiting c was u among;
-          done = λ u among. feeds-so.done u ((wired-well items sound).writes u among) ∙ done-come items p waiting c was u among;
+          newest = λ u among. feeds.newest u ((wired-well items sound).writes u among) ∙ newest-come items p waiting c was u among;
+          done = λ u among. feeds.done u ((wired-well items sound).writes u among) ∙ done-come items p waiting c was u among;
           rounds = is.rounds ∙ was.rounds;
           journal = is.journal ∙ ap (λ es. es ++ entry.Fed (p.fed + 1) (length records) ∷ []) was.journal;
           sources = is.sources;
@@ -159,8 +168,9 @@ module _ (items : List Item) (p : Progress) (count : Source → ℕ) (come : IsP
         waiting : List Moved
         waiting = map (λ (s : Seat). idle s.task) c.seats.items
 
-        same : topics_of c.broker ≡ t.topics
-        same = topics-come items p waiting c was
+        feeds : ShelfFeeds (routes_of t.topics) records (shelf_of c.broker) (shelf_of next.broker)
+        feeds = feeds-so c next was is
 
-        feeds-so : ShelfFeeds (routes_of t.topics) records (shelf_of c.broker) (shelf_of next.broker)
-        feeds-so = subst (λ ts. ShelfFeeds (routes_of ts) records (shelf_of c.broker) (shelf_of next.broker)) same is.feeds
+    -- both
+    pub fed-so : (c next : Cluster) → HasCome items p c → IsFed c next → HasCome items (feed count p) next × HasHappened items records c next
+    fed-so c next was is = (feed-come c next was is, feed-happened c next was is)

@@ -4,6 +4,7 @@ pub mod AllTasks
 pub mod Coming
 pub mod Driving
 pub mod Feeding
+pub mod Happening
 pub mod Leaving
 pub mod Moving
 pub mod Numbers

@@ -1,43 +1,45 @@
 -- A cluster after some tasks left their owners and tasks were restored.
-use Rattle.std.proofs.Common.{◌≡◌, ◌∙◌, ap, ap₂, refl, sym, subst, ℕ, ◌+◌, Bool, true, false, List, [], ◌∷◌, ◌++◌, length, map}
+use Rattle.std.proofs.Common.{◌≡◌, ◌∙◌, ap, ap₂, refl, sym, subst, ℕ, ◌+◌, Bool, true, false, List, [], ◌∷◌, ◌++◌, length, map, append_assoc}
 use Rattle.std.proofs.lemmas.List.{length-map}
 use Rattle.std.proofs.lemmas.List.Elements.{All-from_recursion}
 use Rattle.std.specs.Prelude.{◌&&◌, All, Contains, if◌then◌else◌, not, flat_map, Option, None, Some}
 use Rattle.std.specs.List.{AllByRecursion, AllZip}
 use Rattle.ksql_types.specs.declared.relation.TaskName.{TaskName}
 use Rattle.ksql_types.specs.declared.topic.TopicSpec.{TopicSpec}
+use Rattle.ksql_place.specs.declared.change.SourceRecord.{SourceRecord}
 use Rattle.ksql_program.specs.Sound.{IsSound}
 use Rattle.ksql_program.specs.declared.program.Item.{Item}
 use Rattle.meaning_laws.proofs.Lists.{Pairwise}
 use Rattle.topology.specs.Tasks.{chain_of, tasks_of}
 use Rattle.topology.specs.Topologies.{subs, topology_of}
-use Rattle.topology.specs.declared.topology.SubInput.{SubInput}
 use Rattle.topology.specs.declared.topology.Topology.{Topology}
+use Rattle.core_state.specs.Events.{Event}
+use Rattle.core_state.specs.Law.{AllHappen}
 use Rattle.core_state.specs.Routes.{IsWriter, routes_of}
 use Rattle.core_state.specs.Shelf.{Shelf}
 use Rattle.core_state.specs.declared.journal.JournalEntry.{JournalEntry}
 use Rattle.core_state.specs.declared.journal.JournalEntry.TheVariants as entry
-use Rattle.topic_log.specs.Giving.{with_gone}
 use Rattle.topic_log.specs.Shelves.{routes_in, shelf_of, topics_of}
 use Rattle.assignor.specs.declared.assignment.Owned.{Owned}
-use Rattle.task_core.specs.Core.{inputs_at}
+use Rattle.task_core.specs.Core.{core_of}
 use Rattle.task_core.specs.declared.task.Moved.{Moved}
-use Rattle.cluster_core.specs.Cluster.{CanMove, HasCome, HasComeWith, IsKept}
+use Rattle.cluster_core.specs.Cluster.{CanMove, HasCome, HasComeWith, HasHappenedWith, IsKept}
 use Rattle.cluster_laws.specs.Tasks.{IsOwned, idle}
-use Rattle.cluster_laws.specs.Giving.{IsReadUpTo}
 use Rattle.cluster_laws.specs.Moves.{AllLeave, CanRestore, kept_of, owned_of, seat_notes, seated}
 use Rattle.cluster_laws.specs.Progress.{Progress, after_moves, is_owned, newest_after, notes_of_left, notes_of_restored}
+use Rattle.cluster_laws.specs.Told.{told}
 use Rattle.cluster_core.specs.declared.cluster.Cluster.{Cluster}
 use Rattle.cluster_laws.specs.declared.seats.Seat.{Seat}
 use Rattle.cluster_core.specs.declared.sources.Source.{Source as Kept}
-use Rattle.cluster_core.proofs.Coming.{come-of, done-come, idle-tasks, newest-come, owned-among, read-come, running-of, takers-come, topics-come}
-use Rattle.cluster_laws.proofs.Gone.{all-leave-gone, restore-gone, seated-gone}
-use Rattle.cluster_core.proofs.Leaving.{all-left, staying_of}
+use Rattle.cluster_core.proofs.Coming.{come-of, done-come, idle-tasks, newest-come, owned-among, running-of, topics-come}
+use Rattle.cluster_core.proofs.Leaving.{all-leave, all-left, leave-committing, staying_of}
 use Rattle.cluster_laws.proofs.Leavings.{flat-same, left-done, left-fed, left-newest, left-notes, seated-notes, seated-owners}
 use Rattle.cluster_laws.proofs.Lists.{all-mapped}
 use Rattle.cluster_laws.proofs.Names.{AreApart}
 use Rattle.cluster_laws.proofs.Owners.{owned-apart, seats-apart}
-use Rattle.cluster_core.proofs.Restoring.{all-seated, can-restore, idle_kept}
+use Rattle.cluster_laws.proofs.Running.{on_shelf}
+use Rattle.cluster_laws.proofs.Telling.{happen-append, none-committing, told-append}
+use Rattle.cluster_core.proofs.Restoring.{all-restore, all-seated, can-restore, idle_kept, seat-committing}
 use Rattle.cluster_core.proofs.Tasks.{AreRunning, means}
 
 -- what some moves leave as it was, and what they do to the tasks and to the broker
@@ -47,7 +49,6 @@ pub record IsMoved (stays : List Bool) (owners : List Owned) (c : Cluster) (note
   pub topics : topics_of next.broker ≡ topics_of c.broker
   pub topology : next.topology ≡ c.topology
   pub chain : next.chain ≡ c.chain
-  pub takers : next.takers.items ≡ c.takers.items
   pub live : next.live.items ≡ c.live.items
   pub sources : next.sources.items ≡ c.sources.items
   pub rounds : next.rounds ≡ c.rounds
@@ -79,7 +80,7 @@ module _ (items : List Item) (p : Progress) (ms : List Moved) (c : Cluster) (sou
   topics : topics_of c.broker ≡ t.topics
   topics = topics-come items p ms c h
 
-  run : AreRunning items p.order (with_gone h.gone (shelf_of c.broker)) ms
+  run : AreRunning items p.order (shelf_of c.broker) ms
   run = running-of items p ms c h
 
   owned : IsOwned t owners
@@ -117,10 +118,10 @@ module _ (items : List Item) (p : Progress) (ms : List Moved) (c : Cluster) (sou
     leaving : AllLeave (routes_of t.topics) stays c.seats.items (shelf_of c.broker) notes after
     leaving = subst (λ (ts : List TopicSpec). AllLeave (routes_of ts) stays c.seats.items (shelf_of c.broker) notes after) topics left
 
-    left-run : AreRunning items p.order (with_gone h.gone after) (staying_of stays ms)
+    left-run : AreRunning items p.order after (staying_of stays ms)
     left-run =
-        all-left items p.order sound h.progress.order [] ms c.seats.items stays (with_gone h.gone (shelf_of c.broker)) (with_gone h.gone after) notes h.running leave-places
-        (all-leave-gone h.gone (routes_of t.topics) stays c.seats.items (shelf_of c.broker) notes after leaving) run
+        all-left items p.order sound h.progress.order [] ms c.seats.items stays (shelf_of c.broker) after notes h.running leave-places
+        leaving run
 
     -- what making tasks anew asks for
     pub restore-ready : All (CanRestore c.topology (routes_in c.broker) after) owners
@@ -132,7 +133,7 @@ module _ (items : List Item) (p : Progress) (ms : List Moved) (c : Cluster) (sou
         each : (os : List Owned) → AllByRecursion (λ (o : Owned). Contains (tasks_of (subs items)) o.task) os → AllByRecursion (CanRestore t (routes_of t.topics) after) os
         each [] all = tt
         each (o ∷ os) all = (
-          restore-gone h.gone t (routes_of t.topics) after o (can-restore items p.order sound h.progress.order (with_gone h.gone after) (staying_of stays ms) left-run o all.0),
+          can-restore items p.order sound h.progress.order after (staying_of stays ms) left-run o all.0,
           each os all.1,
         )
 
@@ -148,20 +149,21 @@ module _ (items : List Item) (p : Progress) (ms : List Moved) (c : Cluster) (sou
     leaves-so : AllLeave (routes_of t.topics) stays c.seats.items (shelf_of c.broker) notes after
     leaves-so = leaving after notes is.left
 
-    kept-run : AreRunning items p.order (with_gone h.gone after) (idle_kept kept)
-    kept-run =
-        subst (AreRunning items p.order (with_gone h.gone after))
-        (ap (λ (bs : List Bool). staying_of bs ms) can.stays ∙ staying-kept leaves c.seats.items ms can.idle ∙ sym (ap (λ (bs : List Bool). idle_kept (kept_of bs c.seats.items)) can.stays))
-        (left-run after notes is.left)
+    kept-same : staying_of stays ms ≡ idle_kept kept
+    kept-same =
+        ap (λ (bs : List Bool). staying_of bs ms) can.stays ∙ staying-kept leaves c.seats.items ms can.idle ∙ sym (ap (λ (bs : List Bool). idle_kept (kept_of bs c.seats.items)) can.stays)
+
+    kept-run : AreRunning items p.order after (idle_kept kept)
+    kept-run = subst (AreRunning items p.order after) kept-same (left-run after notes is.left)
 
     seats-next : next.seats.items ≡ seated t after owners kept
     seats-next = is.seats ∙ ap (λ (x : Topology). seated x after owners kept) h.topology
 
-    next-run : AreRunning items p.order (with_gone h.gone after) (map (λ (s : Seat). idle s.task) next.seats.items)
+    next-run : AreRunning items p.order after (map (λ (s : Seat). idle s.task) next.seats.items)
     next-run =
-        subst (λ (ss : List Seat). AreRunning items p.order (with_gone h.gone after) (map (λ (s : Seat). idle s.task) ss))
-        (seated-gone h.gone t after owners kept ∙ sym seats-next)
-        (all-seated items p.order sound h.progress.order (with_gone h.gone after) [] owners kept
+        subst (λ (ss : List Seat). AreRunning items p.order after (map (λ (s : Seat). idle s.task) ss))
+        (sym seats-next)
+        (all-seated items p.order sound h.progress.order after [] owners kept
         owners-among (owned-apart items owners owned) can.places kept-run)
 
     apart : Pairwise AreApart (map (λ (s : Seat). s.task.name) c.seats.items)
@@ -213,6 +215,31 @@ module _ (items : List Item) (p : Progress) (ms : List Moved) (c : Cluster) (sou
           each os all.1,
         )
 
+    -- what happened: some tasks left, and then some were restored
+    left-happened : (records : List SourceRecord) → AllHappen (core_of t) (told records notes) (on_shelf (shelf_of c.broker) ms) (on_shelf after (idle_kept kept))
+    left-happened records =
+        subst (λ (xs : List Moved). AllHappen (core_of t) (told records notes) (on_shelf (shelf_of c.broker) ms) (on_shelf after xs)) kept-same
+        (all-leave items p.order sound h.progress.order records [] ms c.seats.items stays (shelf_of c.broker) after notes h.running leave-places leaves-so run)
+
+    seated-happened : (records : List SourceRecord) →
+        AllHappen (core_of t) (told records (seat_notes after owners kept)) (on_shelf after (idle_kept kept)) (on_shelf after (map (λ (s : Seat). idle s.task) next.seats.items))
+    seated-happened records =
+        subst (λ (ss : List Seat). AllHappen (core_of t) (told records (seat_notes after owners kept)) (on_shelf after (idle_kept kept)) (on_shelf after (map (λ (s : Seat). idle s.task) ss)))
+        (sym seats-next)
+        (all-restore items p.order sound h.progress.order records after [] owners kept owners-among (owned-apart items owners owned) can.places kept-run)
+
+    pub moving-happened : (records : List SourceRecord) → HasHappenedWith items records ms c next
+    moving-happened records = record {
+      notes = notes ++ seat_notes after owners kept;
+      journal = is.journal ∙ append_assoc c.journal.items notes (seat_notes after owners kept);
+      in_round = none-committing notes (seat_notes after owners kept) (leave-committing (routes_of t.topics) stays c.seats.items (shelf_of c.broker) after notes leaves-so) (seat-committing after owners kept);
+      happen =
+          subst (λ (es : List Event). AllHappen (core_of t) es (on_shelf (shelf_of c.broker) ms) (on_shelf after (map (λ (s : Seat). idle s.task) next.seats.items)))
+          (sym (told-append records notes (seat_notes after owners kept) (seat-committing after owners kept)))
+          (happen-append (core_of t) (told records notes) (told records (seat_notes after owners kept)) (on_shelf (shelf_of c.broker) ms) (on_shelf after (idle_kept kept))
+          (on_shelf after (map (λ (s : Seat). idle s.task) next.seats.items)) (left-happened records) (seated-happened records));
+    }
+
     -- how far the cluster has come then
     pub after-moving : HasCome items (after_moves leaves owners p) next
     after-moving = come-of items (after_moves leaves owners p) (map (λ (s : Seat). idle s.task) next.seats.items) next (record {
@@ -224,11 +251,6 @@ module _ (items : List Item) (p : Progress) (ms : List Moved) (c : Cluster) (sou
       live = is.live ∙ h.live;
       owners = ap (map owned_of) seats-next ∙ seated-owners t after owners kept can.places;
       running = idle-tasks next.seats.items;
-      takers = is.takers ∙ takers-come items p ms c h;
-      gone = h.gone;
-      whole = h.whole;
-      read = λ u among.
-          subst (λ (n : ℕ). IsReadUpTo h.gone (map (λ (i : SubInput). i.topic) (inputs_at t u)) u.part n) (sym (still-done u among)) (read-come items p ms c h u among);
       run = next-run;
       fed = left-fed (routes_of t.topics) stays c.seats.items (shelf_of c.broker) after notes leaves-so ∙ h.fed;
       newest = newest-next;

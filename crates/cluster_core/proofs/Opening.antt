@@ -1,5 +1,5 @@
 -- The cluster before any worker is there: its state is good.
-use Rattle.std.proofs.Common.{◌≡◌, ◌∙◌, ap, refl, sym, subst, ◌<◌, ◌≤◌, List, [], ◌∷◌, length, map, arith, inl}
+use Rattle.std.proofs.Common.{◌≡◌, ◌∙◌, ap, refl, sym, subst, ◌<◌, List, [], ◌∷◌, map, arith, inl}
 use Rattle.std.specs.List.{AllZip}
 use Rattle.std.proofs.lemmas.List.Elements.{All-nil}
 use Rattle.std.proofs.lemmas.Option.{none-some}
@@ -17,12 +17,10 @@ use Rattle.core_state.proofs.Events.{opening-good}
 use Rattle.core_state.proofs.Lifting.{opened}
 use Rattle.core_state.specs.Routes.{routes_of}
 use Rattle.core_state.specs.Shelf.{Shelf, ShelfOpens}
-use Rattle.core_state.specs.Wired.{log_feed}
 use Rattle.core_state.specs.declared.journal.JournalEntry.TheVariants as entry
 use Rattle.core_laws.proofs.Fitting.{core-meaning}
 use Rattle.wiring_laws.proofs.Wirings.{wired-well}
 use Rattle.core_laws.specs.Core.{meaning_in_core}
-use Rattle.topic_log.specs.Giving.{with_gone}
 use Rattle.topic_log.specs.Shelves.{routes_in, shelf_of, topics_of}
 use Rattle.task_core.specs.Core.{core_of}
 use Rattle.task_core.specs.declared.task.Moved.{Moved}
@@ -30,7 +28,6 @@ use Rattle.feed_laws.specs.Feeds.{sources_of}
 use Rattle.feed_laws.specs.Fitting.{AreSourcesOf, Fits, IsOfDeclared}
 use Rattle.cluster_core.specs.Cluster.{HasCome, HasComeWith, IsKept, IsProgress}
 use Rattle.cluster_laws.specs.Tasks.{idle}
-use Rattle.cluster_laws.specs.Giving.{is_taker}
 use Rattle.cluster_laws.specs.Moves.{owned_of}
 use Rattle.cluster_laws.specs.Progress.{before_workers}
 use Rattle.cluster_core.specs.declared.cluster.Cluster.{Cluster}
@@ -82,7 +79,6 @@ module _ (items : List Item) (sound : IsSound items) where
   pub record IsOpened (files : List TopicLines) (c : Cluster) : Type 0 where
     pub topology : c.topology ≡ t
     pub chain : c.chain ≡ chain_of t.subs
-    pub takers : c.takers.items ≡ map (is_taker (length items) t.subs) t.subs
     pub topics : topics_of c.broker ≡ t.topics
     pub opens : ShelfOpens (routes_in c.broker) (shelf_of c.broker)
     pub live : c.live.items ≡ []
@@ -103,11 +99,7 @@ module _ (items : List Item) (sound : IsSound items) where
         live = is.live;
         owners = ap (map owned_of) is.seats;
         running = sym (ap (map (λ (s : Seat). s.task)) is.seats);
-        takers = is.takers;
-        gone = λ topic q. [];
-        whole = λ topic q below. refl;
-        read = λ u among topic reads. All-nil (λ x. log_feed x ≤ (shelf_of c.broker).done u);
-        run = none-run (with_gone (λ topic q. []) (shelf_of c.broker)) (nothing-gone (begun is.opens));
+        run = none-run (shelf_of c.broker) (begun is.opens);
         fed = is.opens.fed;
         newest = λ u among. (begun is.opens).newest u ((wired-well items sound).writes u among);
         done = λ u among. (begun is.opens).done u ((wired-well items sound).writes u among);
@@ -118,6 +110,3 @@ module _ (items : List Item) (sound : IsSound items) where
     where
       begun : ShelfOpens (routes_in c.broker) (shelf_of c.broker) → ShelfOpens (routes_of t.topics) (shelf_of c.broker)
       begun = subst (λ ts. ShelfOpens (routes_of ts) (shelf_of c.broker)) is.topics
-
-      nothing-gone : ShelfOpens (routes_of t.topics) (shelf_of c.broker) → ShelfOpens (routes_of t.topics) (with_gone (λ topic q. []) (shelf_of c.broker))
-      nothing-gone h = record { fed = h.fed; shown = h.shown; waiting = h.waiting; done = h.done; newest = h.newest; logs = h.logs }

@@ -11,7 +11,9 @@ use Rattle.ksql_nodes.proofs.Lists.{All-append}
 use Rattle.meaning_laws.proofs.Lists.{All-weaker, Pairwise}
 use Rattle.topology.specs.Tasks.{tasks_of}
 use Rattle.topology.specs.Topologies.{subs, topology_of}
+use Rattle.core_state.specs.Events.{Happens, restore}
 use Rattle.core_state.specs.Good.{Good}
+use Rattle.core_state.specs.Law.{AllHappen}
 use Rattle.core_state.specs.Shelf.{Shelf}
 use Rattle.core_state.proofs.Instances.{restore-keeps}
 use Rattle.core_state.proofs.Lifting.{restored}
@@ -20,12 +22,14 @@ use Rattle.task_core.specs.declared.task.Moved.{Moved}
 use Rattle.assignor.specs.declared.assignment.Owned.{Owned}
 use Rattle.feed_laws.specs.Fitting.{Fits}
 use Rattle.cluster_laws.specs.Tasks.{IsTaskIn, KeepPlaces, idle}
-use Rattle.cluster_laws.specs.Moves.{CanRestore, restored_task, seated}
+use Rattle.cluster_laws.specs.Moves.{CanRestore, restored_task, seat_notes, seated}
+use Rattle.cluster_laws.specs.Told.{committing, told}
 use Rattle.cluster_laws.specs.declared.seats.Seat.{Seat}
 use Rattle.cluster_laws.proofs.Lists.{all-after, all-before, all-mapped, all-with, pairs-after, pairs-before, pairs-with}
 use Rattle.cluster_laws.proofs.Names.{AreApart}
 use Rattle.cluster_laws.proofs.Reading.{sub-at, sub-got}
 use Rattle.cluster_laws.proofs.Running.{instance-here, instance-none, instance-without, on_shelf, parts_of}
+use Rattle.cluster_laws.proofs.Telling.{happen-along}
 use Rattle.cluster_core.proofs.Tasks.{AreRunning, IsNamed, IsNewest, d, means, top}
 
 -- the tasks that were kept, as they run
@@ -54,6 +58,13 @@ names-along : (front : List Moved) (m : Moved) (us : List TaskName) → map (λ 
 names-along [] m us = refl
 names-along (x ∷ front) m us = ap (λ vs. x.task.name ∷ vs) (names-along front m us)
 
+-- no journal entry of tasks that are restored is a commit
+pub seat-committing : (b : Shelf) (owners : List Owned) (kept : List (Option Seat)) → committing (seat_notes b owners kept) ≡ []
+seat-committing b [] kept = refl
+seat-committing b (o ∷ os) [] = refl
+seat-committing b (o ∷ os) (Some s ∷ kept) = seat-committing b os kept
+seat-committing b (o ∷ os) (None ∷ kept) = refl
+
 module _ (items : List Item) (order : List SourceRecord) (sound : IsSound items) (fits : Fits items order) where
   -- ---- one task
 
@@ -70,13 +81,17 @@ module _ (items : List Item) (order : List SourceRecord) (sound : IsSound items)
         All-weaker (λ (m : Moved). AreApart m.task.name u) (λ (m : Moved). AreApart u m.task.name) (λ m other same. other (sym same)) back
         (all-after (λ (m : Moved). AreApart m.task.name u) front back apart)
 
+    -- that it is restored is an event of the core
+    restore-happens : Happens (top items order sound fits) (restore u) (on_shelf b (front ++ back)) (on_shelf b (front ++ made ∷ back))
+    restore-happens =
+        restored (top items order sound fits) (means items order sound fits).writes u among (parts_of b (front ++ back)) (parts_of b (front ++ made ∷ back))
+        (record { instance = λ v writes other. sym (instance-without front made back v other); held = λ v writes other. refl })
+        (λ i is. absurd (none-some i (sym (instance-none (front ++ back) u apart) ∙ is))) refl (instance-here front made back before) refl
+
     good : Good (top items order sound fits) (d items order sound fits) (on_shelf b (front ++ made ∷ back))
     good =
         restore-keeps (top items order sound fits) (d items order sound fits) (means items order sound fits) u among
-        (on_shelf b (front ++ back)) (on_shelf b (front ++ made ∷ back)) run.good
-        (restored (top items order sound fits) (means items order sound fits).writes u among (parts_of b (front ++ back)) (parts_of b (front ++ made ∷ back))
-        (record { instance = λ v writes other. sym (instance-without front made back v other); held = λ v writes other. refl })
-        (λ i is. absurd (none-some i (sym (instance-none (front ++ back) u apart) ∙ is))) refl (instance-here front made back before) refl).1
+        (on_shelf b (front ++ back)) (on_shelf b (front ++ made ∷ back)) run.good restore-happens.1
 
     -- it is restored
     pub restored-task : AreRunning items order b (front ++ made ∷ back)
@@ -91,11 +106,11 @@ module _ (items : List Item) (order : List SourceRecord) (sound : IsSound items)
 
   -- ---- all that have owners
 
-  -- the first one is restored, and those kept of the others run
-  seated-anew : (b : Shelf) (front : List Moved) (o : Owned) (os : List Owned) (kept : List (Option Seat)) → Contains (tasks_of (subs items)) o.task →
+  -- none that runs has the name of the next one
+  next-apart : (front : List Moved) (o : Owned) (os : List Owned) (kept : List (Option Seat)) →
       Pairwise AreApart (map (λ (m : Moved). m.task.name) front ++ o.task ∷ map (λ (x : Owned). x.task) os) → KeepPlaces os kept →
-      AreRunning items order b (front ++ idle_kept kept) → AreRunning items order b ((front ++ idle (restored_task (topology_of items) b o.task) ∷ []) ++ idle_kept kept)
-  seated-anew b front o os kept among apart places run =
+      AllByRecursion (λ (m : Moved). AreApart m.task.name o.task) (front ++ idle_kept kept)
+  next-apart front o os kept apart places =
       let names : List TaskName = map (λ (m : Moved). m.task.name) front in
       let others : List TaskName = map (λ (x : Owned). x.task) os in
       let before : AllByRecursion (λ (m : Moved). AreApart m.task.name o.task) front =
@@ -103,9 +118,15 @@ module _ (items : List Item) (order : List SourceRecord) (sound : IsSound items)
       let after : AllByRecursion (λ (x : Owned). AreApart x.task o.task) os =
       All-weaker (λ (x : Owned). AreApart o.task x.task) (λ (x : Owned). AreApart x.task o.task) (λ x other same. other (sym same)) os
       (all-mapped (AreApart o.task) (λ (x : Owned). x.task) os (pairs-after AreApart names o.task others apart)) in
+      All-append (λ (m : Moved). AreApart m.task.name o.task) front (idle_kept kept) before (kept-have (λ (v : TaskName). AreApart v o.task) os kept places after)
+
+  -- the first one is restored, and those kept of the others run
+  seated-anew : (b : Shelf) (front : List Moved) (o : Owned) (os : List Owned) (kept : List (Option Seat)) → Contains (tasks_of (subs items)) o.task →
+      Pairwise AreApart (map (λ (m : Moved). m.task.name) front ++ o.task ∷ map (λ (x : Owned). x.task) os) → KeepPlaces os kept →
+      AreRunning items order b (front ++ idle_kept kept) → AreRunning items order b ((front ++ idle (restored_task (topology_of items) b o.task) ∷ []) ++ idle_kept kept)
+  seated-anew b front o os kept among apart places run =
       subst (AreRunning items order b) (sym (append_assoc front (idle (restored_task (topology_of items) b o.task) ∷ []) (idle_kept kept)))
-      (restored-task b front (idle_kept kept) o.task among
-      (All-append (λ (m : Moved). AreApart m.task.name o.task) front (idle_kept kept) before (kept-have (λ (v : TaskName). AreApart v o.task) os kept places after)) run)
+      (restored-task b front (idle_kept kept) o.task among (next-apart front o os kept apart places) run)
 
   -- the names of the running tasks and of those to come, after one of them
   names-on : (front : List Moved) (m : Moved) (u : TaskName) (us : List TaskName) → u ≡ m.task.name → Pairwise AreApart (map (λ (x : Moved). x.task.name) front ++ u ∷ us) →
@@ -132,6 +153,36 @@ module _ (items : List Item) (order : List SourceRecord) (sound : IsSound items)
   all-seated b front (o ∷ os) (Some s ∷ kept) among apart places run =
       subst (AreRunning items order b) (append_assoc front (idle s.task ∷ []) (map (λ (x : Seat). idle x.task) (seated (topology_of items) b os kept)))
       (all-seated b (front ++ idle s.task ∷ []) os kept among.1
+      (names-on front (idle s.task) o.task (map (λ (x : Owned). x.task) os) (ap (λ (x : Owned). x.task) places.0) apart) places.1
+      (subst (AreRunning items order b) (sym (append_assoc front (idle s.task ∷ []) (idle_kept kept))) run))
+
+  -- the events of those that are restored, one after another
+  pub all-restore : (records : List SourceRecord) (b : Shelf) (front : List Moved) (owners : List Owned) (kept : List (Option Seat)) →
+      AllByRecursion (λ (o : Owned). Contains (tasks_of (subs items)) o.task) owners →
+      Pairwise AreApart (map (λ (m : Moved). m.task.name) front ++ map (λ (o : Owned). o.task) owners) →
+      KeepPlaces owners kept → AreRunning items order b (front ++ idle_kept kept) →
+      AllHappen (top items order sound fits) (told records (seat_notes b owners kept))
+      (on_shelf b (front ++ idle_kept kept)) (on_shelf b (front ++ map (λ (s : Seat). idle s.task) (seated (topology_of items) b owners kept)))
+  all-restore records b front [] kept among apart places run = ap (λ (ms : List Moved). on_shelf b (front ++ ms)) (none-kept kept places)
+  all-restore records b front (o ∷ os) [] among apart places run =
+      let made : Moved = idle (restored_task (topology_of items) b o.task) in (
+        on_shelf b (front ++ made ∷ []),
+        restore-happens b front [] o.task among.0 (next-apart front o os [] apart tt) run,
+        happen-along (top items order sound fits) (told records (seat_notes b os [])) b b front made [] (map (λ (s : Seat). idle s.task) (seated (topology_of items) b os []))
+            (all-restore records b (front ++ made ∷ []) os [] among.1 (names-on front made o.task (map (λ (x : Owned). x.task) os) refl apart) tt
+            (seated-anew b front o os [] among.0 apart tt run)),
+      )
+  all-restore records b front (o ∷ os) (None ∷ kept) among apart places run =
+      let made : Moved = idle (restored_task (topology_of items) b o.task) in (
+        on_shelf b (front ++ made ∷ idle_kept kept),
+        restore-happens b front (idle_kept kept) o.task among.0 (next-apart front o os kept apart places) run,
+        happen-along (top items order sound fits) (told records (seat_notes b os kept)) b b front made (idle_kept kept) (map (λ (s : Seat). idle s.task) (seated (topology_of items) b os kept))
+            (all-restore records b (front ++ made ∷ []) os kept among.1 (names-on front made o.task (map (λ (x : Owned). x.task) os) refl apart) places
+            (seated-anew b front o os kept among.0 apart places run)),
+      )
+  all-restore records b front (o ∷ os) (Some s ∷ kept) among apart places run =
+      happen-along (top items order sound fits) (told records (seat_notes b os kept)) b b front (idle s.task) (idle_kept kept) (map (λ (x : Seat). idle x.task) (seated (topology_of items) b os kept))
+      (all-restore records b (front ++ idle s.task ∷ []) os kept among.1
       (names-on front (idle s.task) o.task (map (λ (x : Owned). x.task) os) (ap (λ (x : Owned). x.task) places.0) apart) places.1
       (subst (AreRunning items order b) (sym (append_assoc front (idle s.task ∷ []) (idle_kept kept))) run))
 

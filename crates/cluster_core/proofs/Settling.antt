@@ -9,6 +9,7 @@ use Rattle.ksql_program.specs.declared.program.Item.{Item}
 use Rattle.meaning_laws.proofs.Lists.{Pairwise}
 use Rattle.topology.specs.Tasks.{tasks_of}
 use Rattle.topology.specs.Topologies.{subs, topology_of}
+use Rattle.core_state.specs.Events.{Happens, commit}
 use Rattle.core_state.specs.Good.{Good}
 use Rattle.core_state.specs.Shelf.{Shelf, ShelfApplies}
 use Rattle.core_state.specs.declared.log.Proposal.{Proposal}
@@ -38,21 +39,25 @@ module _ (items : List Item) (order : List SourceRecord) (sound : IsSound items)
 
   module _ (b c : Shelf) (front : List Moved) (m : Moved) (back : List Moved) (p : Proposal) (offers : m.proposal ≡ Some p)
       (does : ShelfApplies (top items order sound fits).routes p.task p b c) (run : AreRunning items order b (front ++ m ∷ back)) where
-    own : p.task ≡ m.task.name
+    pub own : p.task ≡ m.task.name
     own = subst (λ (o : Option Proposal). IfSome o (λ q. q.task ≡ m.task.name)) offers (all-middle IsNamed front m back run.named)
 
     applies : ShelfApplies (top items order sound fits).routes m.task.name p b c
     applies = subst (λ (v : TaskName). ShelfApplies (top items order sound fits).routes v p b c) own does
 
-    good : Good (top items order sound fits) (d items order sound fits) (on_shelf c (front ++ idle m.task ∷ back))
-    good =
+    -- the commit is an event of the core
+    pub commit-happens : Happens (top items order sound fits) (commit m.task.name) (on_shelf b (front ++ m ∷ back)) (on_shelf c (front ++ idle m.task ∷ back))
+    commit-happens =
         let is = is-task items order sound fits b front m back run in
-        commit-keeps (top items order sound fits) (d items order sound fits) (means items order sound fits) m.task.name is
-        (on_shelf b (front ++ m ∷ back)) (on_shelf c (front ++ idle m.task ∷ back)) run.good
-        (committed (top items order sound fits) (means items order sound fits).writes m.task.name is (parts_of b (front ++ m ∷ back)) (parts_of c (front ++ idle m.task ∷ back))
+        committed (top items order sound fits) (means items order sound fits).writes m.task.name is (parts_of b (front ++ m ∷ back)) (parts_of c (front ++ idle m.task ∷ back))
         (same-else items order sound fits b front m back run (idle m.task) c refl)
         (instance_of m) p (here items order sound fits b front m back run) (newest items order sound fits b front m back run) offers applies
-        (next-here items order sound fits b front m back run (idle m.task) refl) refl).1
+        (next-here items order sound fits b front m back run (idle m.task) refl) refl
+
+    good : Good (top items order sound fits) (d items order sound fits) (on_shelf c (front ++ idle m.task ∷ back))
+    good =
+        commit-keeps (top items order sound fits) (d items order sound fits) (means items order sound fits) m.task.name (is-task items order sound fits b front m back run)
+        (on_shelf b (front ++ m ∷ back)) (on_shelf c (front ++ idle m.task ∷ back)) run.good commit-happens.1
 
     newer : (front' : List Moved) (x : Moved) (back' : List Moved) → front ++ m ∷ back ≡ front' ++ x ∷ back' → IsNewest c x
     newer front' x back' is =

@@ -79,7 +79,6 @@ begun items p c next line is h =
     (record {
       topology = is.topology;
       chain = is.chain;
-      takers = is.takers;
       broker = is.broker;
       these = is.these ∙ h.live;
       seats = is.seats;

@@ -1,8 +1,9 @@
 -- A cluster during a run: its numbers are those of the steps taken, and its state is good.
-use Rattle.std.specs.Prelude.{◌≡◌, ◌+◌, ◌<◌, ◌≤◌, ◌^◌, ℕ, Bool, false, not, IfSome, List, [], length, map, All, Some, None}
+use Rattle.std.specs.Prelude.{◌≡◌, ◌+◌, ◌≤◌, ◌^◌, Bool, false, not, IfSome, List, [], ◌++◌, length, map, All, Some, None}
 use Rattle.std.specs.List.{AllZip}
 use Rattle.std.specs.List.Sorted.{IsStrictlyIncreasing}
 use Rattle.ksql_types.specs.declared.relation.TaskName.{TaskName}
+use Rattle.ksql_place.specs.declared.change.SourceRecord.{SourceRecord}
 use Rattle.ksql_program.specs.declared.program.Item.{Item}
 use Rattle.short_laws.specs.Short.{HoldTexts}
 use Rattle.topic_feeds.specs.Reaching.{Reaches}
@@ -12,6 +13,8 @@ use Rattle.topology.specs.declared.schedule.Step.{Step}
 use Rattle.topology.specs.declared.schedule.Step.TheVariants as step
 use Rattle.topology.specs.declared.topology.Topology.{Topology}
 use Rattle.core_state.specs.Good.{Good}
+use Rattle.core_state.specs.Law.{AllHappen}
+use Rattle.core_state.specs.declared.journal.JournalEntry.{JournalEntry}
 use Rattle.core_laws.specs.Core.{meaning_in_core}
 use Rattle.topic_log.specs.Shelves.{shelf_of, topics_of}
 use Rattle.task_core.specs.Core.{core_of}
@@ -19,10 +22,10 @@ use Rattle.task_core.specs.declared.task.Moved.{Moved}
 use Rattle.assignor.specs.declared.assignment.Owned.{Owned}
 use Rattle.feed_laws.specs.Feeds.{Source}
 use Rattle.feed_laws.specs.Fitting.{AreSourcesOf, Fits}
-use Rattle.cluster_laws.specs.Giving.{Gone, is_taker}
 use Rattle.cluster_laws.specs.Moves.{kept_of, owned_of}
 use Rattle.cluster_laws.specs.Progress.{Progress}
-use Rattle.cluster_laws.specs.Tasks.{IsOwned, IsRead, IsTaskIn, KeepPlaces, core_state_of, idle}
+use Rattle.cluster_laws.specs.Tasks.{IsOwned, IsTaskIn, KeepPlaces, core_state_of, idle}
+use Rattle.cluster_laws.specs.Told.{committing, told}
 use Rattle.cluster_core.specs.declared.cluster.Cluster.{Cluster}
 use Rattle.cluster_laws.specs.declared.seats.Seat.{Seat}
 use Rattle.cluster_core.specs.declared.sources.Source.{Source as Kept}
@@ -58,11 +61,7 @@ pub record HasComeWith (items : List Item) (p : Progress) (ms : List Moved) (c :
   pub named : All (λ m. IfSome m.proposal (λ q. q.task ≡ m.task.name)) ms
   pub tasks : All (λ s. IsTaskIn c.topology s.task) c.seats.items
   pub instances : All (λ s. s.task.generation ≡ (shelf_of c.broker).newest s.task.name) c.seats.items
-  pub takers : c.takers.items ≡ map (is_taker (length items) c.topology.subs) c.topology.subs
-  pub gone : Gone
-  pub whole : (topic q : ℕ) → topic < length items → gone topic q ≡ []
-  pub read : All (IsRead c.topology gone (shelf_of c.broker)) (tasks_of c.topology.subs)
-  pub good : Good (core_of c.topology) (meaning_in_core items p.order) (core_state_of gone c.broker ms)
+  pub good : Good (core_of c.topology) (meaning_in_core items p.order) (core_state_of c.broker ms)
   pub fed : c.broker.fed ≡ p.fed
   pub newest : All (λ u. (shelf_of c.broker).newest u ≡ p.newest u) (tasks_of c.topology.subs)
   pub done : All (λ u. (shelf_of c.broker).done u ≡ p.done u) (tasks_of c.topology.subs)
@@ -73,6 +72,20 @@ pub record HasComeWith (items : List Item) (p : Progress) (ms : List Moved) (c :
 -- a cluster of a program has this progress, and no task waits with a proposal
 abbrev pub HasCome : List Item → Progress → Cluster → Type 0
 HasCome items p c = HasComeWith items p (map (λ s. idle s.task) c.seats.items) c
+
+-- What led from one cluster to a later one is what the later one's further journal entries tell of: the events happened
+-- one after another, and nothing else did. A feed was of these records.
+pub record HasHappenedWith (items : List Item) (records : List SourceRecord) (running : List Moved) (c next : Cluster) : Type 0 where
+  pub notes : List JournalEntry
+  pub journal : next.journal.items ≡ c.journal.items ++ notes
+  -- they begin with no commit, since each commit is told of after its round
+  pub in_round : committing notes ≡ []
+  pub happen : AllHappen (core_of (topology_of items)) (told records notes)
+      (core_state_of c.broker running) (core_state_of next.broker (map (λ s. idle s.task) next.seats.items))
+
+-- the same from a cluster in which no task waits with a proposal
+abbrev pub HasHappened : List Item → List SourceRecord → Cluster → Cluster → Type 0
+HasHappened items records c next = HasHappenedWith items records (map (λ s. idle s.task) c.seats.items) c next
 
 -- tasks can leave their owners, and then have these owners
 pub record CanMove (t : Topology) (leaves : TaskName → Bool) (staying : List Bool) (owners : List Owned) (seats : List Seat) (running : List Moved) : Type 0 where

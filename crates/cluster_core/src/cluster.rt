@@ -1,22 +1,23 @@
 //! The cluster and its steps.
-ghost use Rattle.std.specs.Prelude.{◌≡◌, Bool, All, IfOk, List, Some};
+ghost use Rattle.std.specs.Prelude.{◌≡◌, ◌+◌, Bool, All, IfOk, List, Some};
 ghost use Rattle.std.specs.List.{AllZip};
 ghost use Rattle.std.specs.List.Sorted.{IsStrictlyIncreasing};
 ghost use Rattle.ksql_types.specs.declared.relation.TaskName.{TaskName as OneTask};
+ghost use Rattle.ksql_place.specs.declared.change.SourceRecord.{SourceRecord as OneRecord};
 ghost use Rattle.ksql_program.specs.Sound.{IsSound};
 ghost use Rattle.ksql_program.specs.declared.program.Item.{Item as OneItem};
 ghost use Rattle.topology.specs.Tasks.{chain_of};
 ghost use Rattle.topology.specs.Topologies.{topology_of};
+ghost use Rattle.feed_laws.specs.Feeds.{records_of};
 ghost use Rattle.feed_laws.specs.Fitting.{AreFilesOf};
 ghost use Rattle.task_core.specs.declared.task.Moved.{Moved as OneMoved};
-ghost use Rattle.cluster_core.specs.Cluster.{CanMove, HasCome, HasComeWith, IsBuilt};
+ghost use Rattle.cluster_core.specs.Cluster.{CanMove, HasCome, HasComeWith, HasHappened, HasHappenedWith, IsBuilt};
 ghost use Rattle.cluster_laws.specs.Tasks.{IsIdleAt};
 ghost use Rattle.cluster_laws.specs.Progress.{Progress, after_assignment, after_line, after_loss, after_moves, after_steps, before_workers, feed, is_task, opening, round, rounds, taken, with_worker, without_worker};
 
 use crate::rounds::{advance_all, commit_all};
 use crate::seats::{leave_all, owners_of, seat_all, staying, staying_but};
 use crate::sources::{Source, feed_sources, sources_of};
-use crate::takers::takers_of;
 use crate::workers::{first_workers, with_worker, without_worker};
 use assignor::{Owned, assign};
 use cluster_laws::{Seat, texts_are_utf8};
@@ -35,7 +36,6 @@ use topology::{Lined, Schedule, Step, Topology, chain_of, tasks_of};
 pub struct Cluster {
     topology: Topology,
     chain: u32,
-    takers: Vec<bool>,
     broker: Broker,
     live: Vec<u32>,
     seats: Vec<Seat>,
@@ -81,7 +81,6 @@ impl Cluster {
         let sources = sources_of(alloc, program.items.items(), files)?;
         Ok(Cluster {
             chain: chain_of(alloc, &topology)?,
-            takers: takers_of(alloc, program.items.items().len(), topology.subs.items())?,
             topology,
             broker,
             live: Vec::new(alloc),
@@ -97,8 +96,10 @@ impl Cluster {
     pub fn step(self, alloc: Global, step: &Lined) -> Result<Cluster, AllocError>
         requires built { IsBuilt step.now.step }
         requires come { (items : List OneItem) × (p : Progress) × IsSound items × HasCome items p self }
-        ensures { IfOk result (λ next. (items : List OneItem) (p : Progress) → IsSound items → HasCome items p self →
+        ensures come { IfOk result (λ next. (items : List OneItem) (p : Progress) → IsSound items → HasCome items p self →
             HasCome items (after_line self.topology p step.now) next) }
+        ensures events { IfOk result (λ next. (items : List OneItem) (p : Progress) → IsSound items → HasCome items p self →
+            HasHappened items (records_of (p.fed + 1) (taken step.now.step) p.sources) self next) }
     {
         let mut cluster = self;
         cluster
@@ -140,8 +141,10 @@ impl Cluster {
     /// The cluster after the feed of a step.
     fn fed(mut self, alloc: Global, step: &Step) -> Result<Cluster, AllocError>
         requires come { (items : List OneItem) × (p : Progress) × IsSound items × HasCome items p self }
-        ensures { IfOk result (λ next. (items : List OneItem) (p : Progress) → IsSound items → HasCome items p self →
+        ensures come { IfOk result (λ next. (items : List OneItem) (p : Progress) → IsSound items → HasCome items p self →
             HasCome items (feed (taken step.now) p) next) }
+        ensures events { IfOk result (λ next. (items : List OneItem) (p : Progress) → IsSound items → HasCome items p self →
+            HasHappened items (records_of (p.fed + 1) (taken step.now) p.sources) self next) }
     {
         feeds_fit();
         if self.broker.fed() == u64::MAX {
@@ -161,8 +164,10 @@ impl Cluster {
     /// The cluster after as many rounds as its longest path has sub-topologies.
     fn drained(self, alloc: Global) -> Result<Cluster, AllocError>
         requires come { (items : List OneItem) × (p : Progress) × IsSound items × HasCome items p self }
-        ensures { IfOk result (λ next. (items : List OneItem) (p : Progress) → IsSound items → HasCome items p self →
+        ensures come { IfOk result (λ next. (items : List OneItem) (p : Progress) → IsSound items → HasCome items p self →
             HasCome items (rounds self.topology (chain_of self.topology.subs) p) next) }
+        ensures events { IfOk result (λ next. (items : List OneItem) (p : Progress) (records : List OneRecord) → IsSound items → HasCome items p self →
+            HasHappened items records self next) }
     {
         let chain = self.chain;
         let mut cluster = self;
@@ -175,8 +180,10 @@ impl Cluster {
     /// The cluster after a round in which a worker may be lost; if so, it is then gone.
     fn round_losing(self, alloc: Global, lost: Option<u32>) -> Result<Cluster, AllocError>
         requires come { (items : List OneItem) × (p : Progress) × IsSound items × HasCome items p self }
-        ensures { IfOk result (λ next. (items : List OneItem) (p : Progress) → IsSound items → HasCome items p self →
+        ensures come { IfOk result (λ next. (items : List OneItem) (p : Progress) → IsSound items → HasCome items p self →
             HasCome items (after_loss lost self.topology (round lost self.topology p)) next) }
+        ensures events { IfOk result (λ next. (items : List OneItem) (p : Progress) (records : List OneRecord) → IsSound items → HasCome items p self →
+            HasHappened items records self next) }
     {
         let cluster = self.round(alloc, lost)?;
         match lost {
@@ -191,6 +198,8 @@ impl Cluster {
         ensures topology { IfOk result (λ next. next.topology ≡ self.topology) }
         ensures next { IfOk result (λ next. (items : List OneItem) (p : Progress) → IsSound items → HasCome items p self →
             HasCome items (round lost self.topology p) next) }
+        ensures events { IfOk result (λ next. (items : List OneItem) (p : Progress) (records : List OneRecord) → IsSound items → HasCome items p self →
+            HasHappened items records self next) }
     {
         if self.rounds == u32::MAX {
             return Err(AllocError);
@@ -199,7 +208,7 @@ impl Cluster {
         self.journal.push(JournalEntry::Round { number: rounds })?;
         self.broker.has_parts();
         let seats = self.seats;
-        let rans = advance_all(alloc, seats, &mut self.broker, self.takers.as_slice(), lost)?;
+        let rans = advance_all(alloc, seats, &self.broker, lost)?;
         let seats = commit_all(alloc, &mut self.broker, rans, &mut self.journal)?;
         Ok(Cluster {
             seats,
@@ -211,8 +220,10 @@ impl Cluster {
     /// The cluster with another live worker.
     fn with(self, alloc: Global, worker: u32) -> Result<Cluster, AllocError>
         requires come { (items : List OneItem) × (p : Progress) × IsSound items × HasCome items p self }
-        ensures { IfOk result (λ next. (items : List OneItem) (p : Progress) → IsSound items → HasCome items p self →
+        ensures come { IfOk result (λ next. (items : List OneItem) (p : Progress) → IsSound items → HasCome items p self →
             HasCome items (after_assignment self.topology (with_worker worker p.live) p) next) }
+        ensures events { IfOk result (λ next. (items : List OneItem) (p : Progress) (records : List OneRecord) → IsSound items → HasCome items p self →
+            HasHappened items records self next) }
     {
         let live = with_worker(alloc, self.live.as_slice(), worker)?;
         self.assigned(alloc, live)
@@ -221,8 +232,10 @@ impl Cluster {
     /// The cluster without a worker.
     fn without(self, alloc: Global, worker: u32) -> Result<Cluster, AllocError>
         requires come { (items : List OneItem) × (p : Progress) × IsSound items × HasCome items p self }
-        ensures { IfOk result (λ next. (items : List OneItem) (p : Progress) → IsSound items → HasCome items p self →
+        ensures come { IfOk result (λ next. (items : List OneItem) (p : Progress) → IsSound items → HasCome items p self →
             HasCome items (after_assignment self.topology (without_worker worker p.live) p) next) }
+        ensures events { IfOk result (λ next. (items : List OneItem) (p : Progress) (records : List OneRecord) → IsSound items → HasCome items p self →
+            HasHappened items records self next) }
     {
         let live = without_worker(alloc, self.live.as_slice(), worker)?;
         self.assigned(alloc, live)
@@ -233,8 +246,10 @@ impl Cluster {
         requires rises { IsStrictlyIncreasing live.items }
         requires come { (items : List OneItem) × (p : Progress) × (ms : List OneMoved) × IsSound items × HasComeWith items p ms self
             × AllZip (IsIdleAt live.items) self.seats.items ms }
-        ensures { IfOk result (λ next. (items : List OneItem) (p : Progress) (ms : List OneMoved) → IsSound items → HasComeWith items p ms self →
+        ensures come { IfOk result (λ next. (items : List OneItem) (p : Progress) (ms : List OneMoved) → IsSound items → HasComeWith items p ms self →
             AllZip (IsIdleAt live.items) self.seats.items ms → HasCome items (after_assignment self.topology live.items p) next) }
+        ensures events { IfOk result (λ next. (items : List OneItem) (p : Progress) (ms : List OneMoved) (records : List OneRecord) → IsSound items →
+            HasComeWith items p ms self → AllZip (IsIdleAt live.items) self.seats.items ms → HasHappenedWith items records ms self next) }
     {
         let tasks = tasks_of(alloc, &self.topology)?;
         let before = owners_of(alloc, self.seats.as_slice())?;
@@ -248,8 +263,10 @@ impl Cluster {
     /// The cluster after the loss of a task, which is restored at its owner, if it has one.
     fn losing(self, alloc: Global, task: TaskName) -> Result<Cluster, AllocError>
         requires come { (items : List OneItem) × (p : Progress) × IsSound items × HasCome items p self }
-        ensures { IfOk result (λ next. (items : List OneItem) (p : Progress) → IsSound items → HasCome items p self →
+        ensures come { IfOk result (λ next. (items : List OneItem) (p : Progress) → IsSound items → HasCome items p self →
             HasCome items (after_moves (is_task task) p.owners p) next) }
+        ensures events { IfOk result (λ next. (items : List OneItem) (p : Progress) (records : List OneRecord) → IsSound items → HasCome items p self →
+            HasHappened items records self next) }
     {
         let owners = owners_of(alloc, self.seats.as_slice())?;
         let stays = staying_but(alloc, self.seats.as_slice(), task)?;
@@ -266,8 +283,11 @@ impl Cluster {
     ) -> Result<Cluster, AllocError>
         requires come { (items : List OneItem) × (p : Progress) × (ms : List OneMoved) × (leaves : OneTask → Bool) × IsSound items
             × HasComeWith items p ms self × CanMove self.topology leaves stays.now owners.now self.seats.items ms }
-        ensures { IfOk result (λ next. (items : List OneItem) (p : Progress) (ms : List OneMoved) (leaves : OneTask → Bool) → IsSound items →
+        ensures come { IfOk result (λ next. (items : List OneItem) (p : Progress) (ms : List OneMoved) (leaves : OneTask → Bool) → IsSound items →
             HasComeWith items p ms self → CanMove self.topology leaves stays.now owners.now self.seats.items ms → HasCome items (after_moves leaves owners.now p) next) }
+        ensures events { IfOk result (λ next. (items : List OneItem) (p : Progress) (ms : List OneMoved) (leaves : OneTask → Bool) (records : List OneRecord) →
+            IsSound items → HasComeWith items p ms self → CanMove self.topology leaves stays.now owners.now self.seats.items ms →
+            HasHappenedWith items records ms self next) }
     {
         let seats = self.seats;
         let kept = leave_all(alloc, &mut self.broker, seats, stays, &mut self.journal)?;

@@ -5,7 +5,6 @@ mod cluster;
 mod rounds;
 mod seats;
 mod sources;
-mod takers;
 mod workers;
 
 pub use cluster::{Cluster, drive};

@@ -1,38 +1,32 @@
 //! A round: each task processes what its inputs are closed for, and then each proposal is committed.
-ghost use Rattle.std.specs.Prelude.{◌≡◌, ◌++◌, ℕ, flat_map, map, All, IfNone, IfOk, IfSome, IsSome, OnOk, Some};
-ghost use Rattle.std.specs.List.{AllPairs};
+ghost use Rattle.std.specs.Prelude.{◌≡◌, ◌++◌, flat_map, map, All, IfOk, IfSome, OnOk, Some};
+ghost use Rattle.std.specs.List.{AllPairs, AllZip};
 ghost use Rattle.core_state.specs.Shelf.{ShelfApplies};
 ghost use Rattle.assignor.specs.Rule.{is_with};
-ghost use Rattle.task_core.specs.Tasks.{CanRead};
-ghost use Rattle.topic_log.specs.Shelves.{part_at, routes_in, shelf_of, topics_of};
-ghost use Rattle.cluster_laws.specs.Giving.{Gone};
-ghost use Rattle.cluster_laws.specs.Rounds.{AllSettle, CanAllGo, CanCommit, CanGo, HasGone, HasGoneAt, HaveGone, IsGiven, ProposeApart, Settles, noted, offered, seat_of};
+ghost use Rattle.topic_log.specs.Shelves.{routes_in, shelf_of, topics_of};
+ghost use Rattle.cluster_laws.specs.Rounds.{AllSettle, CanCommit, CanGo, HasRun, ProposeApart, Settles, noted, offered, seat_of};
 
 use cluster_laws::{Ran, Seat};
 use core_state::{JournalEntry, Proposal};
-use ksql_place::Change;
 use std::alloc::{AllocError, Global};
 use task_commit::commit;
-use task_core::{Moved, Task};
+use task_core::Moved;
 use topic_log::Broker;
 
 /// The tasks after a round on a broker, in order, with their proposals. The tasks of a worker that is lost in the round
-/// don't run, since their proposals would be lost. The broker hands over to the tasks of takers what they read.
+/// don't run, since their proposals would be lost.
 pub fn advance_all(
     alloc: Global,
     seats: Vec<Seat>,
-    broker: &mut Broker,
-    takers: &[bool],
+    broker: &Broker,
     lost: Option<u32>,
 ) -> Result<Vec<Ran>, AllocError>
-    requires { (gone : Gone) × CanAllGo gone broker.old takers.now seats.items }
-    ensures topics { OnOk result (topics_of broker.new ≡ topics_of broker.old) }
-    ensures ran { IfOk result (λ rans. (gone : Gone) → CanAllGo gone broker.old takers.now seats.items →
-        HaveGone takers.now lost gone broker.old broker.new seats.items rans.items) }
+    requires { All (λ s. CanGo broker.now s.task) seats.items }
+    ensures { IfOk result (λ rans. AllZip (HasRun lost (routes_in broker.now) (shelf_of broker.now)) seats.items rans.items) }
 {
     let mut rans = Vec::with_capacity(alloc, seats.len())?;
     for seat in seats {
-        rans.push(outcome_of(alloc, seat, broker, takers, lost)?)?;
+        rans.push(outcome_of(alloc, seat, broker, lost)?)?;
     }
     Ok(rans)
 }
@@ -41,15 +35,11 @@ pub fn advance_all(
 fn outcome_of(
     alloc: Global,
     seat: Seat,
-    broker: &mut Broker,
-    takers: &[bool],
+    broker: &Broker,
     lost: Option<u32>,
 ) -> Result<Ran, AllocError>
-    requires { (gone : Gone) × CanGo gone broker.old seat.task }
-    ensures topics { OnOk result (topics_of broker.new ≡ topics_of broker.old) }
-    ensures parts { OnOk result ((t q : ℕ) → IsSome (part_at broker.old t q) → IsSome (part_at broker.new t q)) }
-    ensures ran { IfOk result (λ ran. (gone : Gone) → CanGo gone broker.old seat.task →
-        HasGoneAt takers.now lost gone broker.old broker.new seat ran) }
+    requires { CanGo broker.now seat.task }
+    ensures { IfOk result (HasRun lost (routes_in broker.now) (shelf_of broker.now) seat) }
 {
     let Seat { worker, task } = seat;
     let moved = if is_lost(lost, worker) {
@@ -58,44 +48,9 @@ fn outcome_of(
             proposal: None,
         }
     } else {
-        advanced(alloc, task, broker, takers)?
+        task.advance(alloc, broker)?
     };
     Ok(Ran { worker, moved })
-}
-
-/// A task after processing what the broker shows, which is handed over to it if its sub-topology is a taker.
-fn advanced(
-    alloc: Global,
-    task: Task,
-    broker: &mut Broker,
-    takers: &[bool],
-) -> Result<Moved, AllocError>
-    requires { (gone : Gone) × CanGo gone broker.old task }
-    ensures topics { OnOk result (topics_of broker.new ≡ topics_of broker.old) }
-    ensures parts { OnOk result ((t q : ℕ) → IsSome (part_at broker.old t q) → IsSome (part_at broker.new t q)) }
-    ensures moved { IfOk result (λ moved. (gone : Gone) → CanGo gone broker.old task →
-        HasGone takers.now gone broker.old broker.new task moved) }
-{
-    match given_to(&task, broker, takers) {
-        Some(changes) => task.advance_over(alloc, broker, changes),
-        None => task.advance(alloc, broker),
-    }
-}
-
-/// What the broker hands over to a task: everything that its only input shows, if its sub-topology is a taker.
-fn given_to(task: &Task, broker: &mut Broker, takers: &[bool]) -> Option<Vec<Change>>
-    requires { CanRead broker.old task.now }
-    ensures topics { topics_of broker.new ≡ topics_of broker.old }
-    ensures parts { (t q : ℕ) → IsSome (part_at broker.old t q) → IsSome (part_at broker.new t q) }
-    ensures given { IfSome result (λ changes. IsGiven takers.now task.now broker.old broker.new changes.items) }
-    ensures none { IfNone result (broker.new ≡ broker.old) }
-{
-    let name = task.name();
-    if takers.get(name.sub as usize) != Some(&true) {
-        return None;
-    }
-    let input = task.only_input()?;
-    broker.take(input.topic, name.part)
 }
 
 /// Whether this is the worker that is lost.

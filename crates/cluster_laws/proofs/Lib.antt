@@ -1,9 +1,5 @@
-pub mod Alone
 pub mod Apart
 pub mod Counting
-pub mod Given
-pub mod Going
-pub mod Gone
 pub mod Inputs
 pub mod Leavings
 pub mod Lists
@@ -17,4 +13,5 @@ pub mod Running
 pub mod Seating
 pub mod SourceParts
 pub mod Staying
+pub mod Telling
 pub mod Topics

@@ -4,9 +4,8 @@ use Rattle.ksql_types.specs.declared.relation.TaskName.{TaskName}
 use Rattle.operator.specs.Holding.{Maps}
 use Rattle.topology.specs.Tasks.{tasks_of}
 use Rattle.topology.specs.declared.topology.Topology.{Topology}
-use Rattle.core_state.specs.Shelf.{Shelf, state_of}
+use Rattle.core_state.specs.Shelf.{state_of}
 use Rattle.core_state.specs.State.{Instance, State}
-use Rattle.topic_log.specs.Giving.{with_gone}
 use Rattle.topic_log.specs.Shelves.{shelf_of}
 use Rattle.topic_log.specs.declared.shelves.Shelves.{Shelves}
 use Rattle.task_core.specs.Core.{inputs_at, nodes_at}
@@ -14,7 +13,6 @@ use Rattle.task_core.specs.Tasks.{TaskView}
 use Rattle.task_core.specs.declared.task.Moved.{Moved}
 use Rattle.assignor.specs.Rule.{is_live}
 use Rattle.assignor.specs.declared.assignment.Owned.{Owned}
-use Rattle.cluster_laws.specs.Giving.{Gone, IsReadUpTo}
 use Rattle.cluster_laws.specs.Moves.{owned_of}
 use Rattle.cluster_laws.specs.declared.seats.Seat.{Seat}
 
@@ -37,13 +35,9 @@ abbrev pub instance_in : List Moved → TaskName → Option (Instance (List Maps
 instance_in [] u = None
 instance_in (m ∷ ms) u = if is_named u m then Some (instance_of m) else instance_in ms u
 
--- the core of a broker, with what it gave away, and of tasks that run
-abbrev pub core_state_of : Gone → Shelves → List Moved → State (List Maps)
-core_state_of gone b running = state_of (record { shelf = with_gone gone (shelf_of b); instance = instance_in running; held = λ u. [] })
-
--- what a broker gave away of the inputs of a task is of feeds that the task is done with
-abbrev pub IsRead : Topology → Gone → Shelf → TaskName → Type 0
-IsRead t gone b u = IsReadUpTo gone (map (λ i. i.topic) (inputs_at t u)) u.part (b.done u)
+-- the core of a broker and of tasks that run
+abbrev pub core_state_of : Shelves → List Moved → State (List Maps)
+core_state_of b running = state_of (record { shelf = shelf_of b; instance = instance_in running; held = λ u. [] })
 
 -- ---- tasks and their owners
 

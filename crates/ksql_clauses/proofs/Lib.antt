@@ -1,2 +1,3 @@
 pub mod LeftNames
 pub mod Naming
+pub mod KeyColumns

@@ -1,6 +1,6 @@
 -- The key of a query's result (the keys of results are this dialect's own rule).
-use Rattle.std.specs.Prelude.{ℕ, ◌+◌, ◌==◌, Bool, false, ◌&&◌, nat_lt, if◌then◌else◌, List, [], ◌∷◌, ◌++◌, length, map, filter, Option, Some, None, option_map, codes, bytes_eq, slice_get}
-use Rattle.std.specs.List.{list_any, list_all}
+use Rattle.std.specs.Prelude.{ℕ, ◌==◌, Bool, false, not, ◌&&◌, nat_lt, if◌then◌else◌, List, [], ◌∷◌, length, map, filter, Option, Some, None, option_map, option_and_then, codes, bytes_eq, slice_get}
+use Rattle.std.specs.List.{list_any, list_all, find, position, filter_map, enumerate_from}
 use Rattle.ksql_types.specs.declared.operator.BinaryOp.TheVariants as op
 use Rattle.expression_trees.specs.declared.tree.Expr.{Expr, out-Expr}
 use Rattle.expression_trees.specs.declared.tree.Expr.TheVariants as e
@@ -136,39 +136,35 @@ needs q ks = of q.group q.partition
 abbrev pub is_one_of : List Expr → Named → Bool
 is_one_of es c = list_any (same_expr c.expr) es
 
--- the index of the first column that is one of these expressions, counted from a number on
-unfoldable pub first_of : List Expr → ℕ → List Named → Option ℕ
-first_of es number [] = None
-first_of es number (c ∷ cs) = if is_one_of es c then Some number else first_of es (number + 1) cs
+-- the index of the first column that is one of these expressions
+abbrev pub first_of : List Expr → List Named → Option ℕ
+first_of es cs = position (is_one_of es) cs
 
 -- for each key column, its index among the result's columns, or None if it is missing
 abbrev pub key_places : Select → List Known → List (Option ℕ)
-key_places q ks = map (λ es. first_of es 0 (result_columns q ks)) (needs q ks)
+key_places q ks = map (λ es. first_of es (result_columns q ks)) (needs q ks)
 
 -- ---- the columns of a result
 
+-- for each list of expressions, the first column that is one of them, if any
+abbrev pub first_columns : List Named → List (List Expr) → List Named
+first_columns cs needs = filter_map (λ es. find (is_one_of es) cs) needs
+
 -- the columns at some places
 abbrev pub at_places : List Named → List (Option ℕ) → List Named
-at_places cs [] = []
-at_places cs (None ∷ places) = at_places cs places
-at_places cs (Some place ∷ places) = of (slice_get cs place) ++ at_places cs places
-  where
-    of : Option Named → List Named
-    of None = []
-    of (Some c) = c ∷ []
+at_places cs places = filter_map (option_and_then (slice_get cs)) places
 
 abbrev pub is_place : ℕ → Option ℕ → Bool
 is_place number None = false
 is_place number (Some place) = number == place
 
--- the columns at none of these places, where the first column has this number
-unfoldable pub besides : List (Option ℕ) → ℕ → List Named → List Named
-besides places number [] = []
-besides places number (c ∷ cs) = if list_any (is_place number) places then besides places (number + 1) cs else c ∷ besides places (number + 1) cs
+-- the columns at none of these places, in order
+abbrev pub besides : List (Option ℕ) → List Named → List Named
+besides places cs = map (λ c. c.1) (filter (λ c. not (list_any (is_place c.0) places)) (enumerate_from 0 cs))
 
 -- the key columns of the result, and its other columns
 abbrev pub key_columns : Select → List Known → List Named
-key_columns q ks = at_places (result_columns q ks) (key_places q ks)
+key_columns q ks = first_columns (result_columns q ks) (needs q ks)
 
 abbrev pub value_columns : Select → List Known → List Named
-value_columns q ks = besides (key_places q ks) 0 (result_columns q ks)
+value_columns q ks = besides (key_places q ks) (result_columns q ks)

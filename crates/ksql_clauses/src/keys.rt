@@ -310,16 +310,10 @@ fn is_one_of(exprs: &[Expr], column: &Named) -> bool
 }
 
 /// The index of the first result column that is one of the expressions.
-#[tactic(auto, unfolding(crate::specs::Keys::first_of))]
 fn first_of(exprs: &[Expr], columns: &[Named]) -> Option<usize>
-    ensures { result ≡ spec.first_of exprs.now 0 columns.now }
+    ensures { result ≡ spec.first_of exprs.now columns.now }
 {
-    for (number, column) in columns.iter().enumerate() {
-        if is_one_of(exprs, column) {
-            return Some(number);
-        }
-    }
-    None
+    columns.iter().position(|column| is_one_of(exprs, column))
 }
 
 /// For each needed key column, its index among the result's columns, or None if it is missing.
@@ -328,7 +322,7 @@ pub fn key_places(
     needs: &[Vec<Expr>],
     columns: &[Named],
 ) -> Result<Vec<Option<usize>>, AllocError>
-    ensures { IfOk result (λ places. places.items ≡ map (λ es. spec.first_of es 0 columns.now) (map (λ es. es.items) needs.now)) }
+    ensures { IfOk result (λ places. places.items ≡ map (λ es. spec.first_of es columns.now) (map (λ es. es.items) needs.now)) }
 {
     let mut places = Vec::new(alloc);
     for exprs in needs {
@@ -371,13 +365,13 @@ fn is_place(number: usize, places: &[Option<usize>]) -> bool
 }
 
 /// The result's columns at none of these places. Given the places of the key, they are the value columns.
-#[tactic(auto, unfolding(crate::specs::Keys::besides))]
+#[tactic(auto, unfolding(crate::proofs::KeyColumns::others_from))]
 pub fn columns_besides<'a>(
     alloc: Global,
     columns: &'a [Named],
     places: &[Option<usize>],
 ) -> Result<Vec<&'a Named>, AllocError>
-    ensures { IfOk result (λ found. map (λ c. c.now) found.items ≡ spec.besides places.now 0 columns.now) }
+    ensures { IfOk result (λ found. map (λ c. c.now) found.items ≡ spec.besides places.now columns.now) }
 {
     let mut found = Vec::new(alloc);
     for (number, column) in columns.iter().enumerate() {

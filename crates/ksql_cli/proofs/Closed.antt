@@ -6,7 +6,6 @@ use Rattle.ksql_program.specs.declared.program.Item.{Item}
 use Rattle.topology.specs.Topologies.{topology_of}
 use Rattle.core_state.specs.Routes.{routes_of}
 use Rattle.core_state.specs.Shelf.{shelf_closed}
-use Rattle.topic_log.specs.Giving.{with_gone}
 use Rattle.topic_log.specs.Shelves.{routes_in, shelf_of, topics_of}
 use Rattle.task_core.specs.declared.task.Moved.{Moved}
 use Rattle.cluster_core.specs.Cluster.{HasCome}
@@ -29,4 +28,4 @@ module _ (items : List Item) (p : Progress) (c : Cluster) (sound : IsSound items
   pub closed-come : (topic : ℕ) → shelf_closed (routes_in c.broker) (shelf_of c.broker) topic ≡ closed (topology_of items) p topic
   closed-come topic =
       ap (λ (ts : List TopicSpec). shelf_closed (routes_of ts) (shelf_of c.broker) topic) topics-come
-      ∙ closed-same items p.order sound come.progress.order (with_gone come.gone (shelf_of c.broker)) p come.fed (coming.done-come items p waiting c come) topic
+      ∙ closed-same items p.order sound come.progress.order (shelf_of c.broker) p come.fed (coming.done-come items p waiting c come) topic

@@ -14,7 +14,6 @@ use Rattle.ksql_program.specs.Sound.{IsSound}
 use Rattle.query_meaning.specs.Meaning.{meaning, up_to}
 use Rattle.query_meaning.specs.Queries.{changes_at}
 use Rattle.topology.specs.Topologies.{cut_topics, relation_topic, subs}
-use Rattle.topic_log.specs.Giving.{with_gone}
 use Rattle.topic_log.specs.Shelves.{shelf_of}
 use Rattle.wiring_laws.proofs.Writers.{numbered}
 use Rattle.feed_laws.specs.Fitting.{IsOfDeclared as IsFedTo}
@@ -78,10 +77,10 @@ module _ (run : Run) (sound : IsSound run.program.items) (c : Cluster) (come : H
   good : IsGoodBroker items order c.broker
   good = record {
     topics = topics-come items (progress_of run) c sound come;
-    parts = parts_of (with_gone come.gone (shelf_of c.broker)) (map (λ (s : Seat). idle s.task) c.seats.items);
+    parts = parts_of (shelf_of c.broker) (map (λ (s : Seat). idle s.task) c.seats.items);
     fed = refl;
     done = refl;
-    shown = λ topic q below. ap (λ (xs : List LogEntry). xs ++ (shelf_of c.broker).shown topic q) (come.whole topic q below);
+    shown = λ topic q below. refl;
     good = (running-of items (progress_of run) (map (λ (s : Seat). idle s.task) c.seats.items) c come).good;
   }
 

@@ -205,6 +205,16 @@ CauseFor None all old new status = (status ≡ ended.Usage) ⊎ (status ≡ ende
 abbrev pub HasCause : List (List ℕ) → Files → List (List ℕ) → List (List ℕ) → Status → Type 0
 HasCause words all old new status = CauseFor (command_of words) all old new status
 
+-- The files that a command's answer depends on: those of the folder, if they are known, where it reads any. A demo reads
+-- none, nor do words that are no command.
+abbrev pub told_for : Option Command → Option Files → Option Files
+told_for (Some (run_words script topics workers schedule trace)) known = known
+told_for (Some (Explain script)) known = known
+told_for _ known = Some []
+
+abbrev pub told : List (List ℕ) → Option Files → Option Files
+told words known = told_for (command_of words) known
+
 -- a result that the words and the files decide, whatever is read and written
 abbrev pub IsDecided : Status → Type 0
 IsDecided ended.Done = Unit {0}

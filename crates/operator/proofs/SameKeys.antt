@@ -1,6 +1,5 @@
 -- The entries of a key are those whose key has the same bytes.
-use Rattle.std.proofs.Common.{◌≡◌, ◌∙◌, ap, ap₂, refl, sym, subst, List, [], ◌∷◌, ◌++◌, ℕ, Bool, true, false, cond, All}
-use Rattle.std.proofs.lemmas.List.{append-nil}
+use Rattle.std.proofs.Common.{◌≡◌, ap, ap₂, refl, sym, subst, List, [], ◌∷◌, ◌++◌, ℕ, Bool, true, false, cond, All}
 use Rattle.std.proofs.lemmas.List.Elements.{filter-append}
 use Rattle.std.proofs.lemmas.Bool.Decides.{same_from_decides}
 use Rattle.std.proofs.lemmas.Slice.Eq.{bytes_eq-Decides}
@@ -11,15 +10,13 @@ use Rattle.ksql_types.specs.declared.value.Value.{Value}
 use Rattle.ksql_nodes.specs.Entries.{Entry, is_same_key, of_key}
 use Rattle.ksql_nodes.proofs.Keys.{key-decides}
 use Rattle.record_codec.specs.Spelling.{values, IsShort, IsSpellableRow}
-use Rattle.record_codec.specs.Reading.{row_at}
-use Rattle.record_codec.proofs.Readers.{spelled-apart}
-use Rattle.record_codec.proofs.Parts.{reads-row}
+use Rattle.record_codec.proofs.Parts as codec
 use Rattle.operator.specs.Kept.{at_bytes}
 use Rattle.operator.specs.StandsFor.{HasSpelledKey}
 
 -- keys with the same bytes are equal
 values-apart : (a b : List Value) → IsSpellableRow a → IsSpellableRow b → values a ≡ values b → a ≡ b
-values-apart a b ha hb e = (spelled-apart values IsSpellableRow row_at reads-row a b [] ha hb (append-nil (values a) ∙ e)).0
+values-apart a b ha hb e = (codec.values-apart a b [] [] ha hb (ap (λ (w : List ℕ). w ++ []) e)).0
 
 same-key : (key other : List Value) → IsSpellableRow key → IsSpellableRow other → bytes_eq (values key) (values other) ≡ is_same_key other key
 same-key key other h ho = same_from_decides _ _ by_bytes (key-decides other key)

@@ -1,3 +1,4 @@
+//! The operator of a processor, which fails for good once memory ran out in a step.
 ghost use Rattle.std.specs.Prelude.{◌≡◌, false, [], IfOk, IsTrue};
 ghost use Rattle.operator.specs.StandsFor.{StandsFor};
 

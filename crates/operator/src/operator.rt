@@ -3,6 +3,7 @@ ghost use Rattle.ksql_place.specs.declared.change.Change.{Change as OneChange};
 ghost use Rattle.ksql_nodes.specs.declared.node.Node.{Node};
 ghost use Rattle.ksql_nodes.specs.Entries.{Entry};
 ghost use Rattle.ksql_nodes.specs.Nodes.{gives};
+ghost use Rattle.operator.specs.Front.{IsFront};
 ghost use Rattle.operator.specs.Holding.{Held, Maps, maps_of, committed, no_maps, replayed, IsLoadable, IsOwnLog, IsBaseOf};
 ghost use Rattle.operator.specs.StandsFor.{StandsFor};
 ghost use Rattle.operator.specs.Storable.{IsStorable};
@@ -22,7 +23,7 @@ pub trait Operator {
 
     /// Appends to `out` what the node gives for a change that comes in on a side, after all earlier ones: whichever
     /// entries the operator stood for, it then stands for these and the new one. After a step ran out of memory, every
-    /// later step fails in the same way, and `out` keeps its content, perhaps followed by some of the changes.
+    /// later step fails in the same way, and `out` keeps its content, perhaps followed by a front of what the node gives.
     fn step(
         &mut self,
         alloc: Global,
@@ -37,7 +38,10 @@ pub trait Operator {
             (out.new.items ≡ out.old.items ++ gives 1 (node self.old) es e) × StandsFor (node self.old) (held self.new) (es ++ e ∷ [])) }
         ensures base { (base : Maps) → IsBaseOf base (held self.old) → IsBaseOf base (held self.new) }
         ensures failing { failed self.old ≡ true → IsErr result }
-        ensures err { OnErr result ((failed self.new ≡ true) × ((some : List OneChange) × (out.new.items ≡ out.old.items ++ some))) };
+        ensures err { OnErr result ((failed self.new ≡ true) × ((some : List OneChange) × (out.new.items ≡ out.old.items ++ some)
+            × ((es : List Entry) → StandsFor (node self.old) (held self.old) es →
+            let e : Entry = record { side = side; change = change } in
+            IsFront some (gives 1 (node self.old) es e)))) };
 }
 
 /// An operator with stores, which are committed and restored by their changelogs.

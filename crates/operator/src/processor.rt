@@ -1,7 +1,9 @@
+//! The traits of what an operator is made of: what it gives for one entry, and the changelog of what it keeps.
 ghost use Rattle.std.specs.Prelude.{◌≡◌, IsTrue, List, [], ◌∷◌, ◌++◌, IfOk, OnOk, OnErr};
 ghost use Rattle.ksql_place.specs.declared.change.Change.{Change as OneChange};
 ghost use Rattle.ksql_nodes.specs.Entries.{Entry};
 ghost use Rattle.ksql_nodes.specs.Nodes.{gives};
+ghost use Rattle.operator.specs.Front.{IsFront};
 ghost use Rattle.operator.specs.Holding.{Maps, maps_of, committed, no_maps, replayed, IsLoadable, IsOwnLog, IsBaseOf};
 ghost use Rattle.operator.specs.StandsFor.{StandsFor};
 ghost use Rattle.operator.specs.Storable.{IsStorable};
@@ -34,7 +36,7 @@ pub trait Processor: Drop {
         ensures stands { IfOk result (λ made. StandsFor (node made) (held made) []) };
 
     /// Adds to `out` what the node gives for a change that comes in on a side, after all those before it. After an error
-    /// `out` has what it had, perhaps followed by some of the changes.
+    /// `out` has what it had, perhaps followed by a front of what the node gives.
     fn process(
         &mut self,
         alloc: Global,
@@ -48,7 +50,10 @@ pub trait Processor: Drop {
             let e : Entry = record { side = side; change = change } in
             (out.new.items ≡ out.old.items ++ gives 1 (node self.old) es e) × StandsFor (node self.old) (held self.new) (es ++ e ∷ [])) }
         ensures base { (base : Maps) → IsBaseOf base (held self.old) → IsBaseOf base (held self.new) }
-        ensures out { OnErr result ((some : List OneChange) × (out.new.items ≡ out.old.items ++ some)) };
+        ensures out { OnErr result ((some : List OneChange) × (out.new.items ≡ out.old.items ++ some)
+            × ((es : List Entry) → StandsFor (node self.old) (held self.old) es →
+            let e : Entry = record { side = side; change = change } in
+            IsFront some (gives 1 (node self.old) es e))) };
 }
 
 /// A processor with stores, which are committed and restored as those of a `StoredOperator`.

@@ -1,4 +1,5 @@
 pub mod Passing
+pub mod Parsers
+pub mod Given
 pub mod Readers
 pub mod Parts
-pub mod Loop

@@ -1,5 +1,5 @@
 -- The bytes of a change, version 1, and which changes have a spelling. All numbers are big-endian.
-use Rattle.std.specs.Prelude.{ℕ, ◌<◌, ◌≤◌, ◌^◌, Bool, true, false, ◌||◌, IsTrue, List, [], ◌∷◌, ◌++◌, length, Option, Some, None, is_some, IfSome}
+use Rattle.std.specs.Prelude.{◌≡◌, ℕ, ◌<◌, ◌≤◌, ◌^◌, Bool, true, false, ◌||◌, IsTrue, List, ◌∷◌, ◌++◌, length, Option, Some, None, is_some, IfSome, []}
 use Rattle.std.specs.List.{All, flat_map}
 use Rattle.std.specs.Int.{w32, w64, to_be_bytes, cast_unsigned}
 use Rattle.std.specs.Int.RustNames.{FitsSigned}
@@ -29,6 +29,10 @@ text bytes = four (length bytes) ++ bytes
 abbrev pub truth : Bool → ℕ
 truth false = 0
 truth true = 1
+
+-- the same, as a list
+abbrev pub truth_byte : Bool → List ℕ
+truth_byte b = truth b ∷ []
 
 -- a value: a byte for its kind, and its content; a signed number in two's complement
 abbrev pub value : Value → List ℕ
@@ -75,6 +79,20 @@ body (Turned old new) = optional values old ++ optional values new
 -- a change
 unfoldable pub spelling : Change → List ℕ
 spelling c = head (is_turned c.body) ++ stamp c.place.stamp ++ path c.place.path ++ eight c.time ++ optional span c.span ++ values c.key ++ body c.body
+
+-- ---- what stands before a change's body
+
+-- before the time
+abbrev pub before_time : Change → List ℕ
+before_time c = head (is_turned c.body) ++ stamp c.place.stamp ++ path c.place.path
+
+-- after the time
+abbrev pub window_and_key : Change → List ℕ
+window_and_key c = optional span c.span ++ values c.key
+
+-- all of it
+abbrev pub before_body : Change → List ℕ
+before_body c = before_time c ++ eight c.time ++ window_and_key c
 
 -- ---- the limits of the format
 
@@ -138,6 +156,58 @@ pub record IsTyped (c : Change) : Type 0 where
   pub body : IsTypedBody c.body
 
 -- ---- what has a spelling
+
+-- each of a kind has a spelling
+abbrev pub Always : {A : Type 0} → A → Type 0
+Always x = Unit {0}
+
+-- a number that fits in four bytes
+abbrev pub InFour : ℕ → Type 0
+InFour n = n < 2 ^ 32
+
+-- a number that fits in eight bytes
+abbrev pub InEight : ℕ → Type 0
+InEight n = n < 2 ^ 64
+
+-- a text of UTF-8 that isn't too long
+abbrev pub IsSpellableText : List ℕ → Type 0
+IsSpellableText bytes = (length bytes ≤ 65536) × IsUtf8 bytes
+
+-- a short value in the range of its type
+abbrev pub IsSpellableValue : Value → Type 0
+IsSpellableValue v = IsShort v × IsTypedValue v
+
+-- this many of one kind
+abbrev pub ThisMany : {A : Type 0} → ℕ → (A → Type 0) → List A → Type 0
+ThisMany n fits xs = (length xs ≡ n) × All fits xs
+
+-- at most this many of one kind
+abbrev pub AtMost : {A : Type 0} → ℕ → (A → Type 0) → List A → Type 0
+AtMost n fits xs = (length xs ≤ n) × All fits xs
+
+-- one of a kind, or none
+abbrev pub Optionally : {A : Type 0} → (A → Type 0) → Option A → Type 0
+Optionally fits o = IfSome o fits
+
+-- a valid key of such values
+abbrev pub IsSpellableKey : List Value → Type 0
+IsSpellableKey key = IsKey key × All IsSpellableValue key
+
+-- at most 512 numbers
+abbrev pub IsSpellablePath : List ℕ → Type 0
+IsSpellablePath = AtMost 512 InFour
+
+-- a window that starts below its end
+abbrev pub IsSpellableSpan : Span → Type 0
+IsSpellableSpan s = (s.start < s.end) × IsTypedSpan s
+
+-- a window of a table's change or of a stream's
+abbrev pub IsSpellableWindow : Bool → Option Span → Type 0
+IsSpellableWindow of_table window = IfSome window IsSpellableSpan × (IsTrue (is_some window) → IsTrue of_table)
+
+-- a body of a table's change or of a stream's
+abbrev pub IsSpellableBody : Bool → Body → Type 0
+IsSpellableBody of_table b = (is_turned b ≡ of_table) × IsShortBody b × IsTypedBody b
 
 pub record IsSpellable (c : Change) : Type 0 where
   pub limits : IsWithinLimits c

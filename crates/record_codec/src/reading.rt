@@ -1,10 +1,12 @@
 ghost use Rattle.std.specs.Prelude.{◌≡◌, ◌≤◌, ◌<◌, true, false, List, length, Some, is_some, IfOk, IfSome};
+ghost use Rattle.std.specs.List.{flat_map};
 ghost use Rattle.std.specs.Str.{is_utf8};
 ghost use Rattle.ksql_types.specs.declared.value.Value.{Value as OneValue};
 ghost use Rattle.ksql_place.specs.declared.change.Change.{Change as OneChange};
-ghost use Rattle.record_codec.specs.Spelling.{spelling, values, AreSpellable, IsSpellable, IsSpellableRow};
-ghost use Rattle.record_codec.specs.Reading as read;
-ghost use Rattle.record_codec.specs.Reading.{Gives, with_rest, with_items};
+ghost use Rattle.record_codec.specs.Reading.{IsRead, IsReadWhole, with_rest, with_items};
+ghost use Rattle.record_codec.specs.Spelling as spelled;
+ghost use Rattle.record_codec.specs.Spelling.{spelling, values, ThisMany, AtMost, Optionally};
+ghost use Rattle.record_codec.specs.Spelling.{IsSpellable, IsSpellableRow, AreSpellable, IsSpellableValue, IsSpellableSpan, IsSpellableBody};
 
 use crate::fault::ReadError;
 use ksql_place::{Body, Change, Path, Place, Stamp};
@@ -12,9 +14,8 @@ use ksql_types::{Chars, Items, Key, Row, Span, Value};
 use std::alloc::{AllocError, Global};
 use std::str;
 
-#[tactic(auto, unfolding(crate::specs::Reading::four_at))]
 pub(crate) fn four(bytes: &[u8]) -> Result<(u32, &[u8]), ReadError>
-    ensures { Gives with_rest result (read.four_at bytes.now) }
+    ensures { IsRead spelled.four spelled.InFour with_rest bytes.now result }
 {
     if bytes.len() < 4 {
         return Err(ReadError::Unspelled);
@@ -24,9 +25,8 @@ pub(crate) fn four(bytes: &[u8]) -> Result<(u32, &[u8]), ReadError>
     Ok((number, rest))
 }
 
-#[tactic(auto, unfolding(crate::specs::Reading::eight_at))]
 pub(crate) fn eight(bytes: &[u8]) -> Result<(u64, &[u8]), ReadError>
-    ensures { Gives with_rest result (read.eight_at bytes.now) }
+    ensures { IsRead spelled.eight spelled.InEight with_rest bytes.now result }
 {
     if bytes.len() < 8 {
         return Err(ReadError::Unspelled);
@@ -38,9 +38,8 @@ pub(crate) fn eight(bytes: &[u8]) -> Result<(u64, &[u8]), ReadError>
     Ok((number, rest))
 }
 
-#[tactic(auto, unfolding(crate::specs::Reading::text_at))]
 fn text(alloc: Global, bytes: &[u8]) -> Result<(Chars, &[u8]), ReadError>
-    ensures { Gives with_rest result (read.text_at bytes.now) }
+    ensures { IsRead spelled.text spelled.IsSpellableText with_rest bytes.now result }
 {
     let (len, rest) = four(bytes)?;
     let len = len as usize;
@@ -73,9 +72,8 @@ fn chars(alloc: Global, text: &str) -> Result<Chars, AllocError>
     Chars::copy_of(alloc, text)
 }
 
-#[tactic(auto, unfolding(crate::specs::Reading::truth_at))]
 fn truth(bytes: &[u8]) -> Result<(bool, &[u8]), ReadError>
-    ensures { Gives with_rest result (read.truth_at bytes.now) }
+    ensures { IsRead spelled.truth_byte spelled.Always with_rest bytes.now result }
 {
     match bytes {
         [0, rest @ ..] => Ok((false, rest)),
@@ -84,9 +82,8 @@ fn truth(bytes: &[u8]) -> Result<(bool, &[u8]), ReadError>
     }
 }
 
-#[tactic(auto, unfolding(crate::specs::Reading::value_at))]
 fn value(alloc: Global, bytes: &[u8]) -> Result<(Value, &[u8]), ReadError>
-    ensures { Gives with_rest result (read.value_at bytes.now) }
+    ensures { IsRead spelled.value IsSpellableValue with_rest bytes.now result }
 {
     match bytes {
         [0, rest @ ..] => Ok((Value::Null, rest)),
@@ -116,7 +113,7 @@ fn many_values(
     room: usize,
     bytes: &[u8],
 ) -> Result<(Vec<Value>, &[u8]), ReadError>
-    ensures { Gives with_items result (read.times read.value_at count bytes.now) }
+    ensures { IsRead (flat_map spelled.value) (ThisMany count IsSpellableValue) with_items bytes.now result }
 {
     let most = bytes.len().min(count as usize);
     let mut values = Vec::with_capacity(alloc, most.saturating_add(room))?;
@@ -129,14 +126,13 @@ fn many_values(
     Ok((values, rest))
 }
 
-#[tactic(auto, unfolding(crate::specs::Reading::list_at))]
 fn values_of(
     alloc: Global,
     limit: u32,
     room: usize,
     bytes: &[u8],
 ) -> Result<(Vec<Value>, &[u8]), ReadError>
-    ensures { Gives with_items result (read.list_at limit read.value_at bytes.now) }
+    ensures { IsRead values (AtMost limit IsSpellableValue) with_items bytes.now result }
 {
     let (count, rest) = four(bytes)?;
     if count > limit {
@@ -145,17 +141,15 @@ fn values_of(
     many_values(alloc, count, room, rest)
 }
 
-#[tactic(auto, unfolding(crate::specs::Reading::row_at))]
 pub(crate) fn row(alloc: Global, bytes: &[u8]) -> Result<(Row, &[u8]), ReadError>
-    ensures { Gives with_rest result (read.row_at bytes.now) }
+    ensures { IsRead values IsSpellableRow with_rest bytes.now result }
 {
     let (values, rest) = values_of(alloc, 64, 0, bytes)?;
     Ok((Items::of(values), rest))
 }
 
-#[tactic(auto, unfolding(crate::specs::Reading::key_at))]
 fn key(alloc: Global, bytes: &[u8]) -> Result<(Key, &[u8]), ReadError>
-    ensures { Gives with_rest result (read.key_at bytes.now) }
+    ensures { IsRead values spelled.IsSpellableKey with_rest bytes.now result }
 {
     let (values, rest) = values_of(alloc, 8, 0, bytes)?;
     if !Key::is_key(&values) {
@@ -165,7 +159,7 @@ fn key(alloc: Global, bytes: &[u8]) -> Result<(Key, &[u8]), ReadError>
 }
 
 fn many_numbers(alloc: Global, count: u32, bytes: &[u8]) -> Result<(Vec<u32>, &[u8]), ReadError>
-    ensures { Gives with_items result (read.times read.four_at count bytes.now) }
+    ensures { IsRead (flat_map spelled.four) (ThisMany count spelled.InFour) with_items bytes.now result }
 {
     let mut numbers = Vec::with_capacity(alloc, bytes.len().min(count as usize))?;
     let mut rest = bytes;
@@ -177,9 +171,8 @@ fn many_numbers(alloc: Global, count: u32, bytes: &[u8]) -> Result<(Vec<u32>, &[
     Ok((numbers, rest))
 }
 
-#[tactic(auto, unfolding(crate::specs::Reading::path_at, crate::specs::Reading::list_at))]
 fn path(alloc: Global, bytes: &[u8]) -> Result<(Path, &[u8]), ReadError>
-    ensures { Gives with_rest result (read.path_at bytes.now) }
+    ensures { IsRead spelled.path spelled.IsSpellablePath with_rest bytes.now result }
 {
     let (count, rest) = four(bytes)?;
     if count > 512 {
@@ -189,9 +182,8 @@ fn path(alloc: Global, bytes: &[u8]) -> Result<(Path, &[u8]), ReadError>
     Ok((Path::of(alloc, numbers.as_slice())?, rest))
 }
 
-#[tactic(auto, unfolding(crate::specs::Reading::stamp_at))]
 fn stamp(bytes: &[u8]) -> Result<(Stamp, &[u8]), ReadError>
-    ensures { Gives with_rest result (read.stamp_at bytes.now) }
+    ensures { IsRead spelled.stamp spelled.IsTypedStamp with_rest bytes.now result }
 {
     let (feed, rest) = eight(bytes)?;
     let (high, rest) = eight(rest)?;
@@ -208,9 +200,8 @@ fn stamp(bytes: &[u8]) -> Result<(Stamp, &[u8]), ReadError>
     Ok((stamp, rest))
 }
 
-#[tactic(auto, unfolding(crate::specs::Reading::span_at))]
 fn span(bytes: &[u8]) -> Result<(Span, &[u8]), ReadError>
-    ensures { Gives with_rest result (read.span_at bytes.now) }
+    ensures { IsRead spelled.span IsSpellableSpan with_rest bytes.now result }
 {
     let (start, rest) = eight(bytes)?;
     let (end, rest) = eight(rest)?;
@@ -220,9 +211,8 @@ fn span(bytes: &[u8]) -> Result<(Span, &[u8]), ReadError>
     Ok((Span { start, end }, rest))
 }
 
-#[tactic(auto, unfolding(crate::specs::Reading::optional_at))]
 fn optional_span(bytes: &[u8]) -> Result<(Option<Span>, &[u8]), ReadError>
-    ensures { Gives with_rest result (read.optional_at read.span_at bytes.now) }
+    ensures { IsRead (spelled.optional spelled.span) (Optionally IsSpellableSpan) with_rest bytes.now result }
 {
     match bytes {
         [0, rest @ ..] => Ok((None, rest)),
@@ -235,9 +225,8 @@ fn optional_span(bytes: &[u8]) -> Result<(Option<Span>, &[u8]), ReadError>
 }
 
 /// The window of a change, which only a table's change can have.
-#[tactic(auto, unfolding(crate::specs::Reading::window_at))]
 fn window(of_table: bool, bytes: &[u8]) -> Result<(Option<Span>, &[u8]), ReadError>
-    ensures { Gives with_rest result (read.window_at of_table bytes.now) }
+    ensures { IsRead (spelled.optional spelled.span) (spelled.IsSpellableWindow of_table) with_rest bytes.now result }
 {
     let (window, rest) = optional_span(bytes)?;
     if !of_table && window.is_some() {
@@ -246,9 +235,8 @@ fn window(of_table: bool, bytes: &[u8]) -> Result<(Option<Span>, &[u8]), ReadErr
     Ok((window, rest))
 }
 
-#[tactic(auto, unfolding(crate::specs::Reading::optional_at))]
 fn optional_row(alloc: Global, bytes: &[u8]) -> Result<(Option<Row>, &[u8]), ReadError>
-    ensures { Gives with_rest result (read.optional_at read.row_at bytes.now) }
+    ensures { IsRead (spelled.optional values) (Optionally IsSpellableRow) with_rest bytes.now result }
 {
     match bytes {
         [0, rest @ ..] => Ok((None, rest)),
@@ -261,9 +249,8 @@ fn optional_row(alloc: Global, bytes: &[u8]) -> Result<(Option<Row>, &[u8]), Rea
 }
 
 /// The version, and whether the change that follows is a table's.
-#[tactic(auto, unfolding(crate::specs::Reading::head_at))]
 fn head(bytes: &[u8]) -> Result<(bool, &[u8]), ReadError>
-    ensures { Gives with_rest result (read.head_at bytes.now) }
+    ensures { IsRead spelled.head spelled.Always with_rest bytes.now result }
 {
     match bytes {
         [1, rest @ ..] => truth(rest),
@@ -271,17 +258,15 @@ fn head(bytes: &[u8]) -> Result<(bool, &[u8]), ReadError>
     }
 }
 
-#[tactic(auto, unfolding(crate::specs::Reading::body_at))]
 fn said(alloc: Global, bytes: &[u8]) -> Result<(Body, &[u8]), ReadError>
-    ensures { Gives with_rest result (read.body_at false bytes.now) }
+    ensures { IsRead spelled.body (IsSpellableBody false) with_rest bytes.now result }
 {
     let (row, rest) = row(alloc, bytes)?;
     Ok((Body::Said(row), rest))
 }
 
-#[tactic(auto, unfolding(crate::specs::Reading::body_at))]
 fn turned(alloc: Global, bytes: &[u8]) -> Result<(Body, &[u8]), ReadError>
-    ensures { Gives with_rest result (read.body_at true bytes.now) }
+    ensures { IsRead spelled.body (IsSpellableBody true) with_rest bytes.now result }
 {
     let (old, rest) = optional_row(alloc, bytes)?;
     let (new, rest) = optional_row(alloc, rest)?;
@@ -292,7 +277,7 @@ fn turned(alloc: Global, bytes: &[u8]) -> Result<(Body, &[u8]), ReadError>
 }
 
 fn body(alloc: Global, of_table: bool, bytes: &[u8]) -> Result<(Body, &[u8]), ReadError>
-    ensures { Gives with_rest result (read.body_at of_table bytes.now) }
+    ensures { IsRead spelled.body (IsSpellableBody of_table) with_rest bytes.now result }
 {
     if of_table {
         turned(alloc, bytes)
@@ -301,9 +286,8 @@ fn body(alloc: Global, of_table: bool, bytes: &[u8]) -> Result<(Body, &[u8]), Re
     }
 }
 
-#[tactic(auto, unfolding(crate::specs::Reading::change_at))]
 fn change(alloc: Global, bytes: &[u8]) -> Result<(Change, &[u8]), ReadError>
-    ensures { Gives with_rest result (read.change_at bytes.now) }
+    ensures { IsRead spelling IsSpellable with_rest bytes.now result }
 {
     let (of_table, rest) = head(bytes)?;
     let (stamp, rest) = stamp(rest)?;
@@ -324,7 +308,7 @@ fn change(alloc: Global, bytes: &[u8]) -> Result<(Change, &[u8]), ReadError>
 }
 
 fn whole_change(alloc: Global, bytes: &[u8]) -> Result<Change, ReadError>
-    ensures { Gives (λ c. c) result (read.whole read.change_at bytes.now) }
+    ensures { IsReadWhole spelling IsSpellable bytes.now result }
 {
     let (change, rest) = change(alloc, bytes)?;
     if !rest.is_empty() {
@@ -334,7 +318,7 @@ fn whole_change(alloc: Global, bytes: &[u8]) -> Result<Change, ReadError>
 }
 
 fn whole_row(alloc: Global, bytes: &[u8]) -> Result<Row, ReadError>
-    ensures { Gives (λ r. r) result (read.whole read.row_at bytes.now) }
+    ensures { IsReadWhole values IsSpellableRow bytes.now result }
 {
     let (row, rest) = row(alloc, bytes)?;
     if !rest.is_empty() {
@@ -343,9 +327,8 @@ fn whole_row(alloc: Global, bytes: &[u8]) -> Result<Row, ReadError>
     Ok(row)
 }
 
-#[tactic(auto, unfolding(crate::specs::Reading::values_at))]
 fn whole_values(alloc: Global, bytes: &[u8], room: usize) -> Result<Items<Value>, ReadError>
-    ensures { Gives (λ vs. vs) result (read.whole read.values_at bytes.now) }
+    ensures { IsReadWhole values AreSpellable bytes.now result }
 {
     let (values, rest) = values_of(alloc, u32::MAX, room, bytes)?;
     if !rest.is_empty() {

@@ -1,11 +1,13 @@
 //! The time and the new row of a table's change, read without its place, window and key.
-ghost use Rattle.std.specs.Prelude.{◌≡◌, None, Some, List, IfOk};
+ghost use Rattle.std.specs.Prelude.{◌≡◌, ℕ, List, ◌++◌, length, None, Some, IfOk};
+ghost use Rattle.std.specs.List.{flat_map};
 ghost use Rattle.ksql_types.specs.declared.value.Value.{Value as OneValue};
 ghost use Rattle.ksql_place.specs.declared.change.Body.TheVariants.{Turned};
 ghost use Rattle.ksql_place.specs.declared.change.Change.{Change as OneChange};
-ghost use Rattle.record_codec.specs.Reading.{Gives, with_rest};
-ghost use Rattle.record_codec.specs.Skipping as skip;
-ghost use Rattle.record_codec.specs.Spelling.{spelling, IsSpellable};
+ghost use Rattle.record_codec.specs.Reading.{IsSkipped, Finds, with_rest};
+ghost use Rattle.record_codec.specs.Spelling as spelled;
+ghost use Rattle.record_codec.specs.Spelling.{spelling, before_time, window_and_key, before_body, ThisMany, Optionally};
+ghost use Rattle.record_codec.specs.Spelling.{IsSpellable, IsSpellableRow, IsSpellableValue};
 
 use crate::fault::ReadError;
 use crate::reading::{eight, four, row};
@@ -15,9 +17,8 @@ use std::alloc::{AllocError, Global};
 /// The bytes of a change before its path: version, kind and stamp.
 const BEFORE_PATH: usize = 34;
 
-#[tactic(auto, unfolding(crate::specs::Skipping::past))]
 fn past(count: usize, bytes: &[u8]) -> Result<&[u8], ReadError>
-    ensures { Gives (λ rest. rest.now) result (skip.past count bytes.now) }
+    ensures { IsSkipped (λ bytes. bytes) (λ bytes. length bytes ≡ count) bytes.now result }
 {
     if bytes.len() < count {
         return Err(ReadError::Unspelled);
@@ -26,17 +27,15 @@ fn past(count: usize, bytes: &[u8]) -> Result<&[u8], ReadError>
     Ok(rest)
 }
 
-#[tactic(auto, unfolding(crate::specs::Skipping::past_path))]
 fn past_path(bytes: &[u8]) -> Result<&[u8], ReadError>
-    ensures { Gives (λ rest. rest.now) result (skip.past_path bytes.now) }
+    ensures { IsSkipped spelled.path spelled.IsSpellablePath bytes.now result }
 {
     let (count, rest) = four(bytes)?;
     past(count as usize * 4, rest)
 }
 
-#[tactic(auto, unfolding(crate::specs::Skipping::past_window))]
 fn past_window(bytes: &[u8]) -> Result<&[u8], ReadError>
-    ensures { Gives (λ rest. rest.now) result (skip.past_window bytes.now) }
+    ensures { IsSkipped (spelled.optional spelled.span) (Optionally spelled.IsSpellableSpan) bytes.now result }
 {
     match bytes {
         [0, rest @ ..] => Ok(rest),
@@ -45,17 +44,15 @@ fn past_window(bytes: &[u8]) -> Result<&[u8], ReadError>
     }
 }
 
-#[tactic(auto, unfolding(crate::specs::Skipping::past_text))]
 fn past_text(bytes: &[u8]) -> Result<&[u8], ReadError>
-    ensures { Gives (λ rest. rest.now) result (skip.past_text bytes.now) }
+    ensures { IsSkipped spelled.text spelled.IsSpellableText bytes.now result }
 {
     let (len, rest) = four(bytes)?;
     past(len as usize, rest)
 }
 
-#[tactic(auto, unfolding(crate::specs::Skipping::past_value))]
 fn past_value(bytes: &[u8]) -> Result<&[u8], ReadError>
-    ensures { Gives (λ rest. rest.now) result (skip.past_value bytes.now) }
+    ensures { IsSkipped spelled.value IsSpellableValue bytes.now result }
 {
     match bytes {
         [0, rest @ ..] => Ok(rest),
@@ -67,9 +64,8 @@ fn past_value(bytes: &[u8]) -> Result<&[u8], ReadError>
     }
 }
 
-#[tactic(auto, using(crate::proofs::Passing::one_more, crate::proofs::Passing::no_more))]
 fn past_values(count: u32, bytes: &[u8]) -> Result<&[u8], ReadError>
-    ensures { Gives (λ rest. rest.now) result (skip.past_values count bytes.now) }
+    ensures { IsSkipped (flat_map spelled.value) (ThisMany count IsSpellableValue) bytes.now result }
 {
     if count == 0 {
         return Ok(bytes);
@@ -78,33 +74,30 @@ fn past_values(count: u32, bytes: &[u8]) -> Result<&[u8], ReadError>
     past_values(count - 1, rest)
 }
 
-#[tactic(auto, unfolding(crate::specs::Skipping::past_key))]
 fn past_key(bytes: &[u8]) -> Result<&[u8], ReadError>
-    ensures { Gives (λ rest. rest.now) result (skip.past_key bytes.now) }
+    ensures { IsSkipped spelled.values spelled.IsSpellableKey bytes.now result }
 {
     let (count, rest) = four(bytes)?;
     past_values(count, rest)
 }
 
-#[tactic(auto, unfolding(crate::specs::Skipping::past_place))]
 fn past_place(bytes: &[u8]) -> Result<&[u8], ReadError>
-    ensures { Gives (λ rest. rest.now) result (skip.past_place bytes.now) }
+    ensures { IsSkipped before_time IsSpellable bytes.now result }
 {
     let rest = past(BEFORE_PATH, bytes)?;
     past_path(rest)
 }
 
-#[tactic(auto, unfolding(crate::specs::Skipping::past_window_and_key))]
 fn past_window_and_key(bytes: &[u8]) -> Result<&[u8], ReadError>
-    ensures { Gives (λ rest. rest.now) result (skip.past_window_and_key bytes.now) }
+    ensures { IsSkipped window_and_key IsSpellable bytes.now result }
 {
     let rest = past_window(bytes)?;
     past_key(rest)
 }
 
-#[tactic(auto, unfolding(crate::specs::Skipping::time_at))]
 fn time(bytes: &[u8]) -> Result<(u64, &[u8]), ReadError>
-    ensures { Gives with_rest result (skip.time_at bytes.now) }
+    ensures { (c : OneChange) (rest : List ℕ) → IsSpellable c → bytes.now ≡ before_body c ++ rest →
+        Finds with_rest (c.time, rest) result }
 {
     let rest = past_place(bytes)?;
     let (time, rest) = eight(rest)?;
@@ -112,9 +105,9 @@ fn time(bytes: &[u8]) -> Result<(u64, &[u8]), ReadError>
     Ok((time, rows))
 }
 
-#[tactic(auto, unfolding(crate::specs::Skipping::new_row_at))]
 fn new_row(alloc: Global, bytes: &[u8]) -> Result<(Row, &[u8]), ReadError>
-    ensures { Gives with_rest result (skip.new_row_at bytes.now) }
+    ensures { (row : List OneValue) (rest : List ℕ) → IsSpellableRow row → bytes.now ≡ spelled.body (Turned None (Some row)) ++ rest →
+        Finds with_rest (row, rest) result }
 {
     match bytes {
         [0, 1, rest @ ..] => row(alloc, rest),
@@ -122,9 +115,9 @@ fn new_row(alloc: Global, bytes: &[u8]) -> Result<(Row, &[u8]), ReadError>
     }
 }
 
-#[tactic(auto, unfolding(crate::specs::Skipping::timed_row))]
 fn timed_row(alloc: Global, bytes: &[u8]) -> Result<(u64, Row), ReadError>
-    ensures { Gives (λ timed. timed) result (skip.timed_row bytes.now) }
+    ensures { (c : OneChange) (row : List OneValue) → IsSpellable (record c { body = Turned None (Some row) }) →
+        bytes.now ≡ spelling (record c { body = Turned None (Some row) }) → Finds (λ timed. timed) (c.time, row) result }
 {
     let (time, rows) = time(bytes)?;
     let (row, _) = new_row(alloc, rows)?;

@@ -9,7 +9,8 @@ use Rattle.ksql_program.specs.declared.program.Program.{Program}
 use Rattle.topic_files.specs.Lines.{lines_of}
 use Rattle.topology.specs.Topologies.{topology_of}
 use Rattle.demo_files.specs.Demo.{demo_schedule}
-use Rattle.schedule_text.specs.Schedules.{setting_of}
+use Rattle.schedule_text.specs.Schedules.{lined_steps}
+use Rattle.schedule_text.proofs.Taken.{schedule-accepted}
 use Rattle.ksql_cli.specs.Command.{Files, HasText, HasTextFor, IsScheduled, Runs, demo_asked, demo_files}
 use Rattle.ksql_cli.specs.Run.{Run, summary_of}
 use Rattle.schedule_laws.specs.Drained.{feeds_of, is_drained}
@@ -17,16 +18,15 @@ use Rattle.schedule_laws.specs.Reports.{EndsDrained}
 use Rattle.schedule_laws.proofs.Alike.{same-summary}
 use Rattle.schedule_laws.proofs.Commands.{one-bytes, one-files, one-program, other-workers, runs-ends, runs-sound}
 use Rattle.schedule_laws.proofs.Demo.{demo-drains, demo-read}
-use Rattle.schedule_laws.proofs.Workers.{all_written, schedule-written}
 
 module _ (records : ℕ) (few : records ≤ 100000) where
   -- the steps of a demo end drained
   drains : (workers : ℕ) (run : Run) → Runs (demo_asked workers) (demo_files records) run → is_drained run.steps ≡ true
   drains workers run runs =
       let bytes : runs.steps.0 ≡ demo_schedule records = one-bytes (codes "schedule") (demo_files records) runs.steps.0 (demo_schedule records) runs.steps.1 (demo-read records few) in
-      ap is_drained (schedule-written run.program.items (topology_of run.program.items) workers runs.steps.0 run.steps runs.steps.2)
-      ∙ ap (λ (text : List ℕ). is_drained (all_written (setting_of run.program.items (topology_of run.program.items) (length text)) 0 (lines_of text))) bytes
-      ∙ demo-drains (setting_of run.program.items (topology_of run.program.items) (length (demo_schedule records))) records
+      ap is_drained (schedule-accepted run.program.items (topology_of run.program.items) workers runs.steps.0 run.steps runs.steps.2).1
+      ∙ ap (λ (text : List ℕ). is_drained (lined_steps run.program.items 0 (lines_of text))) bytes
+      ∙ demo-drains run.program.items records
 
   module _ (workers more : ℕ) (some : 1 ≤ workers) (others : 1 ≤ more) (a b : Run) (first : Runs (demo_asked workers) (demo_files records) a)
       (second : Runs (demo_asked more) (demo_files records) b) where

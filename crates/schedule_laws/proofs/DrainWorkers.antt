@@ -1,9 +1,12 @@
 -- At each drain of a schedule that is read a worker is live.
-use Rattle.std.proofs.Common.{◌≡◌, ◌≢◌, ◌∙◌, ap, refl, sym, subst, ℕ, zero, suc, ◌+◌, ◌≤◌, Bool, true, false, true≢false, cond, List, [], ◌∷◌, ◌++◌, length, arith}
-use Rattle.std.specs.Prelude.{IfOk, Option, None, Some, Result, Ok, Err, ◌==◌, nat_le, nat_lt, min}
-use Rattle.std.specs.List.{range_with_len}
+use Rattle.std.proofs.Common.{◌≡◌, ◌≢◌, ◌∙◌, ap, refl, sym, subst, subst₂, ℕ, zero, suc, ◌+◌, ◌≤◌, Bool, true, false, cond, List, [], ◌∷◌, ◌++◌, length, length-append, arith}
+use Rattle.std.specs.Prelude.{IfSome, Option, None, Some, option_and_then, option_map, Ok, ◌==◌, nat_le, nat_lt, min}
+use Rattle.std.specs.List.{cons_option, fold, range_with_len}
+use Rattle.std.specs.Option.{option_or}
+use Rattle.std.proofs.lemmas.List.Sums.{fold-append}
 use Rattle.ksql_program.specs.declared.program.Item.{Item}
 use Rattle.ksql_program.specs.declared.program.Program.{Program}
+use Rattle.topic_files.specs.File.{bytes_of}
 use Rattle.topic_files.specs.Lines.{lines_of}
 use Rattle.topic_files.specs.declared.topic.TopicLines.{TopicLines}
 use Rattle.topology.specs.Tasks.{chain_of}
@@ -14,11 +17,15 @@ use Rattle.topology.specs.declared.schedule.Step.{Step}
 use Rattle.topology.specs.declared.schedule.Step.TheVariants as step
 use Rattle.topology.specs.declared.topology.Topology.{Topology}
 use Rattle.schedule_text.specs.declared.fault.StepWhy.{StepWhy}
+use Rattle.schedule_text.specs.declared.fault.StepWhy.TheVariants.{NoWorker, TooLarge}
 use Rattle.schedule_text.specs.Forms.{Form, form_of_line}
 use Rattle.schedule_text.specs.Forms as form
 use Rattle.schedule_text.specs.Lines.{is_skipped}
-use Rattle.schedule_text.specs.Schedules.{after_line as text_after_line, then_read, lined, lines_from, schedule_of, setting_of}
-use Rattle.schedule_text.specs.Standing.{Setting, counts_of, feed_of, first, is_live, is_task, live_after, most_bytes, most_rounds, most_steps, most_workers, passed, read_form, read_line, rounds_of, step_of, take_step}
+use Rattle.schedule_text.specs.Refusals.{Setting, form_refusal, most_bytes, most_rounds, most_steps, refusal_of, refused_if}
+use Rattle.schedule_text.specs.Schedules.{first_refused, lined, lined_steps, schedule_of, setting_of}
+use Rattle.schedule_text.specs.Steps.{all_rounds, counts_of, live_after, live_after_one, step_of, step_of_line, steps_of}
+use Rattle.schedule_text.proofs.OneLine.{steps-more}
+use Rattle.schedule_text.proofs.Taken.{schedule-accepted}
 use Rattle.cluster_laws.specs.Progress.{Progress, after_line, after_step, opening, round, rounds}
 use Rattle.core_state.specs.declared.journal.JournalEntry.TheVariants as entry
 use Rattle.ksql_cli.specs.Command.{Files, IsScheduled}
@@ -30,8 +37,8 @@ rounds-live : (t : Topology) (n : ℕ) (p : Progress) → (rounds t n p).live �
 rounds-live t zero p = refl
 rounds-live t (suc n) p = rounds-live t n (round None t p)
 
--- they are after a step as the reader of the schedule has them
-step-live : (t : Topology) (p : Progress) (s : Step) → (after_step t p s).live ≡ live_after s p.live
+-- they are after a step as those of the text
+step-live : (t : Topology) (p : Progress) (s : Step) → (after_step t p s).live ≡ live_after_one p.live s
 step-live t p step.FeedAll = refl
 step-live t p (step.Feed counts) = refl
 step-live t p (step.Round None stalled) = refl
@@ -48,50 +55,46 @@ step-live t p (step.Wake worker) = refl
 abbrev HasWorker : List ℕ → Step → Type 0
 HasWorker live s = s ≡ step.Drain → live ≢ []
 
-pub either : {A B : Type 0} (P : A → Type 0) (b : Bool) (x y : Result A B) → (b ≡ true → IfOk x P) → (b ≡ false → IfOk y P) → IfOk (cond b x y) P
-either P true x y px py = px refl
-either P false x y px py = py refl
-
-fed-workers : (live : List ℕ) (counts : Option (List Count)) → IfOk (feed_of counts) (HasWorker live)
+fed-workers : (live : List ℕ) (counts : Option (List Count)) → IfSome (option_map step.Feed counts) (HasWorker live)
 fed-workers live None = tt
 fed-workers live (Some counts) = λ is. absurd (cc (is))
 
-some-live : (live : List ℕ) → (length live == 0) ≡ false → live ≢ []
-some-live live is none = absurd (true≢false (sym (ap (λ (ws : List ℕ). length ws == 0) none) ∙ is))
+some-live : (live : List ℕ) → refused_if (length live == 0) NoWorker ≡ None → live ≢ []
+some-live [] is none = absurd (cc (is))
+some-live (worker ∷ live) is none = absurd (cc (none))
 
-step-workers : (setting : Setting) (live : List ℕ) (f : Form) → IfOk (step_of setting live f) (HasWorker live)
-step-workers setting live form.feed_all = λ is. absurd (cc (is))
-step-workers setting live (form.feed pairs) = fed-workers live (counts_of setting.items pairs)
-step-workers setting live (form.round None) = λ is. absurd (cc (is))
-step-workers setting live (form.round (Some worker)) = either (HasWorker live) (is_live live worker) _ _ (λ _ is. absurd (cc (is))) (λ _. tt)
-step-workers setting live (form.start worker) =
-    either (HasWorker live) (is_live live worker) _ _ (λ _. tt) (λ _. either (HasWorker live) (nat_le most_workers (length live)) _ _ (λ _. tt) (λ _ is. absurd (cc (is))))
-step-workers setting live (form.stop worker) = either (HasWorker live) (is_live live worker) _ _ (λ _ is. absurd (cc (is))) (λ _. tt)
-step-workers setting live (form.lose task) = either (HasWorker live) (is_task setting.subs task) _ _ (λ _ is. absurd (cc (is))) (λ _. tt)
-step-workers setting live form.drain = either (HasWorker live) (length live == 0) _ _ (λ _. tt) (λ some is. some-live live some)
+form-workers : (setting : Setting) (live : List ℕ) (o : Option Form) → form_refusal setting live o ≡ None → IfSome (option_and_then (step_of setting.items) o) (HasWorker live)
+form-workers setting live None fits = tt
+form-workers setting live (Some form.feed_all) fits = λ is. absurd (cc (is))
+form-workers setting live (Some (form.feed pairs)) fits = fed-workers live (counts_of setting.items pairs)
+form-workers setting live (Some (form.round lost)) fits = λ is. absurd (cc (is))
+form-workers setting live (Some (form.start worker)) fits = λ is. absurd (cc (is))
+form-workers setting live (Some (form.stop worker)) fits = λ is. absurd (cc (is))
+form-workers setting live (Some (form.lose task)) fits = λ is. absurd (cc (is))
+form-workers setting live (Some form.drain) fits = λ is. some-live live fits
 
--- each value that a function takes
-abbrev pub ForEach : {S T : Type 0} → (S → T) → (S → Type 0) → Type 0
-ForEach {S} f P = (s : S) → P s
+-- a line that isn't refused is skipped, or its form isn't refused
+passed : (long skipped late : Bool) (form rounds : Option StepWhy) (o : Option Step) (P : Step → Type 0) → (form ≡ None → IfSome o P) →
+    cond long (Some TooLarge) (cond skipped None (cond late (Some TooLarge) (option_or form rounds))) ≡ None → IfSome (cond skipped None o) P
+passed true skipped late form rounds o P h fits = absurd (cc (fits))
+passed false true late form rounds o P h fits = tt
+passed false false true form rounds o P h fits = absurd (cc (fits))
+passed false false false None rounds o P h fits = h refl
+passed false false false (Some why) rounds o P h fits = absurd (cc (fits))
 
--- what a line comes to among these live workers: nothing, or a step, which changes them, and which has one where it is a drain
-abbrev IsReadWith : {S : Type 0} → (S → List ℕ) → List ℕ → Option Step × S → Type 0
-IsReadWith among live (None, next) = among next ≡ live
-IsReadWith among live (Some s, next) = HasWorker live s × (among next ≡ live_after s live)
+line-workers : (setting : Setting) (workers : ℕ) (before : List (List ℕ)) (line : List ℕ) → refusal_of setting workers before line ≡ None →
+    IfSome (step_of_line setting.items line) (HasWorker (live_after workers (steps_of setting.items before)))
+line-workers setting workers before line =
+    passed (nat_lt most_bytes (min (bytes_of (before ++ line ∷ [])) setting.size)) (is_skipped line) (nat_le most_steps (length (steps_of setting.items before)))
+    (form_refusal setting (live_after workers (steps_of setting.items before)) (form_of_line line))
+    (refused_if (nat_lt most_rounds (all_rounds setting.chain (steps_of setting.items (before ++ line ∷ [])))) TooLarge) (option_and_then (step_of setting.items) (form_of_line line))
+    (HasWorker (live_after workers (steps_of setting.items before))) (form-workers setting (live_after workers (steps_of setting.items before)) (form_of_line line))
 
-taken-workers : (chain : ℕ) (r : Result Step StepWhy) → ForEach (take_step chain) (λ s. IfOk r (HasWorker s.live) → IfOk (take_step chain s r) (IsReadWith (λ x. x.live) s.live))
-taken-workers chain (Err why) s h = tt
-taken-workers chain (Ok taken) s h = either (IsReadWith (λ x. x.live) s.live) (nat_lt most_rounds (s.rounds + rounds_of chain taken)) _ _ (λ _. tt) (λ _. (h, refl))
-
-form-workers : (setting : Setting) (f : Option Form) → ForEach (read_form setting) (λ s. IfOk (read_form setting s f) (IsReadWith (λ x. x.live) s.live))
-form-workers setting None s = tt
-form-workers setting (Some f) s = taken-workers setting.chain (step_of setting s.live f) s (step-workers setting s.live f)
-
-line-workers : (setting : Setting) (line : List ℕ) → ForEach (read_line setting) (λ s. IfOk (read_line setting s line) (IsReadWith (λ x. x.live) s.live))
-line-workers setting line s =
-    either (IsReadWith (λ x. x.live) s.live) (nat_lt most_bytes (min (s.bytes + (length line + 1)) setting.size)) _ _ (λ _. tt)
-    (λ _. either (IsReadWith (λ x. x.live) s.live) (is_skipped line) _ _ (λ _. refl)
-    (λ _. either (IsReadWith (λ x. x.live) s.live) (nat_le most_steps s.steps) _ _ (λ _. tt) (λ _. form-workers setting (form_of_line line) (passed line s))))
+-- the live workers after one more line
+live-more : (items : List Item) (workers : ℕ) (before : List (List ℕ)) (line : List ℕ) →
+    live_after workers (steps_of items (before ++ line ∷ [])) ≡ fold live_after_one (live_after workers (steps_of items before)) (cons_option (step_of_line items line) [])
+live-more items workers before line =
+    ap (live_after workers) (steps-more items before line) ∙ fold-append live_after_one (range_with_len 1 workers) (steps_of items before) (cons_option (step_of_line items line) [])
 
 -- ---- lines
 
@@ -99,35 +102,37 @@ line-workers setting line s =
 abbrev DrainsHaveWorkersFrom : Topology → List ℕ → List Lined → Type 0
 DrainsHaveWorkersFrom t live steps = (p : Progress) → p.live ≡ live → DrainsHaveWorkers t p steps
 
-after-workers : {S : Type 0} (among : S → List ℕ) (t : Topology) (line : ℕ) (live : List ℕ) (o : Option Step) (next : S) → IsReadWith among live (o, next) →
-    (r : Result (List Lined) (ℕ × StepWhy)) → IfOk r (DrainsHaveWorkersFrom t (among next)) → IfOk (then_read (lined line o) r) (DrainsHaveWorkersFrom t live)
-after-workers among t line live o next read (Err refused) then = tt
-after-workers among t line live None next read (Ok steps) then = λ p is. then p (is ∙ sym read)
-after-workers among t line live (Some s) next read (Ok steps) then = λ p is. (
-  λ drain none. read.0 drain (sym is ∙ none),
-  then (after_line t p (record { line = line; step = s }))
-      (step-live t (record p { journal = p.journal ++ entry.Step line ∷ [] }) s ∙ ap (live_after s) is ∙ sym read.1),
+after-workers : (t : Topology) (line : ℕ) (live : List ℕ) (o : Option Step) (more : List Lined) → IfSome o (HasWorker live) →
+    DrainsHaveWorkersFrom t (fold live_after_one live (cons_option o [])) more → DrainsHaveWorkersFrom t live (lined line o ++ more)
+after-workers t line live None more has then = then
+after-workers t line live (Some s) more has then = λ p is. (
+  λ drain none. has drain (sym is ∙ none),
+  then (after_line t p (record { line = line; step = s })) (step-live t (record p { journal = p.journal ++ entry.Step line ∷ [] }) s ∙ ap (λ (ws : List ℕ). live_after_one ws s) is),
 )
 
-next-workers : (t : Topology) (live : List ℕ) (line : ℕ) → ForEach (text_after_line line) (λ more. ForEach (text_after_line line more) (λ r. IfOk r (IsReadWith (λ x. x.live) live) →
-    ForEach more (λ next. IfOk (more next) (DrainsHaveWorkersFrom t next.live)) → IfOk (text_after_line line more r) (DrainsHaveWorkersFrom t live)))
-next-workers t live line more (Err why) h then = tt
-next-workers t live line more (Ok (o, next)) h then = after-workers (λ x. x.live) t line live o next h (more next) (then next)
+-- neither this line is refused nor one after it
+none-refused : (number : ℕ) (o : Option StepWhy) (rest : Option (ℕ × StepWhy)) → option_or (option_map (λ why. (number, why)) o) rest ≡ None → (o ≡ None) × (rest ≡ None)
+none-refused number None rest is = (refl, is)
+none-refused number (Some why) rest is = absurd (cc (is))
 
-lines-workers : (t : Topology) (setting : Setting) (lines : List (List ℕ)) → ForEach (lines_from setting) (λ s. IfOk (lines_from setting s lines) (DrainsHaveWorkersFrom t s.live))
-lines-workers t setting [] s = λ p is. tt
-lines-workers t setting (line ∷ more) s =
-    next-workers t s.live (s.lines + 1) (λ next. lines_from setting next more) (read_line setting s line) (line-workers setting line s) (λ next. lines-workers t setting more next)
+lines-workers : (t : Topology) (setting : Setting) (workers : ℕ) (before lines : List (List ℕ)) → first_refused setting workers before lines ≡ None →
+    DrainsHaveWorkersFrom t (live_after workers (steps_of setting.items before)) (lined_steps setting.items (length before) lines)
+lines-workers t setting workers before [] fits = λ p is. tt
+lines-workers t setting workers before (line ∷ more) fits =
+    let both = none-refused (length before + 1) (refusal_of setting workers before line) (first_refused setting workers (before ++ line ∷ []) more) fits in
+    after-workers t (length before + 1) (live_after workers (steps_of setting.items before)) (step_of_line setting.items line) (lined_steps setting.items (length before + 1) more)
+    (line-workers setting workers before line both.0)
+    (subst₂ (λ (live : List ℕ) (n : ℕ). DrainsHaveWorkersFrom t live (lined_steps setting.items n more)) (live-more setting.items workers before line) (length-append before (line ∷ []))
+    (lines-workers t setting workers (before ++ line ∷ []) more both.1))
 
 -- ---- schedules
 
 pub text-workers : (items : List Item) (files : List TopicLines) (workers : ℕ) (bytes : List ℕ) (steps : List Lined) →
     schedule_of items (topology_of items) workers bytes ≡ Ok steps → DrainsHaveWorkers (topology_of items) (opening (topology_of items) items files workers) steps
 text-workers items files workers bytes steps is =
-    let read : IfOk (schedule_of items (topology_of items) workers bytes) (DrainsHaveWorkersFrom (topology_of items) (range_with_len 1 workers)) =
-    lines-workers (topology_of items) (setting_of items (topology_of items) (length bytes)) (lines_of bytes) (first workers) in
-    subst (λ (r : Result (List Lined) (ℕ × StepWhy)). IfOk r (DrainsHaveWorkersFrom (topology_of items) (range_with_len 1 workers))) is read
-    (opening (topology_of items) items files workers) refl
+    let accepted = schedule-accepted items (topology_of items) workers bytes steps is in
+    subst (DrainsHaveWorkers (topology_of items) (opening (topology_of items) items files workers)) (sym accepted.1)
+    (lines-workers (topology_of items) (setting_of items (topology_of items) (length bytes)) workers [] (lines_of bytes) accepted.0 (opening (topology_of items) items files workers) refl)
 
 some-workers : (n : ℕ) → 1 ≤ n → range_with_len 1 n ≢ []
 some-workers zero some none = absurd (omega (arith, some))

@@ -1,6 +1,6 @@
 -- A drain brings each task to the last feed, and the steps after it keep it there, until the next feed.
 use Rattle.std.proofs.Common.{◌≡◌, ◌∙◌, refl, sym, ℕ, ◌+◌, Bool, true, false, true≢false, cond, List, [], ◌∷◌, ◌++◌, length, length-append, arith}
-use Rattle.std.specs.Prelude.{Contains, Option, None, Some}
+use Rattle.std.specs.Prelude.{Option, None, Some}
 use Rattle.ksql_program.specs.Sound.{IsSound}
 use Rattle.ksql_program.specs.declared.program.Item.{Item}
 use Rattle.topic_files.specs.declared.topic.TopicLines.{TopicLines}
@@ -11,9 +11,7 @@ use Rattle.topology.specs.declared.schedule.Step.{Step}
 use Rattle.topology.specs.declared.schedule.Step.TheVariants as step
 use Rattle.topology.specs.declared.topology.SubInput.{SubInput}
 use Rattle.topology.specs.declared.topology.Topology.{Topology}
-use Rattle.core_state.proofs.Lists.{Contains-here, Contains-next}
 use Rattle.core_state.specs.Routes.{routes_of}
-use Rattle.core_state.specs.State.{least, lowest}
 use Rattle.core_state.specs.declared.journal.JournalEntry.TheVariants as entry
 use Rattle.wiring_laws.proofs.Wirings.{wired-well}
 use Rattle.task_core.specs.Core.{inputs_at}

@@ -8,3 +8,10 @@ pub mod Commands
 pub mod Workers
 pub mod Demo
 pub mod Demos
+pub mod DemoFile
+pub mod DemoSteps
+pub mod DemoTokens
+pub mod DemoTrees
+pub mod DemoRules
+pub mod DemoProgram
+pub mod DemoDecided

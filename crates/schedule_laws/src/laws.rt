@@ -107,3 +107,9 @@ pub fn demos_write_the_same()
         command_of words ≡ Some (Demo records workers) → command_of others ≡ Some (Demo records more) →
         HasText words all text → HasText others all same → text ≡ same }
 {}
+
+/// Each demo has its text: its script is accepted, its topic file has no fault, and its schedule is read without a fault.
+pub fn demos_are_decided()
+    ensures { (words : List (List ℕ)) (all : Files) (records workers : ℕ) → command_of words ≡ Some (Demo records workers) →
+        (text : List ℕ) × HasText words all text }
+{}

@@ -1,4 +1,5 @@
 pub mod Numbers
+pub mod OneLine
 pub mod Pairs
 pub mod Reached
 pub mod Taken

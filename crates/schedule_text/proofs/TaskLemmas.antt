@@ -8,7 +8,7 @@ use Rattle.std.proofs.lemmas.List.Folds.{list_any-append}
 use Rattle.ksql_types.specs.declared.relation.TaskName.{TaskName}
 use Rattle.topology.specs.Tasks.{tasks_of, tasks_of_sub}
 use Rattle.topology.specs.declared.topology.Sub.{Sub}
-use Rattle.schedule_text.specs.Standing.{is_task}
+use Rattle.schedule_text.specs.Refusals.{is_task}
 
 -- one partition more, from a number on
 step : (here : Bool) (part from count : ℕ) → ((here && (from == part)) || (here && (nat_le (from + 1) part && nat_lt part (from + 1 + count)))) ≡ (here && (nat_le from part && nat_lt part (from + suc count)))

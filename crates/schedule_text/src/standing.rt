@@ -1,8 +1,12 @@
 //! The state after some lines of a schedule, and what the next line means there.
 
-ghost use Rattle.std.specs.Prelude.{◌≡◌, ◌+◌, ◌<◌, ◌≤◌, ◌^◌, ◌==◌, ◌&&◌, ℕ, IfOk, IsTrue, OnOk, filter, length, map, min, nat_lt};
+ghost use Rattle.std.specs.Prelude.{◌≡◌, ◌+◌, ◌<◌, ◌≤◌, ◌^◌, ◌==◌, ◌&&◌, ◌∷◌, ◌++◌, ℕ, IfOk, IsTrue, List, [], OnOk, Some, filter, is_some, length, map, min, nat_lt, not, option_map};
+ghost use Rattle.topology.specs.declared.schedule.Step.TheVariants as step;
+ghost use Rattle.schedule_text.specs.declared.fault.StepWhy.TheVariants.{TooLarge, UnknownTopic};
 ghost use Rattle.schedule_text.specs.Forms.{form_view, named, pair_view};
-ghost use Rattle.schedule_text.specs.Standing.{Answers, counts_of, feed_of, first, is_live, live_after, most_bytes, most_rounds, most_steps, read_line, rounds_of, setting_view, start_of, step_of, take_step, task_in, topic_number, with_worker, without_worker};
+ghost use Rattle.schedule_text.specs.Refusals.{form_refusal, is_live, most_bytes, most_rounds, most_steps, refusal_of, refused_if, start_refusal};
+ghost use Rattle.schedule_text.specs.Standing.{Answers, first, setting_view, standing_after, task_in};
+ghost use Rattle.schedule_text.specs.Steps.{counts_of, live_after_one, rounds_of, step_of, step_of_line, topic_number, with_worker, without_worker};
 
 use crate::fault::{LineFault, StepWhy};
 use crate::forms::{Form, Pair, form_of_line};
@@ -63,7 +67,7 @@ impl Standing {
         })
     }
 
-    /// Reads one more line: its step, or None if it is skipped.
+    /// Reads one more line: its step, or None if it is skipped; or why it is refused after the lines before.
     pub(crate) fn read_line(
         &mut self,
         alloc: Global,
@@ -73,7 +77,10 @@ impl Standing {
         requires lines { self.old.lines + 1 < 2 ^ 32 }
         requires bytes { self.old.bytes + (length line.now + 1) < 2 ^ 64 }
         requires rounds { self.old.rounds ≤ most_rounds }
-        ensures read { Answers (λ step. (step, self.new)) result (read_line (setting_view setting.now) self.old line.now) }
+        ensures read { (workers : ℕ) (before : List (List ℕ)) → self.old ≡ standing_after (setting_view setting.now) workers before
+            → Answers (λ step. step) result (refusal_of (setting_view setting.now) workers before line.now) (step_of_line setting.now.items.now line.now) }
+        ensures stands { (workers : ℕ) (before : List (List ℕ)) → self.old ≡ standing_after (setting_view setting.now) workers before
+            → OnOk result (self.new ≡ standing_after (setting_view setting.now) workers (before ++ line.now ∷ [])) }
         ensures lines { self.new.lines ≡ self.old.lines + 1 }
         ensures bytes { self.new.bytes ≡ self.old.bytes + (length line.now + 1) }
         ensures short { OnOk result (min self.new.bytes setting.now.size ≤ most_bytes) }
@@ -102,7 +109,10 @@ impl Standing {
     fn take(&mut self, alloc: Global, chain: u32, step: &Step) -> Result<(), LineFault>
         requires steps { self.old.steps < most_steps }
         requires rounds { self.old.rounds ≤ most_rounds }
-        ensures taken { Answers (λ _. (Some step.now, self.new)) result (take_step chain self.old (Ok step.now)) }
+        ensures answer { Answers (λ _. step.now) result (refused_if (nat_lt most_rounds (self.old.rounds + rounds_of chain step.now)) TooLarge) step.now }
+        ensures steps { OnOk result (self.new.steps ≡ self.old.steps + 1) }
+        ensures taken { OnOk result (self.new.rounds ≡ self.old.rounds + rounds_of chain step.now) }
+        ensures live { OnOk result (self.new.live ≡ live_after_one self.old.live step.now) }
         ensures lines { self.new.lines ≡ self.old.lines }
         ensures bytes { self.new.bytes ≡ self.old.bytes }
         ensures rounds { OnOk result (self.new.rounds ≤ most_rounds) }
@@ -132,7 +142,7 @@ fn rounds_of(chain: u32, step: &Step) -> u64
 
 /// Changes the live workers as a step does.
 fn move_workers(alloc: Global, live: &mut Items<u32>, step: &Step) -> Result<(), AllocError>
-    ensures { OnOk result (live.new ≡ live_after step.now live.old) }
+    ensures { OnOk result (live.new ≡ live_after_one live.old step.now) }
 {
     match step {
         Step::Round {
@@ -181,7 +191,7 @@ fn higher(alloc: Global, live: &[u32], worker: u32) -> Result<Vec<u32>, AllocErr
 
 /// The step of a form, given the live workers, or why there is none.
 fn step_of(alloc: Global, setting: &Setting, live: &[u32], form: Form) -> Result<Step, LineFault>
-    ensures { Answers (λ step. step) result (step_of (setting_view setting.now) live.now (form_view form.entry)) }
+    ensures { Answers Some result (form_refusal (setting_view setting.now) live.now (Some (form_view form.entry))) (step_of setting.now.items.now (form_view form.entry)) }
 {
     match form {
         Form::FeedAll => Ok(Step::FeedAll),
@@ -209,7 +219,7 @@ fn step_of(alloc: Global, setting: &Setting, live: &[u32], form: Form) -> Result
 
 /// A feed with these counts, or an error if they are None because a topic is unknown.
 fn feed_of(counts: Option<Counts>) -> Result<Step, LineFault>
-    ensures { Answers (λ step. step) result (feed_of counts) }
+    ensures { Answers Some result (refused_if (not (is_some counts)) UnknownTopic) (option_map step.Feed counts) }
 {
     match counts {
         Some(counts) => Ok(Step::Feed(counts)),
@@ -219,7 +229,7 @@ fn feed_of(counts: Option<Counts>) -> Result<Step, LineFault>
 
 /// The step that starts a worker that isn't live, unless as many workers are live as allowed.
 fn start(live: &[u32], worker: u32) -> Result<Step, LineFault>
-    ensures { Answers (λ step. step) result (start_of live.now worker) }
+    ensures { Answers (λ step. step) result (start_refusal live.now worker) (step.Start worker) }
 {
     if is_live(live, worker) {
         return Err(LineFault::Refused(StepWhy::WorkerTaken));

@@ -53,7 +53,3 @@ pub between-both : (a b : ℕ) (rs : List SourceRecord) (cs : List Change) →
 between-both a b rs cs =
     sym (filter-append (is_between log_feed a b) (map Fed rs) (map Said cs)
     ∙ ap₂ (λ (xs ys : List LogEntry). xs ++ ys) (filter-map Fed (is_between log_feed a b) rs) (filter-map Said (is_between log_feed a b) cs))
-
--- what a filter of changes keeps
-pub kept-between : (a b : ℕ) (cs kept : List Change) → kept ≡ between feed_of a b cs → map Said kept ≡ between log_feed a b (map Said cs)
-kept-between a b cs kept is = ap (λ (xs : List Change). map Said xs) is ∙ sym (filter-map Said (is_between log_feed a b) cs)

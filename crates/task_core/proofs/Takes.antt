@@ -10,7 +10,8 @@ use Rattle.topology.specs.declared.topology.SubInput.{SubInput}
 use Rattle.core_state.specs.Wired.{between, log_feed}
 use Rattle.core_state.specs.declared.log.LogEntry.{LogEntry}
 use Rattle.core_state.specs.declared.log.LogEntry.TheVariants.{Fed, Said}
-use Rattle.task_core.specs.Readers.{entries_left, pending, taken_as}
+use Rattle.topic_log.specs.Entries.{entries_in}
+use Rattle.task_core.specs.Readers.{pending, taken_as}
 use Rattle.task_core.specs.Reading.{kind_read, taken, takes}
 use Rattle.task_core.specs.declared.reader.Rest.{Rest}
 use Rattle.task_core.proofs.Merging.{both}
@@ -28,7 +29,7 @@ taken-same nodes side input (x ∷ xs) = ap₂ (λ (us vs : List Entry). us ++ v
 pub record Shows (kind : Kind) (input : SubInput) (shown : List LogEntry) (r : Rest) : Type 0 where
   pub kind_is : r.kind ≡ kind
   pub input_is : r.input ≡ input
-  pub entries_are : entries_left r ≡ shown
+  pub entries_are : entries_in r.entries ≡ shown
 
 pub takes-two : (nodes : List Node) (inputs : List SubInput) (shown : ℕ → List LogEntry) (a b : ℕ) (first second : Rest) (d e : SubInput) →
     2 ≤ length inputs → length inputs ≤ 2 →

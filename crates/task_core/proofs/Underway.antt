@@ -10,7 +10,8 @@ use Rattle.operator.specs.Holding.{Held, IsBaseOf, Maps, committed, maps_of}
 use Rattle.op_chain.specs.Chain.{AreBasesOf, AreStorable, ChainView, MayLoad, Runs, StandAlong, at_rest, given, maps_in, passed, replayed_along}
 use Rattle.op_chain.proofs.Laws.{given-append, replayed-after, storable-append}
 use Rattle.core_state.specs.declared.log.LogEntry.{LogEntry}
-use Rattle.task_core.specs.Readers.{entries_left, left_len, pending}
+use Rattle.topic_log.specs.Entries.{entries_in}
+use Rattle.task_core.specs.Readers.{left_len, pending}
 use Rattle.task_core.specs.declared.reader.Reader.{Reader}
 use Rattle.task_core.proofs.Merging.{both}
 use Rattle.topology.specs.declared.topology.SubInput.{SubInput}
@@ -82,7 +83,7 @@ none-both j k one other [] (y ∷ ys) h = absurd (omega (arith, h))
 none-both j k one other (x ∷ xs) ys h = absurd (omega (arith, h))
 
 pub nothing-left : (r : Reader) → left_len r ≡ 0 → pending r ≡ []
-nothing-left r h = none-both r.left.kind r.right.kind r.left.input r.right.input (entries_left r.left) (entries_left r.right) h
+nothing-left r h = none-both r.left.kind r.right.kind r.left.input r.right.input (entries_in r.left.entries) (entries_in r.right.entries) h
 
 -- ---- commits
 

@@ -1,3 +1,4 @@
+pub mod Advancing
 pub mod Codes
 pub mod Core
 pub mod Readers

@@ -33,13 +33,9 @@ abbrev pub taken_as : Kind → ℕ → SubInput → LogEntry → List Entry
 taken_as kind side input (Fed r) = from_side side (map (with_cells input.keys) (saying kind r))
 taken_as kind side input (Said c) = from_side side (with_cells input.keys c ∷ [])
 
--- the rest of an input: borrowed entries, then owned changes
-abbrev pub entries_left : Rest → List LogEntry
-entries_left r = entries_in r.entries ++ map Said r.given.items
-
--- what a task takes of it
+-- what a task takes of the rest of an input
 abbrev pub rest_on : ℕ → Rest → List Entry
-rest_on side r = flat_map (taken_as r.kind side r.input) (entries_left r)
+rest_on side r = flat_map (taken_as r.kind side r.input) (entries_in r.entries)
 
 -- everything left in a reader
 abbrev pub pending : Reader → List Entry
@@ -47,12 +43,12 @@ pending r = ascending (entry_cmp r.left.input.relation r.right.input.relation) (
 
 -- the number of entries left
 abbrev pub left_len : Reader → ℕ
-left_len r = length (entries_left r.left) + length (entries_left r.right)
+left_len r = length (entries_in r.left.entries) + length (entries_in r.right.entries)
 
 -- the rest of both inputs is in the order of places
 pub record IsOrdered (r : Reader) : Type 0 where
-  pub left : IsInPlaceOrder (entries_left r.left)
-  pub right : IsInPlaceOrder (entries_left r.right)
+  pub left : IsInPlaceOrder (entries_in r.left.entries)
+  pub right : IsInPlaceOrder (entries_in r.right.entries)
 
 -- whether the first entry on the left goes next: it isn't after the first one on the right
 abbrev pub goes_left : ℕ → ℕ → List LogEntry → List LogEntry → Bool

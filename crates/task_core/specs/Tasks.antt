@@ -1,5 +1,5 @@
 -- Tasks, and what they propose.
-use Rattle.std.specs.Prelude.{◌≡◌, ℕ, ◌≤◌, List, [], ◌∷◌, map, All, Option, Some, None, IsSome, length}
+use Rattle.std.specs.Prelude.{◌≡◌, ℕ, ◌≤◌, List, map, All, IsSome, length}
 use Rattle.ksql_types.specs.declared.relation.TaskName.{TaskName}
 use Rattle.ksql_nodes.specs.declared.node.Node.{Node}
 use Rattle.ksql_nodes.specs.Entries.{Entry}
@@ -25,20 +25,11 @@ pub record TaskView : Type 0 where
   pub nodes : List Node
   pub maps : List Maps
 
--- the only one of some inputs
-abbrev pub only : List SubInput → Option SubInput
-only (i ∷ []) = Some i
-only _ = None
-
 -- ---- what is shown to a task
 
 -- what a broker shows of the topics at a task's partition
 abbrev pub shown_to : Shelf → TaskView → ℕ → List LogEntry
 shown_to s t topic = s.shown topic t.name.part
-
--- the same broker, where each partition shows these entries
-abbrev pub showing : List LogEntry → Shelf → Shelf
-showing xs s = record s { shown = λ topic q. xs }
 
 -- the feed up to which all inputs of a task are closed
 abbrev pub bound_of : Routes → Shelf → TaskView → ℕ

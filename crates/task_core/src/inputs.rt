@@ -1,22 +1,19 @@
 //! The inputs of a task: up to which feed they are closed, and what they show in some feeds.
-ghost use Rattle.std.specs.Prelude.{◌≡◌, ◌<◌, ◌≤◌, [], ◌∷◌, List, All, IsSome, length, map};
+ghost use Rattle.std.specs.Prelude.{◌≡◌, ◌<◌, ◌≤◌, [], List, All, IsSome, length, map};
 ghost use Rattle.ksql_nodes.specs.declared.node.Node.{Node as OneNode};
 ghost use Rattle.core_state.specs.Shelf.{shelf_closed};
 ghost use Rattle.core_state.specs.State.{lowest};
 ghost use Rattle.core_state.specs.Wired.{between, log_feed};
-ghost use Rattle.core_state.specs.declared.log.LogEntry.TheVariants.{Said};
+ghost use Rattle.topic_log.specs.Entries.{entries_in};
 ghost use Rattle.topic_log.specs.Order.{IsInPlaceOrder};
 ghost use Rattle.topic_log.specs.Shelves.{part_at, routes_in, shelf_of, topics_of};
-ghost use Rattle.task_core.specs.Readers.{IsOrdered, entries_left, pending};
+ghost use Rattle.task_core.specs.Readers.{IsOrdered, pending};
 ghost use Rattle.task_core.specs.Reading.{kind_read, takes};
 
 use crate::feeds::fed_between;
 use crate::reader::{Reader, Rest};
 use ksql_nodes::Node;
-use ksql_place::Change;
 use ksql_types::Kind;
-use std::alloc::Global;
-use std::collections::VecDeque;
 use topic_log::{Broker, Entries};
 use topology::SubInput;
 
@@ -62,7 +59,6 @@ pub fn bound_of(inputs: &[SubInput], broker: &Broker) -> u64
 
 /// Everything that the inputs (one or two) show in some feeds.
 pub fn reader_of<'a>(
-    alloc: Global,
     broker: &'a Broker,
     feeds: Feeds,
     kinds: Kinds,
@@ -78,104 +74,53 @@ pub fn reader_of<'a>(
 {
     match inputs {
         [left, right, ..] => Reader {
-            left: rest_of(alloc, broker, feeds, kinds.left, *left),
-            right: rest_of(alloc, broker, feeds, kinds.right, *right),
+            left: rest_of(broker, feeds, kinds.left, *left),
+            right: rest_of(broker, feeds, kinds.right, *right),
         },
         [one] => Reader {
-            left: rest_of(alloc, broker, feeds, kinds.left, *one),
-            right: nothing(alloc, kinds.right),
+            left: rest_of(broker, feeds, kinds.left, *one),
+            right: nothing(kinds.right),
         },
         [] => Reader {
-            left: nothing(alloc, kinds.left),
-            right: nothing(alloc, kinds.right),
+            left: nothing(kinds.left),
+            right: nothing(kinds.right),
         },
-    }
-}
-
-/// The same for one input whose changes are passed in, in the order of their places. Takes no memory.
-pub fn reader_over<'a>(
-    alloc: Global,
-    feeds: Feeds,
-    kinds: Kinds,
-    input: SubInput,
-    changes: Vec<Change>,
-) -> Reader<'a>
-    requires order { IsInPlaceOrder (map Said changes.items) }
-    ensures order { IsOrdered result }
-    ensures pending { (nodes : List OneNode) → kinds.left ≡ kind_read nodes 0 →
-        pending result ≡ takes nodes (input ∷ []) (λ topic. map Said changes.items) feeds.from feeds.to }
-{
-    Reader {
-        left: rest_over(feeds, kinds.left, input, changes),
-        right: nothing(alloc, kinds.right),
     }
 }
 
 /// What an input shows in some feeds.
-fn rest_of<'a>(
-    alloc: Global,
-    broker: &'a Broker,
-    feeds: Feeds,
-    kind: Kind,
-    input: SubInput,
-) -> Rest<'a>
+fn rest_of<'a>(broker: &'a Broker, feeds: Feeds, kind: Kind, input: SubInput) -> Rest<'a>
     requires part { IsSome (part_at broker.now input.topic feeds.part) }
     requires forward { feeds.from ≤ feeds.to }
     ensures kind { result.kind ≡ kind }
     ensures input { result.input ≡ input }
-    ensures order { IsInPlaceOrder (entries_left result) }
-    ensures entries { entries_left result ≡ between log_feed feeds.from feeds.to ((shelf_of broker.now).shown input.topic feeds.part) }
+    ensures order { IsInPlaceOrder (entries_in result.entries) }
+    ensures entries { entries_in result.entries ≡ between log_feed feeds.from feeds.to ((shelf_of broker.now).shown input.topic feeds.part) }
 {
     let shown = broker.visible(input.topic, feeds.part);
     Rest {
         kind,
         input,
         entries: fed_between(shown, feeds.from, feeds.to),
-        given: VecDeque::new(alloc),
     }
 }
 
-/// What changes of an input show in some feeds.
-fn rest_over<'a>(feeds: Feeds, kind: Kind, input: SubInput, mut changes: Vec<Change>) -> Rest<'a>
-    requires order { IsInPlaceOrder (map Said changes.items) }
-    ensures kind { result.kind ≡ kind }
-    ensures input { result.input ≡ input }
-    ensures order { IsInPlaceOrder (entries_left result) }
-    ensures entries { entries_left result ≡ between log_feed feeds.from feeds.to (map Said changes.items) }
-{
-    changes.retain(|change| {
-        feeds.from < change.place.stamp.feed && change.place.stamp.feed <= feeds.to
-    });
-    rest_given(kind, input, VecDeque::from_vec(changes))
-}
-
 /// The empty rest of a missing input.
-fn nothing<'a>(alloc: Global, kind: Kind) -> Rest<'a>
+fn nothing<'a>(kind: Kind) -> Rest<'a>
     ensures kind { result.kind ≡ kind }
     ensures input { result.input.relation ≡ 0 }
-    ensures entries { entries_left result ≡ [] }
-{
-    let input = SubInput {
-        topic: 0,
-        relation: 0,
-        keys: 0,
-    };
-    rest_given(kind, input, VecDeque::new(alloc))
-}
-
-/// The rest of an input with no borrowed entries.
-fn rest_given<'a>(kind: Kind, input: SubInput, given: VecDeque<Change>) -> Rest<'a>
-    ensures kind { result.kind ≡ kind }
-    ensures input { result.input ≡ input }
-    ensures entries { entries_left result ≡ map Said given.items }
+    ensures entries { entries_in result.entries ≡ [] }
 {
     Rest {
         kind,
-        input,
+        input: SubInput {
+            topic: 0,
+            relation: 0,
+            keys: 0,
+        },
         entries: Entries {
             fed: &[],
             said: &[],
         },
-        given,
     }
 }

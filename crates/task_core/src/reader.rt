@@ -1,17 +1,16 @@
 //! What a task reads of its inputs, in the order of the places.
 ghost use Rattle.std.specs.Prelude.{◌≡◌, ◌++◌, ◌+◌, ◌<◌, ◌==◌, IfOk, OnOk, drop, flat_map, length, option_map, slice_get, take};
 ghost use Rattle.op_chain.specs.Chain.{entries_of};
+ghost use Rattle.topic_log.specs.Entries.{entries_in};
 ghost use Rattle.topic_log.specs.Order.{place_of};
-ghost use Rattle.task_core.specs.Readers.{IsOrdered, entries_left, goes_left, left_len, pending, place_at, taken_as};
+ghost use Rattle.task_core.specs.Readers.{IsOrdered, goes_left, left_len, pending, place_at, taken_as};
 
 use crate::places::{Front, cmp_fronts, front_of};
-use crate::whole::{push_given, push_said, push_whole};
-use ksql_place::Change;
+use crate::whole::{push_said, push_whole};
 use ksql_types::Kind;
 use op_chain::Entry;
 use std::alloc::{AllocError, Global};
 use std::cmp::Ordering;
-use std::collections::VecDeque;
 use topic_log::Entries;
 use topology::SubInput;
 
@@ -19,14 +18,12 @@ use topology::SubInput;
 /// the nodes.
 const MOST: usize = 32;
 
-/// The rest of what an input of a task shows, and the kind of relation that its records speak to: borrowed entries, and
-/// after them changes that the task owns.
+/// The rest of what an input of a task shows, and the kind of relation that its records speak to.
 #[derive(Drop)]
 pub struct Rest<'a> {
     pub kind: Kind,
     pub input: SubInput,
     pub entries: Entries<'a>,
-    pub given: VecDeque<Change>,
 }
 
 /// The rest of a task's inputs. Without a second input, the right side is empty.
@@ -86,7 +83,7 @@ impl Reader<'_> {
     /// Whether the first entry on the left goes next.
     fn is_left_next(&self) -> bool
         ensures { let r = self.now in
-            result ≡ goes_left r.left.input.relation r.right.input.relation (entries_left r.left) (entries_left r.right) }
+            result ≡ goes_left r.left.input.relation r.right.input.relation (entries_in r.left.entries) (entries_in r.right.entries) }
     {
         let Some(right) = self.right.front() else {
             return !self.left.is_done();
@@ -103,22 +100,22 @@ impl Reader<'_> {
 impl Rest<'_> {
     /// Whether nothing is left.
     fn is_done(&self) -> bool
-        ensures { result ≡ (length (entries_left self.now) == 0) }
+        ensures { result ≡ (length (entries_in self.now.entries) == 0) }
     {
-        self.entries.fed.is_empty() && self.entries.said.is_empty() && self.given.is_empty()
+        self.entries.fed.is_empty() && self.entries.said.is_empty()
     }
 
     /// The number of entries left; fails with out of memory if a usize can't count them.
     fn len(&self) -> Result<usize, AllocError>
-        ensures { IfOk result (λ count. count ≡ length (entries_left self.now)) }
+        ensures { IfOk result (λ count. count ≡ length (entries_in self.now.entries)) }
     {
-        let lent = self.entries.fed.len() + self.entries.said.len();
-        lent.checked_add(self.given.len()).ok_or(AllocError)
+        let (fed, said) = (self.entries.fed.len(), self.entries.said.len());
+        fed.checked_add(said).ok_or(AllocError)
     }
 
     /// The place of the first entry left, if any: a record has the empty path.
     fn front(&self) -> Option<Front<'_>>
-        ensures { option_map place_at result ≡ option_map place_of (slice_get (entries_left self.now) 0) }
+        ensures { option_map place_at result ≡ option_map place_of (slice_get (entries_in self.now.entries) 0) }
     {
         match (self.entries.fed, self.entries.said) {
             ([record, ..], _) => Some(Front {
@@ -126,7 +123,7 @@ impl Rest<'_> {
                 path: &[],
             }),
             ([], [change, ..]) => Some(front_of(change)),
-            ([], []) => Some(front_of(self.given.front()?)),
+            ([], []) => None,
         }
     }
 
@@ -139,9 +136,9 @@ impl Rest<'_> {
     ) -> Result<(), AllocError>
         ensures kind { self.new.kind ≡ self.old.kind }
         ensures input { self.new.input ≡ self.old.input }
-        ensures rest { entries_left self.new ≡ drop 1 (entries_left self.old) }
+        ensures rest { entries_in self.new.entries ≡ drop 1 (entries_in self.old.entries) }
         ensures taken { OnOk result (entries_of taken.new.items
-            ≡ entries_of taken.old.items ++ flat_map (taken_as self.old.kind side self.old.input) (take 1 (entries_left self.old))) }
+            ≡ entries_of taken.old.items ++ flat_map (taken_as self.old.kind side self.old.input) (take 1 (entries_in self.old.entries))) }
     {
         let columns = self.input.keys;
         match (self.entries.fed, self.entries.said) {
@@ -153,10 +150,7 @@ impl Rest<'_> {
                 self.entries.said = rest;
                 push_whole(alloc, taken, side, columns, change)
             }
-            ([], []) => match self.given.pop_front() {
-                Some(change) => push_given(alloc, taken, side, columns, change),
-                None => Ok(()),
-            },
+            ([], []) => Ok(()),
         }
     }
 }

@@ -1,23 +1,20 @@
 //! A task and its step.
-ghost use Rattle.std.specs.Prelude.{◌≡◌, [], ◌≤◌, ◌<◌, ◌==◌, All, IfOk, IfNone, IfSome, IsSome, IsTrue, None, is_none, length, map};
-ghost use Rattle.core_state.specs.declared.log.LogEntry.TheVariants.{Said};
-ghost use Rattle.topic_log.specs.Order.{IsInPlaceOrder};
-ghost use Rattle.topic_log.specs.Shelves.{routes_in, shelf_of, topics_of};
+ghost use Rattle.std.specs.Prelude.{◌≡◌, [], ◌≤◌, ◌==◌, All, IfOk, IfNone, IfSome, IsSome, IsTrue, None, is_none};
+ghost use Rattle.topic_log.specs.Shelves.{routes_in, shelf_of};
 ghost use Rattle.op_chain.specs.Chain.{HaveOwnStores, MayLoad, StandAlong, has_operator, maps_after};
 ghost use Rattle.task_core.specs.Readers.{IsOrdered, pending};
-ghost use Rattle.task_core.specs.Tasks.{CanRead, CanStore, CanTake, IsProposedBy, IsProposedOver, IsSameTask, bound_of, only, showing};
+ghost use Rattle.task_core.specs.Tasks.{CanRead, CanStore, CanTake, IsProposedBy, IsProposedOver, IsSameTask, bound_of};
 
-use crate::inputs::{Feeds, Kinds, bound_of, kind_read, reader_of, reader_over};
+use crate::inputs::{Feeds, Kinds, bound_of, kind_read, reader_of};
 use crate::reader::Reader;
 use crate::running::made_of;
 use core_state::Proposal;
-use ksql_place::Change;
 use ksql_types::{CopyOf, Items, StoreEntry, TaskName};
 use op_chain::Chain;
 use std::alloc::{AllocError, Global};
 use std::marker::Model;
 use topic_log::Broker;
-use topology::{Sub, SubInput, SubInputs};
+use topology::{Sub, SubInputs};
 
 /// A task of a sub-topology: its generation, the last feed that it processed, and an operator for each of its nodes.
 #[derive(Drop)]
@@ -140,36 +137,7 @@ impl Task {
             return Ok(self.still());
         }
         let feeds = self.feeds(bound);
-        let reader = reader_of(alloc, broker, feeds, self.kinds, self.inputs.items());
-        self.moved(alloc, reader, bound)
-    }
-
-    /// As `advance`, for a task with one input whose changes are passed in, in the order of their places.
-    pub fn advance_over(
-        self,
-        alloc: Global,
-        broker: &Broker,
-        changes: Vec<Change>,
-    ) -> Result<Moved, AllocError>
-        requires one { IsSome (only self.inputs) }
-        requires topics { All (λ i. i.topic < length (topics_of broker.now)) self.inputs }
-        requires within { self.done ≤ bound_of (routes_in broker.now) (shelf_of broker.now) self }
-        requires stores { HaveOwnStores self.nodes }
-        requires order { IsInPlaceOrder (map Said changes.items) }
-        requires storable { CanStore (routes_in broker.now) (showing (map Said changes.items) (shelf_of broker.now)) self }
-        ensures same { IfOk result (λ moved. IsSameTask self moved.task) }
-        ensures done { IfOk result (λ moved. moved.task.done ≡ bound_of (routes_in broker.now) (shelf_of broker.now) self) }
-        ensures none { IfOk result (λ moved. is_none moved.proposal ≡ (bound_of (routes_in broker.now) (shelf_of broker.now) self == self.done)) }
-        ensures still { IfOk result (λ moved. IfNone moved.proposal (moved.task ≡ self)) }
-        ensures proposal { IfOk result (λ moved. IfSome moved.proposal (IsProposedBy (routes_in broker.now) (showing (map Said changes.items) (shelf_of broker.now)) self moved.task)) }
-    {
-        let bound = bound_of(self.inputs.items(), broker);
-        if bound == self.done {
-            return Ok(self.still());
-        }
-        let feeds = self.feeds(bound);
-        let input = self.only_input().unwrap();
-        let reader = reader_over(alloc, feeds, self.kinds, input, changes);
+        let reader = reader_of(broker, feeds, self.kinds, self.inputs.items());
         self.moved(alloc, reader, bound)
     }
 
@@ -241,16 +209,6 @@ impl Task {
         ensures { result ≡ self.now.name }
     {
         self.name
-    }
-
-    /// The task's input, if it has only one.
-    pub fn only_input(&self) -> Option<SubInput>
-        ensures { result ≡ only self.now.inputs }
-    {
-        match self.inputs.items() {
-            [one] => Some(*one),
-            _ => None,
-        }
     }
 
     /// The last feed that the task processed.

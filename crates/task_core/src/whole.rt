@@ -103,26 +103,6 @@ pub fn push_whole(
     Ok(())
 }
 
-/// Appends an entry on a side: an owned change, with `columns` key columns in front of its rows. Copies nothing if that
-/// is none.
-pub fn push_given(
-    alloc: Global,
-    taken: &mut Vec<Entry>,
-    side: u32,
-    columns: u32,
-    change: Change,
-) -> Result<(), AllocError>
-    ensures { OnOk result (entries_of taken.new.items
-        ≡ entries_of taken.old.items ++ from_side side (with_cells columns change ∷ [])) }
-{
-    if columns > 0 {
-        return push_whole(alloc, taken, side, columns, &change);
-    }
-    taken.reserve(1)?;
-    put_entry(taken, side, change);
-    Ok(())
-}
-
 /// The body of a change, with `columns` key columns in front of its rows, or unchanged if that is none.
 fn whole_body(alloc: Global, columns: u32, change: &Change) -> Result<Body, AllocError>
     ensures { IfOk result (λ made. made ≡ (with_cells columns change.now).body) }

@@ -12,8 +12,28 @@ use Rattle.ksql_place.specs.Routing.{change_cmp}
 use Rattle.ksql_place.specs.declared.change.Change.{Change}
 use Rattle.ksql_place.proofs.Orders.{place_total}
 use Rattle.core_state.specs.State.{feed_of}
-use Rattle.topic_log.specs.Commits.{IsBest, dues, first_if, goes_before, is_due}
+use Rattle.topic_log.specs.Commits.{first_if, goes_before, is_due}
 use Rattle.topic_log.proofs.Due.{after-higher}
+
+-- ---- the scan over the lists
+
+-- the first change of each waiting list, if it is due
+abbrev pub dues : ℕ → List (List Change) → List (Option Change)
+dues closed ls = map (first_if (is_due closed)) ls
+
+-- the change of the i-th of n lists comes before those of the earlier lists, and not after those of the later ones
+pub record GoesFirst (ds : List (Option Change)) (n i : ℕ) (x : Change) : Type 0 where
+  pub within : i < n
+  pub at : get_or ds i None ≡ Some x
+  pub before : (j : ℕ) → j < i → IfSome (get_or ds j None) (λ y. is_gt (change_cmp y x) ≡ true)
+  pub behind : (j : ℕ) → i < j → j < n → IfSome (get_or ds j None) (λ y. is_gt (change_cmp x y) ≡ false)
+
+-- among the first n lists, the number of the one whose change comes first, and that change
+abbrev pub IsBest : List (Option Change) → ℕ → Option ℕ → Option Change → Type 0
+IsBest ds n None None = (j : ℕ) → j < n → get_or ds j None ≡ None
+IsBest ds n None (Some x) = ⊥
+IsBest ds n (Some i) None = ⊥
+IsBest ds n (Some i) (Some x) = GoesFirst ds n i x
 
 -- ---- the order of changes
 

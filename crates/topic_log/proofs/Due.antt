@@ -1,5 +1,5 @@
 -- Lists that ascend are merged: what is due comes out in order, and the rest stays.
-use Rattle.std.proofs.Common.{subst, ap₂, sum, ◌+◌, ◌≡◌, ◌∙◌, ap, sym, refl, ℕ, zero, suc, List, [], ◌∷◌, ◌++◌, ◌<◌, Bool, true, false, cond, length, map, get_or, set, arith, append_assoc, Some, None, IfSome}
+use Rattle.std.proofs.Common.{ap₂, sum, ◌+◌, ◌≡◌, ◌∙◌, ap, sym, refl, ℕ, zero, suc, List, [], ◌∷◌, ◌++◌, ◌<◌, Bool, true, false, cond, length, map, get_or, set, arith, append_assoc, Some, None, IfSome}
 use Rattle.std.specs.Prelude.{filter, if◌then◌else◌}
 use Rattle.std.proofs.lemmas.List.Sums.{sum-map, sum_by-set}
 use Rattle.std.specs.List.{sum_by, AllByRecursion, flat_map}
@@ -160,7 +160,7 @@ module _ {A : Type 0} {cmp : A → A → Ordering} (total : IsTotalOrder cmp) wh
       none_pass x [] fails none = refl
       none_pass x (y ∷ ys) fails none = filter-gone y ys (fails-higher x y none.0 fails) ∙ none_pass x ys fails none.1
 
-      pub none_due : (xs : List A) → Ascends cmp xs → first_if p xs ≡ None → filter p xs ≡ []
+      none_due : (xs : List A) → Ascends cmp xs → first_if p xs ≡ None → filter p xs ≡ []
       none_due [] up is = refl
       none_due (x ∷ xs) up is = by (p x) refl is
         where
@@ -193,12 +193,13 @@ module _ {A : Type 0} {cmp : A → A → Ordering} (total : IsTotalOrder cmp) wh
               coe_nil [] is = tt
               coe_nil (u ∷ us) is = absurd (cc (is))
 
-  -- ---- one list without its first member
+      -- if no first member is due, nothing is
+      pub nothing_passes : (ls : List (List A)) → EachAscends cmp ls → ((j : ℕ) → j < length ls → first_if p (get_or ls j []) ≡ None) → passing p ls ≡ []
+      nothing_passes [] up none = refl
+      nothing_passes (l ∷ ls) up none =
+          ap₂ (λ (us vs : List A). us ++ vs) (none_due l up.0 (none 0 (omega arith))) (nothing_passes ls up.1 (λ j below. none (suc j) (omega (arith, below))))
 
-  pub EachAscends-set : (ls : List (List A)) (i : ℕ) (x : A) (rest : List A) → i < length ls → get_or ls i [] ≡ x ∷ rest → EachAscends cmp ls → EachAscends cmp (set ls i rest)
-  EachAscends-set [] i x rest within at up = tt
-  EachAscends-set (l ∷ ls) zero x rest within at up = ((subst (Ascends cmp) at up.0).1, up.1)
-  EachAscends-set (l ∷ ls) (suc i) x rest within at up = (up.0, EachAscends-set ls i x rest (omega (arith, within)) at up.1)
+  -- ---- one of the lists
 
   pub EachAscends-at : (ls : List (List A)) (j : ℕ) → EachAscends cmp ls → Ascends cmp (get_or ls j [])
   EachAscends-at [] j up = tt
@@ -227,21 +228,36 @@ module _ {A : Type 0} where
       by true passes h = (cc (h), passes)
       by false passes h = absurd (cc (h))
 
-module _ {A : Type 0} {cmp : A → A → Ordering} (total : IsTotalOrder cmp) (p q : A → Bool)
-    (downward : (a b : A) → is_gt (cmp a b) ≡ false → p b ≡ true → p a ≡ true)
-    (other : (a : A) → p a ≡ false → q a ≡ true) where
+module _ {A : Type 0} (p q : A → Bool) (other : (a : A) → p a ≡ false → q a ≡ true) where
   all_other : (xs : List A) → filter p xs ≡ [] → filter q xs ≡ xs
   all_other [] none = refl
   all_other (x ∷ xs) none = by (p x) refl none (all_other xs)
     where
       by : (k : Bool) → p x ≡ k → cond k (x ∷ filter p xs) (filter p xs) ≡ [] → (filter p xs ≡ [] → filter q xs ≡ xs) → filter q (x ∷ xs) ≡ x ∷ xs
       by true passes h rest = absurd (cc (h))
-      by false fails h rest = filter-kept total q x xs (other x fails) ∙ ap (λ us. x ∷ us) (rest h)
+      by false fails h rest = ap (λ k. cond k (x ∷ filter q xs) (filter q xs)) (other x fails) ∙ ap (λ us. x ∷ us) (rest h)
 
-  -- if no first member is due, nothing is, and all stays
-  pub nothing_passes : (ls : List (List A)) → EachAscends cmp ls → ((j : ℕ) → j < length ls → first_if p (get_or ls j []) ≡ None) → (passing p ls ≡ []) × (map (filter q) ls ≡ ls)
-  nothing_passes [] up none = (refl, refl)
-  nothing_passes (l ∷ ls) up none =
-      let here : filter p l ≡ [] = none_due total p downward l up.0 (none 0 (omega arith)) in
-      let rest = nothing_passes ls up.1 (λ j below. none (suc j) (omega (arith, below))) in
-      (ap₂ (λ (us vs : List A). us ++ vs) here rest.0, ap₂ (λ (u : List A) (us : List (List A)). u ∷ us) (all_other l here) rest.1)
+  both_none : (us vs : List A) → us ++ vs ≡ [] → (us ≡ []) × (vs ≡ [])
+  both_none [] vs none = (refl, none)
+  both_none (u ∷ us) vs none = absurd (cc (none))
+
+  -- if nothing is due, all stays
+  pub none_left : (ls : List (List A)) → passing p ls ≡ [] → map (filter q) ls ≡ ls
+  none_left [] none = refl
+  none_left (l ∷ ls) none =
+      let both = both_none (filter p l) (passing p ls) none in
+      ap₂ (λ (u : List A) (us : List (List A)). u ∷ us) (all_other l both.0) (none_left ls both.1)
+
+module _ {A : Type 0} (cmp : A → A → Ordering) where
+  placed-some : (a : A) (bs : List A) → ¬ (placed cmp a bs ≡ [])
+  placed-some a [] none = absurd (cc (none))
+  placed-some a (b ∷ bs) none = by (is_gt (cmp a b)) none
+    where
+      by : (up : Bool) → (if up then b ∷ placed cmp a bs else a ∷ b ∷ bs) ≡ [] → ⊥
+      by true none = absurd (cc (none))
+      by false none = absurd (cc (none))
+
+  -- only an empty list is empty when it is sorted
+  pub ascending-none : (xs : List A) → ascending cmp xs ≡ [] → xs ≡ []
+  ascending-none [] none = refl
+  ascending-none (x ∷ xs) none = absurd (placed-some x (ascending cmp xs) none)

@@ -20,6 +20,9 @@ use Rattle.topic_log.specs.declared.shelves.PartShelf.{PartShelf}
 abbrev pub with_waiting : PartShelf → ℕ → VecDeque Change Global → PartShelf
 with_waiting p writer w = record { fed = p.fed; said = p.said; waiting = with_item p.waiting writer w }
 
+pub All-from_map : (P : List Change → Type 0) (ws : List (VecDeque Change Global)) → All P (map (λ w. w.items) ws) → All (λ w. P w.items) ws
+All-from_map P ws all k d below = subst P (get_or-map (λ w. w.items) ws k d) (all k d.items (subst (λ (n : ℕ). k < n) (sym (length-map ws (λ w. w.items))) below))
+
 module _ (p : PartShelf) (writer : ℕ) (was now : VecDeque Change Global) (sent : List Change) (within : writer < length p.waiting.items) (at : was ≡ get_or p.waiting.items writer was) (more : now.items ≡ was.items ++ sent) where
   waiting-was : waiting_in writer p ≡ was.items
   waiting-was = ap (λ (o : Option (VecDeque Change Global)). unwrap_or (option_map (λ w. w.items) o) []) (slice_get_read p.waiting.items (length p.waiting.items) writer was refl within at)
@@ -41,8 +44,4 @@ module _ (p : PartShelf) (writer : ℕ) (was now : VecDeque Change Global) (sent
 
   pub ascends-gathered : All (Rises change_cmp) (gathered writer sent p) → All (λ w. Rises change_cmp w.items) (with_waiting p writer now).waiting.items
   ascends-gathered all =
-      All-from_map (set p.waiting.items writer now) (subst (All (Rises change_cmp)) (sym waiting-gathered) all)
-    where
-      All-from_map : (ws : List (VecDeque Change Global)) → All (Rises change_cmp) (map (λ w. w.items) ws) → All (λ w. Rises change_cmp w.items) ws
-      All-from_map ws all k d below =
-          subst (Rises change_cmp) (get_or-map (λ w. w.items) ws k d) (all k d.items (subst (λ (n : ℕ). k < n) (sym (length-map ws (λ w. w.items))) below))
+      All-from_map (Rises change_cmp) (set p.waiting.items writer now) (subst (All (Rises change_cmp)) (sym waiting-gathered) all)

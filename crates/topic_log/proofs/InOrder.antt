@@ -28,7 +28,7 @@ module _ {A : Type 0} (R : A → A → Type 0) where
   pairs-head : (x : A) (xs : List A) → AllPairs R (x ∷ xs) → All (R x) xs
   pairs-head x xs pairs = λ k d below. pairs 0 (suc k) d (omega arith) (omega (arith, below))
 
-  pairs-tail : (x : A) (xs : List A) → AllPairs R (x ∷ xs) → AllPairs R xs
+  pub pairs-tail : (x : A) (xs : List A) → AllPairs R (x ∷ xs) → AllPairs R xs
   pairs-tail x xs pairs = λ i j d low below. pairs (suc i) (suc j) d (omega (arith, low)) (omega (arith, below))
 
   pairs-nil : AllPairs R []

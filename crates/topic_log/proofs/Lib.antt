@@ -7,10 +7,11 @@ pub mod EachPlace
 pub mod Fed
 pub mod Fresh
 pub mod Gathering
-pub mod Given
 pub mod InOrder
 pub mod Kept
+pub mod KeptRoom
 pub mod Least
+pub mod Next
 pub mod Noted
 pub mod OneTopic
 pub mod Parts

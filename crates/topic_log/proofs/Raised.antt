@@ -1,6 +1,6 @@
 -- The newest generation of one task is raised, and nothing else changes.
 use Rattle.std.proofs.Common.{◌≡◌, ◌∙◌, ap, sym, refl, subst, ℕ, ◌+◌, ◌≤◌, List, [], map, length, set, Option, Some, None, ⊎_elim}
-use Rattle.std.specs.Prelude.{All, IfSome, slice_get, option_map, unwrap_or, vec_capacity}
+use Rattle.std.specs.Prelude.{All, slice_get, option_map, unwrap_or, vec_capacity}
 use Rattle.std.specs.Global.{Vec}
 use Rattle.std.proofs.lemmas.Bool.{cases_eq}
 use Rattle.std.proofs.lemmas.List.{length-set}
@@ -8,8 +8,7 @@ use Rattle.std.proofs.lemmas.Option.{same_Some}
 use Rattle.ksql_types.specs.declared.relation.StoreEntry.{StoreEntry}
 use Rattle.ksql_types.specs.declared.relation.TaskName.{TaskName}
 use Rattle.ksql_types.specs.declared.topic.TopicSpec.{TopicSpec}
-use Rattle.ksql_place.specs.Routing.{partitions_of}
-use Rattle.core_state.specs.Routes.{IsWriter, Routes, routes_of, sent_to, tasks_of_writer}
+use Rattle.core_state.specs.Routes.{IsWriter, Routes, tasks_of_writer}
 use Rattle.core_state.specs.Shelf.{ShelfRaises}
 use Rattle.core_state.specs.State.{lowest}
 use Rattle.core_state.specs.declared.log.Proposal.{Proposal}
@@ -19,8 +18,9 @@ use Rattle.topic_log.specs.declared.shelves.Shelves.{Shelves}
 use Rattle.topic_log.specs.declared.shelves.TaskShelf.{TaskShelf}
 use Rattle.topic_log.specs.declared.shelves.TopicShelf.{TopicShelf}
 use Rattle.topic_log.specs.Entries.{shown_in}
-use Rattle.topic_log.specs.Ready.{HasRoom, IsReady}
-use Rattle.topic_log.specs.Shelves.{AreShelves, IsPartShelf, IsTopicShelf, closed_in, dones_of, part_at, routes_in, shelf_of, task_at, topics_of, waiting_in}
+use Rattle.topic_log.specs.Ready.{IsReady}
+use Rattle.topic_log.specs.Shelves.{AreShelves, IsPartShelf, IsTopicShelf, closed_in, dones_of, part_at, routes_in, shelf_of, task_at, waiting_in}
+use Rattle.topic_log.proofs.Readiness.{Alike, HasLogRoomAfter, HasRoomAfter, alike-same, ready-alike}
 use Rattle.topic_log.proofs.OneTopic.{All-slice_get, Replaces, lowest-map, map-set_same, part-else, part-there, part-was, routes-same, same-task, shelves-kept, slice_get-set_else, slice_get-set_same, task-else, task-there, task-was, topics-same}
 
 -- ---- a task is raised
@@ -127,35 +127,14 @@ module _ {s next : Shelves} {u : TaskName} {t changed : TopicShelf} {k raised : 
 
 -- ---- a prepared commit stays ready
 
-logs-room : (more : ℕ) (a b : Option TaskShelf) → option_map (λ (k : TaskShelf). k.logs) a ≡ option_map (λ (k : TaskShelf). k.logs) b →
-    IfSome b (λ k. length k.logs.items + more ≤ vec_capacity k.logs) → IfSome a (λ k. length k.logs.items + more ≤ vec_capacity k.logs)
-logs-room more None b same room = tt
-logs-room more (Some x) None same room = cc
-logs-room more (Some x) (Some y) same room = subst (λ (l : Vec StoreEntry). length l.items + more ≤ vec_capacity l) (sym (same_Some x.logs y.logs same)) room
-
--- where the topics, the partitions and the changelogs are the same
-pub ready-same : (s next : Shelves) (made : Prepared) (p : Proposal) → topics_of next ≡ topics_of s → ((i q : ℕ) → part_at next i q ≡ part_at s i q) →
-    ((v : TaskName) → option_map (λ (k : TaskShelf). k.logs) (task_at next v) ≡ option_map (λ (k : TaskShelf). k.logs) (task_at s v)) → IsReady s made p → IsReady next made p
-ready-same s next made p topics parts logs ready =
-    let routes : routes_in s ≡ routes_in next = ap routes_of (sym topics) in
-    let output : ℕ = (routes_in s).output p.task in
-    record {
-      writer = subst (λ (r : Routes). IsWriter r p.task) routes ready.writer;
-      proposal = ready.proposal;
-      task = ready.task;
-      generation = ready.generation;
-      from = ready.from;
-      to = ready.to;
-      entries = ready.entries;
-      sent = λ q.
-          subst (λ (r : Routes). IfSome (part_at next (r.output p.task) q) (λ part. IfSome (slice_get made.sent.items q) (λ xs. xs.items ≡ sent_to r p.task q p.outputs))) routes
-          (subst (λ (o : Option PartShelf). IfSome o (λ part. IfSome (slice_get made.sent.items q) (λ xs. xs.items ≡ sent_to (routes_in s) p.task q p.outputs))) (sym (parts output q)) (ready.sent q));
-      parts = subst (λ (ts : List TopicSpec). length made.sent.items ≡ partitions_of ts ((routes_of ts).output p.task)) (sym topics) ready.parts;
-      room = logs-room (length p.entries) (task_at next p.task) (task_at s p.task) (logs p.task) ready.room;
-      rooms = λ q.
-          subst (λ (r : Routes). IfSome (part_at next (r.output p.task) q) (HasRoom p.task.part (length (sent_to r p.task q p.outputs)))) routes
-          (subst (λ (o : Option PartShelf). IfSome o (HasRoom p.task.part (length (sent_to (routes_in s) p.task q p.outputs)))) (sym (parts output q)) (ready.rooms q));
-    }
+logs-alike : (a b : Option TaskShelf) → option_map (λ (k : TaskShelf). k.logs) b ≡ option_map (λ (k : TaskShelf). k.logs) a → Alike HasLogRoomAfter a b
+logs-alike None None same = tt
+logs-alike None (Some y) same = cc
+logs-alike (Some x) None same = cc
+logs-alike (Some x) (Some y) same = λ more room. subst (λ (l : Vec StoreEntry). length l.items + more ≤ vec_capacity l) (sym (same_Some y.logs x.logs same)) room
 
 pub ready-raised : {s next : Shelves} {u : TaskName} {t changed : TopicShelf} {k raised : TaskShelf} → Raises s next u t changed k raised → (made : Prepared) (p : Proposal) → IsReady s made p → IsReady next made p
-ready-raised {s = s} {next = next} h made p = ready-same s next made p (topics-same h.replaces) (parts-same h) (said-same (λ (k : TaskShelf). k.logs) h h.logs)
+ready-raised {s = s} {next = next} h made p =
+    ready-alike s next made p (topics-same h.replaces)
+    (λ i q. alike-same HasRoomAfter (λ p writer more room. room) (part_at s i q) (part_at next i q) (parts-same h i q))
+    (λ v. logs-alike (task_at s v) (task_at next v) (said-same (λ (k : TaskShelf). k.logs) h h.logs v))

@@ -22,7 +22,7 @@ writer-inside s now u same is = subst (λ (s : Shelves). IsWriter (routes_in s) 
 pub output-inside : (s now : Shelves) (u : TaskName) (j : ℕ) → s ≡ now → j ≡ (routes_in now).output u → j ≡ (routes_in s).output u
 output-inside s now u j same is = is ∙ ap (λ (s : Shelves). (routes_in s).output u) (sym same)
 
-pub was-read : {A : Type 0} (xs : List A) (i : ℕ) (x y : A) → slice_get xs i ≡ Some y → x ≡ get_or xs i x → slice_get xs i ≡ Some x
+was-read : {A : Type 0} (xs : List A) (i : ℕ) (x y : A) → slice_get xs i ≡ Some y → x ≡ get_or xs i x → slice_get xs i ≡ Some x
 was-read xs i x y at read = at ∙ ap Some (sym (read ∙ get_or_from_slice_get xs i y x at))
 
 module _ (s : Shelves) (u : TaskName) (are : AreShelves s) (is : IsWriter (routes_in s) u) (j : ℕ) (output : j ≡ (routes_in s).output u) (t : TopicShelf) (read : t ≡ get_or s.topics.items j t) where

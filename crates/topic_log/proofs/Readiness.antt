@@ -1,10 +1,10 @@
 -- When a commit is ready.
-use Rattle.std.proofs.Common.{◌≡◌, ◌∙◌, ℕ, length, sym, ap, subst, Some, None}
-use Rattle.std.specs.Prelude.{IfSome, Option, filter, option_map, slice_get, unwrap_or, vec_capacity, ◌+◌, ◌≤◌}
+use Rattle.std.proofs.Common.{◌≡◌, ◌∙◌, ℕ, length, sym, ap, subst, Some, None, List}
+use Rattle.std.specs.Prelude.{⊤, IfSome, Option, filter, option_map, slice_get, unwrap_or, vec_capacity, ◌+◌, ◌≤◌}
 use Rattle.ksql_types.specs.declared.relation.TaskName.{TaskName}
 use Rattle.ksql_types.specs.declared.topic.TopicSpec.{TopicSpec}
 use Rattle.ksql_place.specs.Routing.{is_to, partitions_of}
-use Rattle.core_state.specs.Routes.{IsWriter, Routes}
+use Rattle.core_state.specs.Routes.{IsWriter, Routes, routes_of, sent_to}
 use Rattle.core_state.specs.declared.log.Proposal.{Proposal}
 use Rattle.topic_log.specs.declared.prepared.Prepared.{Prepared}
 use Rattle.topic_log.specs.declared.shelves.PartShelf.{PartShelf}
@@ -12,7 +12,7 @@ use Rattle.topic_log.specs.declared.shelves.Shelves.{Shelves}
 use Rattle.topic_log.specs.declared.shelves.TaskShelf.{TaskShelf}
 use Rattle.topic_log.specs.declared.shelves.TopicShelf.{TopicShelf}
 use Rattle.topic_log.specs.Ready.{HasRoom, IsProposal, IsReady}
-use Rattle.topic_log.specs.Shelves.{AreShelves, IsTopic, IsTopicShelf, part_at, routes_in, topics_of}
+use Rattle.topic_log.specs.Shelves.{AreShelves, IsTopic, IsTopicShelf, part_at, routes_in, task_at, topics_of}
 use Rattle.topic_log.specs.Taking.{HasRoomFor, count_to}
 use Rattle.topic_log.specs.Views.{EachAt}
 use Rattle.topic_log.proofs.EachPlace.{EachAt-IfSome}
@@ -79,4 +79,59 @@ ready s next i t changed p made h writer is proposal room sorted =
       rooms = λ q. subst (λ (o : Option PartShelf). IfSome o (HasRoom p.task.part (count_to (partitions_of (topics_of next) ((routes_in next).output p.task)) p.outputs q))) (here q)
           (subst (λ (n : ℕ). IfSome (slice_get changed.parts.items q) (HasRoom p.task.part (count_to n p.outputs q))) (ap (λ (t : TopicSpec). t.partitions) h.spec ∙ parts)
           (EachAt-IfSome (λ q part. HasRoom p.task.part (count_to changed.spec.partitions p.outputs q) part) changed.parts.items room.parts q));
+    }
+
+-- ---- what was prepared stays ready
+
+-- both are none, or both are there, in this relation
+abbrev pub Alike : {A : Type 0} → (A → A → Type 0) → Option A → Option A → Type 0
+Alike R None None = ⊤
+Alike R None (Some y) = ⊥
+Alike R (Some x) None = ⊥
+Alike R (Some x) (Some y) = R x y
+
+pub alike-same : {A : Type 0} (R : A → A → Type 0) → ((x : A) → R x x) → (a b : Option A) → b ≡ a → Alike R a b
+alike-same R each a b same = subst (λ (o : Option _). Alike R a o) (sym same) (here a)
+  where
+    here : (o : Option _) → Alike R o o
+    here None = tt
+    here (Some x) = each x
+
+-- a partition, or a changelog, has room for all that it had room for
+abbrev pub HasRoomAfter : PartShelf → PartShelf → Type 0
+HasRoomAfter was now = (writer more : ℕ) → HasRoom writer more was → HasRoom writer more now
+
+abbrev pub HasLogRoomAfter : TaskShelf → TaskShelf → Type 0
+HasLogRoomAfter was now = (more : ℕ) → length was.logs.items + more ≤ vec_capacity was.logs → length now.logs.items + more ≤ vec_capacity now.logs
+
+IfSome-alike : {A : Type 0} (R : A → A → Type 0) (P Q : A → Type 0) → ((x y : A) → R x y → P x → Q y) → (a b : Option A) → Alike R a b → IfSome a P → IfSome b Q
+IfSome-alike R P Q along a None alike holds = tt
+IfSome-alike R P Q along None (Some y) alike holds = absurd alike
+IfSome-alike R P Q along (Some x) (Some y) alike holds = along x y alike holds
+
+pub ready-alike : (s next : Shelves) (made : Prepared) (p : Proposal) → topics_of next ≡ topics_of s → ((i q : ℕ) → Alike HasRoomAfter (part_at s i q) (part_at next i q)) →
+    ((v : TaskName) → Alike HasLogRoomAfter (task_at s v) (task_at next v)) → IsReady s made p → IsReady next made p
+ready-alike s next made p topics parts logs ready =
+    let routes : routes_in s ≡ routes_in next = ap routes_of (sym topics) in
+    let output : ℕ = (routes_in s).output p.task in
+    record {
+      writer = subst (λ (r : Routes). IsWriter r p.task) routes ready.writer;
+      proposal = ready.proposal;
+      task = ready.task;
+      generation = ready.generation;
+      from = ready.from;
+      to = ready.to;
+      entries = ready.entries;
+      sent = λ q.
+          subst (λ (r : Routes). IfSome (part_at next (r.output p.task) q) (λ part. IfSome (slice_get made.sent.items q) (λ xs. xs.items ≡ sent_to r p.task q p.outputs))) routes
+          (IfSome-alike HasRoomAfter (λ part. IfSome (slice_get made.sent.items q) (λ xs. xs.items ≡ sent_to (routes_in s) p.task q p.outputs))
+          (λ part. IfSome (slice_get made.sent.items q) (λ xs. xs.items ≡ sent_to (routes_in s) p.task q p.outputs)) (λ x y alike sent. sent)
+          (part_at s output q) (part_at next output q) (parts output q) (ready.sent q));
+      parts = subst (λ (ts : List TopicSpec). length made.sent.items ≡ partitions_of ts ((routes_of ts).output p.task)) (sym topics) ready.parts;
+      room = IfSome-alike HasLogRoomAfter (λ k. length k.logs.items + length p.entries ≤ vec_capacity k.logs) (λ k. length k.logs.items + length p.entries ≤ vec_capacity k.logs)
+          (λ k l after. after (length p.entries)) (task_at s p.task) (task_at next p.task) (logs p.task) ready.room;
+      rooms = λ q.
+          subst (λ (r : Routes). IfSome (part_at next (r.output p.task) q) (HasRoom p.task.part (length (sent_to r p.task q p.outputs)))) routes
+          (IfSome-alike HasRoomAfter (HasRoom p.task.part (length (sent_to (routes_in s) p.task q p.outputs))) (HasRoom p.task.part (length (sent_to (routes_in s) p.task q p.outputs)))
+          (λ x y after. after p.task.part (length (sent_to (routes_in s) p.task q p.outputs))) (part_at s output q) (part_at next output q) (parts output q) (ready.rooms q));
     }

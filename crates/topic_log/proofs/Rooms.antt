@@ -9,7 +9,7 @@ use Rattle.std.proofs.lemmas.List.Quantifiers.{position-Some}
 use Rattle.ksql_types.specs.Lane.{lane}
 use Rattle.ksql_place.specs.Routing.{is_to}
 use Rattle.ksql_place.specs.declared.change.Change.{Change}
-use Rattle.topic_log.specs.Taking.{AreRooms, IsEmptyRoom, WillHave, count_to, room_beside}
+use Rattle.topic_log.specs.Taking.{AreRooms, IsEmptyRoom, count_to, room_beside}
 use Rattle.topic_log.specs.declared.prepared.Rooms.{Rooms}
 use Rattle.topic_log.specs.Views.{EachAt}
 use Rattle.topic_log.proofs.EachPlace.{EachAt-weaker, EachAt-written}
@@ -45,6 +45,11 @@ abbrev pub goes_to : ℕ → Change → ℕ
 goes_to n x = lane x.key n x.place.stamp.part
 
 -- ---- putting
+
+-- with the remaining changes, a list gets all that go to its partition among n, and has room for them
+pub record WillHave (n : ℕ) (all rest : List Change) (part : ℕ) (xs : Vec Change) : Type 0 where
+  pub items : xs.items ++ filter (is_to n part) rest ≡ filter (is_to n part) all
+  pub room : length xs.items + count_to n rest part ≤ vec_capacity xs
 
 -- a change is the first of the remaining ones for its partition
 first-there : (n : ℕ) (x : Change) (rest : List Change) → filter (is_to n (goes_to n x)) (x ∷ rest) ≡ x ∷ filter (is_to n (goes_to n x)) rest

@@ -1,7 +1,7 @@
 -- Which waiting changes are due, and what a commit does to a partition.
-use Rattle.std.specs.Prelude.{◌≡◌, ℕ, ◌+◌, ◌<◌, ◌≤◌, ◌⊎◌, Bool, true, false, List, [], ◌∷◌, ◌++◌, length, map, All, nat_le, if◌then◌else◌, Option, Some, None, IfSome, slice_get, slice_index_or, slice_set, vec_capacity}
+use Rattle.std.specs.Prelude.{◌≡◌, ℕ, ◌+◌, ◌<◌, ◌≤◌, ◌⊎◌, Bool, true, false, List, [], ◌∷◌, ◌++◌, length, map, All, nat_le, if◌then◌else◌, Option, Some, None, slice_get, slice_index_or, slice_set, vec_capacity}
 use Rattle.std.specs.Global.{Vec}
-use Rattle.std.specs.Ordering.{is_gt, is_lt}
+use Rattle.std.specs.Ordering.{is_lt}
 use Rattle.ksql_place.specs.Ascending.{Rises}
 use Rattle.ksql_place.specs.Routing.{change_cmp}
 use Rattle.ksql_place.specs.declared.change.Change.{Change}
@@ -16,6 +16,16 @@ use Rattle.topic_log.specs.Shelves.{closed_in, waiting_in}
 
 -- ---- what is due
 
+-- the changes that wait up to a closed feed, of all writers, in the order of their places
+abbrev pub due_of : ℕ → List (List Change) → List Change
+due_of closed ls = merged (map (upto closed) ls)
+
+-- the writer whose list begins with the next change that is due, without which the others are due; None if none is
+abbrev pub IsNext : ℕ → List (List Change) → Option ℕ → Type 0
+IsNext closed ls None = due_of closed ls ≡ []
+IsNext closed ls (Some writer) =
+    (x : Change) × (later : List Change) × (slice_index_or ls writer [] ≡ x ∷ later) × (due_of closed ls ≡ x ∷ due_of closed (slice_set ls writer later))
+
 -- whether a change is of a feed up to this one
 abbrev pub is_due : ℕ → Change → Bool
 is_due closed x = nat_le (feed_of x) closed
@@ -25,33 +35,11 @@ abbrev pub first_if : {A : Type 0} → (A → Bool) → List A → Option A
 first_if p [] = None
 first_if p (x ∷ xs) = if p x then Some x else None
 
--- the first change of each waiting list, if it is due
-abbrev pub dues : ℕ → List (List Change) → List (Option Change)
-dues closed ls = map (first_if (is_due closed)) ls
-
 -- whether a change exists and comes before another, or there is no other
 abbrev pub goes_before : Option Change → Option Change → Bool
 goes_before None best = false
 goes_before (Some x) None = true
 goes_before (Some x) (Some y) = is_lt (change_cmp x y)
-
--- the change of the i-th of n lists comes before those of the earlier lists, and not after those of the later ones
-pub record GoesFirst (ds : List (Option Change)) (n i : ℕ) (x : Change) : Type 0 where
-  pub within : i < n
-  pub at : slice_index_or ds i None ≡ Some x
-  pub before : (j : ℕ) → j < i → IfSome (slice_index_or ds j None) (λ y. is_gt (change_cmp y x) ≡ true)
-  pub behind : (j : ℕ) → i < j → j < n → IfSome (slice_index_or ds j None) (λ y. is_gt (change_cmp x y) ≡ false)
-
--- among the first n lists, the number of the one whose change comes first, and that change
-abbrev pub IsBest : List (Option Change) → ℕ → Option ℕ → Option Change → Type 0
-IsBest ds n None None = (j : ℕ) → j < n → slice_index_or ds j None ≡ None
-IsBest ds n None (Some x) = ⊥
-IsBest ds n (Some i) None = ⊥
-IsBest ds n (Some i) (Some x) = GoesFirst ds n i x
-
--- among the first n lists, the number of the one whose change comes first, if one is due
-abbrev pub IsNext : List (Option Change) → ℕ → Option ℕ → Type 0
-IsNext ds n next = (best : Option Change) × IsBest ds n next best
 
 -- ---- partitions
 
@@ -83,7 +71,7 @@ pub record PartFits (writer : ℕ) (sent : List Change) (p : PartShelf) : Type 0
 -- what a writer sent joins what waits, and what is due of it is shown
 pub record PartCommits (closed writer : ℕ) (sent : List Change) (old new : PartShelf) : Type 0 where
   pub fed : new.fed ≡ old.fed
-  pub said : new.said.items ≡ old.said.items ++ merged (map (upto closed) (gathered writer sent old))
+  pub said : new.said.items ≡ old.said.items ++ due_of closed (gathered writer sent old)
   pub waiting : waiting_lists new ≡ map (after closed) (gathered writer sent old)
 
 -- each partition has room for what a writer sends there

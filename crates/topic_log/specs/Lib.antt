@@ -1,7 +1,6 @@
 pub mod Commits
 pub mod Entries
 pub mod Feeding
-pub mod Giving
 pub mod Opening
 pub mod Order
 pub mod Ready

@@ -1,10 +1,14 @@
 -- The memory allocated before a commit.
-use Rattle.std.specs.Prelude.{◌≡◌, ℕ, ◌+◌, ◌<◌, ◌≤◌, List, [], ◌++◌, length, filter, slice_get, Option, Some, None, IfSome, vec_capacity}
+use Rattle.std.specs.Prelude.{◌≡◌, ℕ, ◌+◌, ◌<◌, ◌≤◌, List, [], length, filter, slice_get, Option, Some, None, IfSome, vec_capacity}
 use Rattle.std.specs.Global.{Vec}
+use Rattle.std.specs.List.{AllZip}
+use Rattle.std.specs.VecDeque.{deque_capacity}
 use Rattle.ksql_place.specs.Routing.{is_to}
 use Rattle.ksql_place.specs.declared.change.Change.{Change}
 use Rattle.core_state.specs.declared.log.Proposal.{Proposal}
 use Rattle.topic_log.specs.declared.prepared.Rooms.{Rooms}
+use Rattle.topic_log.specs.declared.shelves.PartShelf.{PartShelf}
+use Rattle.topic_log.specs.declared.shelves.TaskShelf.{TaskShelf}
 use Rattle.topic_log.specs.declared.shelves.TopicShelf.{TopicShelf}
 use Rattle.topic_log.specs.Ready.{HasRoom}
 use Rattle.topic_log.specs.Views.{EachAt}
@@ -28,12 +32,21 @@ pub record AreRooms (n : ℕ) (xs : List Change) (rooms : Rooms) : Type 0 where
   pub whole : IfSome rooms.whole (λ part. (part < n) × (count_to n xs part ≡ length xs))
   pub lists : EachAt (λ q list. IsEmptyRoom (room_beside rooms.whole (count_to n xs q)) list) rooms.lists.items
 
--- with the remaining changes, a list gets all that go to its partition among n, and has room for them
-pub record WillHave (n : ℕ) (all rest : List Change) (part : ℕ) (xs : Vec Change) : Type 0 where
-  pub items : xs.items ++ filter (is_to n part) rest ≡ filter (is_to n part) all
-  pub room : length xs.items + count_to n rest part ≤ vec_capacity xs
-
 -- the topic that a proposal's task writes has room for its commit
 pub record HasRoomFor (p : Proposal) (t : TopicShelf) : Type 0 where
   pub parts : EachAt (λ q part. HasRoom p.task.part (count_to t.spec.partitions p.outputs q) part) t.parts.items
   pub logs : IfSome (slice_get t.tasks.items p.task.part) (λ k. length k.logs.items + length p.entries ≤ vec_capacity k.logs)
+
+-- each list of a partition has at least the room that it had
+pub record KeepsRoom (was now : PartShelf) : Type 0 where
+  pub shown : vec_capacity was.said ≤ vec_capacity now.said
+  pub waiting : AllZip (λ w v. deque_capacity w ≤ deque_capacity v) was.waiting.items now.waiting.items
+
+-- so has a task's changelog
+abbrev pub KeepsLogRoom : TaskShelf → TaskShelf → Type 0
+KeepsLogRoom was now = vec_capacity was.logs ≤ vec_capacity now.logs
+
+-- so has each list of a topic
+pub record KeepsRooms (was now : TopicShelf) : Type 0 where
+  pub parts : AllZip KeepsRoom was.parts.items now.parts.items
+  pub logs : AllZip KeepsLogRoom was.tasks.items now.tasks.items

@@ -1,16 +1,13 @@
 //! The broker and its operations.
-ghost use Rattle.std.specs.Prelude.{◌≡◌, ℕ, ◌+◌, ◌<◌, ◌≤◌, ◌^◌, [], All, IfErr, IfNone, IfOk, IfSome, IsSome, List, OnErr, OnOk, Some, length, map};
+ghost use Rattle.std.specs.Prelude.{◌≡◌, ℕ, ◌+◌, ◌<◌, ◌^◌, All, IfErr, IfOk, IsSome, OnErr, OnOk, Some, length};
 ghost use Rattle.ksql_place.specs.Ascending.{ascending};
 ghost use Rattle.ksql_place.specs.Order.{record_cmp};
 ghost use Rattle.ksql_place.specs.Routing.{partitions_of};
 ghost use Rattle.core_state.specs.declared.log.Proposal.{Proposal as OneProposal};
 ghost use Rattle.core_state.specs.Routes.{IsWriter};
-ghost use Rattle.core_state.specs.State.{feed_of};
-ghost use Rattle.core_state.specs.declared.log.LogEntry.TheVariants.{Said};
 ghost use Rattle.core_state.specs.Shelf.{ShelfApplies, ShelfFeeds, ShelfOpens, ShelfRaises, ShelfStays, shelf_closed};
 ghost use Rattle.topic_log.specs.declared.prepared.Prepared.{Prepared as OnePrepared};
 ghost use Rattle.topic_log.specs.Feeding.{RiseApart};
-ghost use Rattle.topic_log.specs.Giving.{only_at, with_gone};
 ghost use Rattle.topic_log.specs.Order.{IsInPlaceOrder};
 ghost use Rattle.topic_log.specs.Ready.{IsProposal, IsReady};
 ghost use Rattle.topic_log.specs.Entries.{entries_in};
@@ -22,12 +19,11 @@ use crate::opening::{fresh_topics, written_topics};
 use crate::prepared::{Prepared, prepare};
 use crate::shelves::{Entries, Shelves, TaskShelf, closed_of};
 use core_state::Proposal;
-use ksql_place::{Change, SourceRecord};
+use ksql_place::SourceRecord;
 use ksql_types::{StoreEntry, TaskName, TopicSpec};
 use std::alloc::{AllocError, Global};
 use std::collections::BTreeMap;
 use std::marker::Model;
-use std::mem;
 
 /// The topics of a topology, with what was fed to them and what the tasks committed.
 #[derive(Drop)]
@@ -131,28 +127,6 @@ impl Broker {
         }
     }
 
-    /// Hands over the changes that a partition shows, so that it then shows none; None if the partition holds fed
-    /// records, which stay. Takes no memory.
-    pub fn take(&mut self, topic: u32, part: u32) -> Option<Vec<Change>>
-        requires { IsSome (part_at self.old topic part) }
-        ensures topics { topics_of self.new ≡ topics_of self.old }
-        ensures parts { (t q : ℕ) → IsSome (part_at self.old t q) → IsSome (part_at self.new t q) }
-        ensures given { IfSome result (λ changes. with_gone (only_at topic part (map Said changes.items)) (shelf_of self.new) ≡ shelf_of self.old) }
-        ensures none { IfSome result (λ _. (shelf_of self.new).shown topic part ≡ []) }
-        ensures in_order { IfSome result (λ changes. IsInPlaceOrder (map Said changes.items)) }
-        ensures closed { IfSome result (λ changes. All (λ x. feed_of x ≤ shelf_closed (routes_in self.old) (shelf_of self.old) topic) changes.items) }
-        ensures kept { IfNone result (self.new ≡ self.old) }
-        ensures records { IfNone result ((changes : List Change) → ¬ ((shelf_of self.old).shown topic part ≡ map Said changes)) }
-    {
-        let shown = &self.inner.topics[topic as usize].parts[part as usize];
-        if !shown.fed.is_empty() {
-            return None;
-        }
-        let shelf = &mut self.inner.topics[topic as usize].parts[part as usize];
-        let none = Vec::new(*shelf.said.allocator());
-        Some(mem::replace(&mut shelf.said, none))
-    }
-
     /// The last feed that a task committed.
     pub fn done(&self, task: TaskName) -> u64
         requires { IsWriter (routes_in self.now) task }
@@ -178,13 +152,14 @@ impl Broker {
     }
 
     /// Allocates all memory for the commit of a proposal. The broker's content is unchanged. On failure it hands the
-    /// proposal back.
+    /// proposal back. What was prepared before stays ready, whether this succeeds or not.
     pub fn prepare(&mut self, alloc: Global, proposal: Proposal) -> Result<Prepared, Proposal>
         requires writer { IsWriter (routes_in self.old) proposal.task }
         requires proposal { IsProposal proposal }
         ensures topics { topics_of self.new ≡ topics_of self.old }
         ensures kept { ShelfStays (routes_in self.old) (shelf_of self.old) (shelf_of self.new) }
         ensures ready { IfOk result (λ made. IsReady self.new made proposal) }
+        ensures kept_ready { (made : OnePrepared) (p : OneProposal) → IsReady self.old made p → IsReady self.new made p }
         ensures back { IfErr result (λ back. back ≡ proposal) }
     {
         let number = self.output(proposal.task);

@@ -3,9 +3,8 @@ ghost use Rattle.std.specs.Prelude.{◌≡◌, ◌∷◌, ◌+◌, ◌<◌, ◌�
 ghost use Rattle.std.specs.VecDeque.{deque_capacity};
 ghost use Rattle.ksql_place.specs.Ascending.{Rises};
 ghost use Rattle.ksql_place.specs.Routing.{change_cmp};
-ghost use Rattle.core_state.specs.Routes.{merged};
-ghost use Rattle.core_state.specs.State.{after, feed_of, upto};
-ghost use Rattle.topic_log.specs.Commits.{EachCommits, EachFits, IsAlone, IsNext, IsWholeDue, PartCommits, PartFits, TopicCommits, TopicFits, dues, first_if, goes_before, is_due, waiting_lists};
+ghost use Rattle.core_state.specs.State.{after, feed_of};
+ghost use Rattle.topic_log.specs.Commits.{EachCommits, EachFits, IsAlone, IsNext, IsWholeDue, PartCommits, PartFits, TopicCommits, TopicFits, due_of, first_if, goes_before, is_due, waiting_lists};
 ghost use Rattle.topic_log.specs.Ready.{waiting_len};
 ghost use Rattle.topic_log.specs.Shelves.{IsTopicShelf, waiting_in};
 
@@ -97,9 +96,11 @@ fn goes_before(change: Option<&Change>, best: Option<&Change>) -> bool
     }
 }
 
-/// The writer whose first due change comes first: the one with the smallest place, and on a tie the first writer.
+/// The writer whose waiting changes begin with the next one that is due: the one with the smallest place, and on a tie
+/// that of the first writer.
 fn next_writer(waiting: &[VecDeque<Change>], closed: u64) -> Option<usize>
-    ensures { IsNext (dues closed (map (λ w. w.items) waiting.now)) (length waiting.now) result }
+    requires { All (λ w. Rises change_cmp w.items) waiting.now }
+    ensures { IsNext closed (map (λ w. w.items) waiting.now) result }
 {
     let mut next = None;
     let mut best = None;
@@ -130,7 +131,7 @@ fn show_due(part: &mut PartShelf, closed: u64)
     requires ascends { All (λ w. Rises change_cmp w.items) part.old.waiting.items }
     requires room { length part.old.said.items + waiting_len part.old ≤ vec_capacity part.old.said }
     ensures fed { part.new.fed ≡ part.old.fed }
-    ensures said { part.new.said.items ≡ part.old.said.items ++ merged (map (upto closed) (waiting_lists part.old)) }
+    ensures said { part.new.said.items ≡ part.old.said.items ++ due_of closed (waiting_lists part.old) }
     ensures waiting { waiting_lists part.new ≡ map (after closed) (waiting_lists part.old) }
 {
     match whole_due(part, closed) {
@@ -144,7 +145,7 @@ fn show_each(part: &mut PartShelf, closed: u64)
     requires ascends { All (λ w. Rises change_cmp w.items) part.old.waiting.items }
     requires room { length part.old.said.items + waiting_len part.old ≤ vec_capacity part.old.said }
     ensures fed { part.new.fed ≡ part.old.fed }
-    ensures said { part.new.said.items ≡ part.old.said.items ++ merged (map (upto closed) (waiting_lists part.old)) }
+    ensures said { part.new.said.items ≡ part.old.said.items ++ due_of closed (waiting_lists part.old) }
     ensures waiting { waiting_lists part.new ≡ map (after closed) (waiting_lists part.old) }
 {
     while let Some(writer) = next_writer(part.waiting.as_slice(), closed) {

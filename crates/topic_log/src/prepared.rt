@@ -1,11 +1,14 @@
 //! Commits whose memory is allocated.
 ghost use Rattle.std.specs.Prelude.{◌≡◌, ◌+◌, ◌≤◌, ◌==◌, ◌⊎◌, [], IfErr, IfOk, IfSome, OnOk, filter, length, map, position, slice_get, slice_index, sum, vec_capacity};
+ghost use Rattle.std.specs.List.{AllZip};
 ghost use Rattle.std.specs.VecDeque.{deque_capacity};
 ghost use Rattle.ksql_place.specs.Routing.{is_to};
 ghost use Rattle.core_state.specs.Routes.{IsWriter};
+ghost use Rattle.core_state.specs.declared.log.Proposal.{Proposal as OneProposal};
+ghost use Rattle.topic_log.specs.declared.prepared.Prepared.{Prepared as OnePrepared};
 ghost use Rattle.topic_log.specs.Ready.{HasRoom, IsProposal, IsReady};
 ghost use Rattle.topic_log.specs.Shelves.{AreShelves, routes_in};
-ghost use Rattle.topic_log.specs.Taking.{AreRooms, count_to, HasRoomFor, IsEmptyRoom, room_beside};
+ghost use Rattle.topic_log.specs.Taking.{AreRooms, count_to, HasRoomFor, IsEmptyRoom, KeepsLogRoom, KeepsRoom, KeepsRooms, room_beside};
 ghost use Rattle.topic_log.specs.Views.{part_view, task_view, topic_view, topic_views, EachAt};
 
 use crate::shelves::{PartShelf, Shelves, TaskShelf, TopicShelf};
@@ -50,6 +53,7 @@ pub(crate) fn prepare(
     ensures views { topic_views shelves.new ≡ topic_views shelves.old }
     ensures fed { shelves.new.fed ≡ shelves.old.fed }
     ensures ready { IfOk result (λ made. IsReady shelves.new made proposal) }
+    ensures kept_ready { (made : OnePrepared) (p : OneProposal) → IsReady shelves.old made p → IsReady shelves.new made p }
     ensures back { IfErr result (λ back. back ≡ proposal) }
 {
     let topic = &mut shelves.topics[number];
@@ -72,6 +76,7 @@ fn take_room(
     ensures view { topic_view topic.new ≡ topic_view topic.old }
     ensures rooms { IfOk result (AreRooms topic.old.spec.partitions proposal.now.outputs) }
     ensures room { OnOk result (HasRoomFor proposal.now topic.new) }
+    ensures kept { KeepsRooms topic.old topic.new }
 {
     let writer = proposal.task.part as usize;
     let outputs = proposal.outputs.items();
@@ -146,6 +151,7 @@ fn reserve_parts(
     requires { length parts.old.items ≡ length counts.now }
     ensures views { map part_view parts.new.items ≡ map part_view parts.old.items }
     ensures rooms { OnOk result (EachAt (λ q part. HasRoom writer (slice_index counts.now q) part) parts.new.items) }
+    ensures kept { AllZip KeepsRoom parts.old.items parts.new.items }
 {
     for index in 0..counts.len() {
         reserve_part(&mut parts[index], writer, counts[index])?;
@@ -157,6 +163,7 @@ fn reserve_parts(
 fn reserve_part(part: &mut PartShelf, writer: usize, more: usize) -> Result<(), AllocError>
     ensures view { part_view part.new ≡ part_view part.old }
     ensures room { OnOk result (HasRoom writer more part.new) }
+    ensures kept { KeepsRoom part.old part.new }
 {
     reserve_waiting(&mut part.waiting, writer, more)?;
     let coming = room_for(part.waiting.as_slice(), more)?;
@@ -167,6 +174,7 @@ fn reserve_part(part: &mut PartShelf, writer: usize, more: usize) -> Result<(), 
 fn reserve_shown(said: &mut Vec<Change>, more: usize) -> Result<(), AllocError>
     ensures items { said.new.items ≡ said.old.items }
     ensures room { OnOk result (length said.new.items + more ≤ vec_capacity said.new) }
+    ensures kept { vec_capacity said.old ≤ vec_capacity said.new }
 {
     if said.is_empty() && said.capacity() < more {
         *said = Vec::with_capacity(*said.allocator(), more)?;
@@ -183,6 +191,7 @@ fn reserve_waiting(
     ensures items { map (λ w. w.items) waiting.new.items ≡ map (λ w. w.items) waiting.old.items }
     ensures room { OnOk result (IfSome (slice_get waiting.new.items writer) (λ w.
         (w.items ≡ []) ⊎ (length w.items + more ≤ deque_capacity w))) }
+    ensures kept { AllZip (λ w v. deque_capacity w ≤ deque_capacity v) waiting.old.items waiting.new.items }
 {
     if writer < waiting.len() {
         let own = &mut waiting[writer];
@@ -209,6 +218,7 @@ fn reserve_logs(tasks: &mut Vec<TaskShelf>, writer: usize, more: usize) -> Resul
     ensures views { map task_view tasks.new.items ≡ map task_view tasks.old.items }
     ensures room { OnOk result (IfSome (slice_get tasks.new.items writer) (λ k.
         length k.logs.items + more ≤ vec_capacity k.logs)) }
+    ensures kept { AllZip KeepsLogRoom tasks.old.items tasks.new.items }
 {
     if writer < tasks.len() {
         let own = &mut tasks[writer];

@@ -1,5 +1,5 @@
 -- The trace of a run: what happened in each step.
-use Rattle.std.specs.Prelude.{ℕ, List, [], ◌∷◌, ◌++◌, codes, decimal, flat_map, Bool, true, false, ◌==◌, ◌&&◌, if◌then◌else◌, Option, None, Some}
+use Rattle.std.specs.Prelude.{◌≡◌, ℕ, List, [], ◌∷◌, ◌++◌, map, All, codes, decimal, flat_map, Bool, true, false, IsFalse, ◌==◌, ◌&&◌, if◌then◌else◌, Option, None, Some}
 use Rattle.std.specs.Option.{option_map_or}
 use Rattle.std.specs.List.{before_first, list_any}
 use Rattle.ksql_types.specs.declared.relation.TaskName.{TaskName}
@@ -53,7 +53,7 @@ own_lines (step.Wake worker) happened = worker_line (codes "wake") worker
 own_lines (step.Lose task) happened = if list_any (is_leaving task) happened then codes "lose " ++ (task_text task ++ codes "\n") else []
 own_lines _ happened = []
 
--- ---- steps
+-- ---- blocks
 
 -- whether an entry begins a step
 abbrev pub is_step : JournalEntry → Bool
@@ -69,16 +69,42 @@ step_text line planned happened =
     ++ (option_map_or (λ s. own_lines s happened) planned []
     ++ flat_map moved_line happened))))
 
--- the steps of a journal: the first one is this step of the schedule, and each later one that of the next of these
--- lines, if there is one
-unfoldable pub steps_text : List JournalEntry → Option Step → List Lined → List ℕ
-steps_text [] planned lines = []
-steps_text (entry.Step number ∷ later) planned [] = step_text number planned (before_first is_step later) ++ steps_text later None []
-steps_text (entry.Step number ∷ later) planned (next ∷ lines) =
-    step_text number planned (before_first is_step later) ++ steps_text later (Some next.step) lines
-steps_text (_ ∷ later) planned lines = steps_text later planned lines
+-- a block of a journal: a step, and what happened in it
+pub record Block : Type 0 where
+  -- the line of the entry that begins it
+  pub line : ℕ
+  -- the entries after it
+  pub happened : List JournalEntry
 
--- the trace of a run with this journal and schedule: the journal's first step is the first assignment, which isn't in
--- the schedule
+-- the entries of a block
+abbrev pub entries_of : Block → List JournalEntry
+entries_of block = entry.Step block.line ∷ block.happened
+
+-- a journal is these blocks, one after another
+pub record IsCut (journal : List JournalEntry) (blocks : List Block) : Type 0 where
+  -- before them are only entries that begin no step, if any
+  pub whole : (before : List JournalEntry) × IsFalse (list_any is_step before) × (journal ≡ before ++ flat_map entries_of blocks)
+  -- in none of them another step begins
+  pub within : All (λ block. IsFalse (list_any is_step block.happened)) blocks
+
+-- the blocks of a journal: each entry that begins a step, with the entries up to the next one. They are the only cut
+-- (`IsCut`): the law `one_cut` says so
+unfoldable pub blocks_of : List JournalEntry → List Block
+blocks_of [] = []
+blocks_of (entry.Step line ∷ later) = record { line = line; happened = before_first is_step later } ∷ blocks_of later
+blocks_of (_ ∷ later) = blocks_of later
+
+-- the steps of the schedule, as the blocks come: none for the first assignment, and then that of each line
+abbrev pub planned_steps : List Lined → List (Option Step)
+planned_steps lines = None ∷ map (λ lined. Some lined.step) lines
+
+-- the texts of blocks side by side with steps of the schedule, as far as there are any
+unfoldable pub blocks_text : List Block → List (Option Step) → List ℕ
+blocks_text [] steps = []
+blocks_text (block ∷ blocks) [] = step_text block.line None block.happened ++ blocks_text blocks []
+blocks_text (block ∷ blocks) (step ∷ steps) = step_text block.line step block.happened ++ blocks_text blocks steps
+
+-- the trace of a run with this journal and schedule: the first block is the first assignment, and each later one is of the
+-- next line
 unfoldable pub trace_of : List JournalEntry → List Lined → List ℕ
-trace_of journal lines = codes "trace\n" ++ steps_text journal None lines
+trace_of journal lines = codes "trace\n" ++ blocks_text (blocks_of journal) (planned_steps lines)

@@ -1,9 +1,9 @@
 //! The trace: each step of a journal, next to the step of the schedule.
 
-ghost use Rattle.std.specs.Prelude.{◌≡◌, ◌++◌, ◌≤◌, [], None, OnOk, drop, flat_map, length, option_map, slice_get, string_bytes};
+ghost use Rattle.std.specs.Prelude.{◌≡◌, ◌++◌, ◌≤◌, [], OnOk, drop, flat_map, length, option_map, slice_get, string_bytes};
 ghost use Rattle.std.specs.List.{before_first, position_or_len};
 ghost use Rattle.std.specs.Option.{option_map_or};
-ghost use Rattle.trace_text.specs.Trace.{is_step, moved_line, own_lines, progress_line, step_text, steps_text, trace_of};
+ghost use Rattle.trace_text.specs.Trace.{blocks_of, blocks_text, is_step, moved_line, own_lines, planned_steps, progress_line, step_text, trace_of};
 
 use crate::lines::{push_moved, push_own, push_progress};
 use core_state::JournalEntry;
@@ -28,7 +28,7 @@ pub fn push_trace(
 
 /// Appends the lines of each step of a journal. Its first step isn't in the schedule.
 fn push_steps(out: &mut String, journal: &[JournalEntry], steps: &[Lined]) -> Result<(), AllocError>
-    ensures { OnOk result (string_bytes out.new ≡ string_bytes out.old ++ steps_text journal.now None steps.now) }
+    ensures { OnOk result (string_bytes out.new ≡ string_bytes out.old ++ blocks_text (blocks_of journal.now) (planned_steps steps.now)) }
 {
     let mut steps = steps;
     let mut step = None;

@@ -6,13 +6,18 @@ from trial import GIVEN, folder, has, ksql, same, tests_of
 
 
 def it_prints_its_usage():
-    for words in (('--help',), ('-h',), ('help',), ('run', '--help')):
+    parts = ('ksql run --script', 'ksql explain --script', 'ksql demo N', 'Exit statuses', 'docs/ERRORS.md')
+    for words in (('--help',), ('run', '--help')):
         status, out, error = ksql(*words, KSQL_PROGRAM='/nowhere')
         same((status, error), (0, b''))
-        for part in ('ksql run --script', 'ksql explain --script', 'ksql demo N', 'Exit statuses', 'docs/ERRORS.md'):
+        for part in parts:
             has(out, part)
-    same(ksql()[0], 2)
-    has(ksql()[1], 'ksql explain')
+    # Here standard output is the program's own.
+    for words in ((), ('-h',), ('help',)):
+        status, out, error = ksql(*words, KSQL_PROGRAM='/nowhere')
+        same((status, out), (2, b'ksql: bad command line\n'))
+        for part in parts:
+            has(error, part)
 
 
 def it_prints_its_version():

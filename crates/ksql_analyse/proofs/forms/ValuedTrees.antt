@@ -14,12 +14,12 @@ use Rattle.ksql_clauses.specs.declared.items.Named.{Named}
 use Rattle.ksql_clauses.specs.declared.sources.Known.{Known}
 use Rattle.ksql_clauses.specs.Items.{result_columns}
 use Rattle.ksql_clauses.specs.Keys.{key_columns, value_columns}
-use Rattle.ksql_clauses.specs.Keys.{key_places}
+use Rattle.ksql_clauses.specs.Keys.{key_places, needs}
 use Rattle.ksql_rules.proofs.Within.{All-unmap}
 use Rattle.grouped_expressions.specs.Grouped.{after}
 use Rattle.ksql_analyse.specs.Judgement.{AreTypedTrees, exprs}
 use Rattle.ksql_analyse.specs.Typable.{AreColumnTrees, IsValue, IsValued}
-use Rattle.ksql_analyse.proofs.sound.SoundColumns.{besides-each, places-each}
+use Rattle.ksql_analyse.proofs.sound.SoundColumns.{besides-each, keys-each}
 use Rattle.ksql_analyse.proofs.forms.TreesAfter.{kept-type}
 
 -- ---- trees
@@ -60,9 +60,9 @@ module _ (P : Named → Type 0) (q : Select) (ks : List Known) (lent : List (Bor
   pub keys-lent : map (λ c. c.now) lent ≡ key_columns q ks → All P (result_columns q ks) → All (λ c. P c.now) lent
   keys-lent are h =
       All-unmap P (λ c. c.now) lent (subst (All P) (sym are)
-      (All-from_recursion P (key_columns q ks) (places-each P (result_columns q ks) (recursion_from_All P (result_columns q ks) h) (key_places q ks))))
+      (All-from_recursion P (key_columns q ks) (keys-each P (result_columns q ks) (recursion_from_All P (result_columns q ks) h) (needs q ks))))
 
   pub values-lent : map (λ c. c.now) lent ≡ value_columns q ks → All P (result_columns q ks) → All (λ c. P c.now) lent
   values-lent are h =
       All-unmap P (λ c. c.now) lent (subst (All P) (sym are)
-      (All-from_recursion P (value_columns q ks) (besides-each P (key_places q ks) (result_columns q ks) 0 (recursion_from_All P (result_columns q ks) h))))
+      (All-from_recursion P (value_columns q ks) (besides-each P (key_places q ks) (result_columns q ks) (recursion_from_All P (result_columns q ks) h))))

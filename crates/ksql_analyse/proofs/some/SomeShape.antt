@@ -17,14 +17,14 @@ use Rattle.ksql_clauses.specs.Sources.{from_scope, item_scope}
 use Rattle.ksql_clauses.specs.Windows.{window_of}
 use Rattle.ksql_clauses.specs.Keys.{key_columns, value_columns}
 use Rattle.ksql_rules.specs.Breaks.{group_exprs, is_grouped}
-use Rattle.ksql_clauses.specs.Keys.{key_places}
+use Rattle.ksql_clauses.specs.Keys.{key_places, needs}
 use Rattle.ksql_analyse.specs.Accepted.{IsMade}
 use Rattle.ksql_analyse.specs.Judgement.{AreTypedTrees, IsFrom, aggregate_exprs, exprs, grouped_columns, join_kind}
 use Rattle.grouped_expressions.specs.Grouped.{after}
 use Rattle.ksql_analyse.specs.Readable.{IsReadable}
 use Rattle.ksql_analyse.specs.Typable.{AreColumnTrees, IsGroupTypable, IsQueryTypable, IsTypable, IsValued}
 use Rattle.ksql_analyse.proofs.some.SomeTrees.{some-aggs, some-part, some-trees}
-use Rattle.ksql_analyse.proofs.sound.SoundColumns.{besides-each, places-each}
+use Rattle.ksql_analyse.proofs.sound.SoundColumns.{besides-each, keys-each}
 use Rattle.ksql_analyse.proofs.forms.ValuedTrees.{own-trees, trees-after, trees-counted, trees-valued}
 
 -- ---- what a query reads
@@ -52,8 +52,8 @@ plain-made q ks plain h =
     let s = item_scope q ks in
     let P : Named → Type 0 = λ c. IsValued s c.expr in
     let each = recursion_from_All P (result_columns q ks) h in
-    let keys = column-trees-of s (key_columns q ks) (All-from_recursion P (key_columns q ks) (places-each P (result_columns q ks) each (key_places q ks))) in
-    let values = column-trees-of s (value_columns q ks) (All-from_recursion P (value_columns q ks) (besides-each P (key_places q ks) (result_columns q ks) 0 each)) in
+    let keys = column-trees-of s (key_columns q ks) (All-from_recursion P (key_columns q ks) (keys-each P (result_columns q ks) each (needs q ks))) in
+    let values = column-trees-of s (value_columns q ks) (All-from_recursion P (value_columns q ks) (besides-each P (key_places q ks) (result_columns q ks) each)) in
     (shape.Plain keys.0 values.0, record { is = (ap not plain, keys.1, values.1); keyed = keys.2; valued = values.2 })
 
 -- ---- a grouping
@@ -70,7 +70,7 @@ grouped-made q ks grouped typable h =
     let columns = grouped_columns s keys.0 gs.0 in
     let having = some-part s (option_map (resolved s) q.having) typable.having in
     let values = column-trees-of s (value_columns q ks) (All-from_recursion P (value_columns q ks)
-    (besides-each P (key_places q ks) (result_columns q ks) 0 (recursion_from_All P (result_columns q ks) h))) in (
+    (besides-each P (key_places q ks) (result_columns q ks) (recursion_from_All P (result_columns q ks) h))) in (
       shape.Group keys.0 (option_map window_of q.window) gs.0 (option_map (after columns) having.0) (map (after columns) values.0),
       record {
         is = (grouped, refl, keys.1, gs.1, (having.0, having.1, refl), (values.0, values.1, refl));

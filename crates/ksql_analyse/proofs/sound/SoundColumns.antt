@@ -1,7 +1,7 @@
 -- The columns of a query's result: what holds of each, how many there are, and which are those of the key.
 use Rattle.std.proofs.Common.{◌≡◌, ℕ, zero, suc, ◌+◌, ◌≤◌, ◌<◌, ◌==◌, arith, Bool, true, false, not, ◌||◌, if◌then◌else◌, IsTrue, List, [], ◌∷◌, ◌++◌, length, map, Option, Some, None, refl, ap, sym, ◌∙◌, subst, inl, inr}
 use Rattle.std.specs.Prelude.{◌⊎◌, slice_get, is_none, bytes_eq, filter}
-use Rattle.std.specs.List.{list_any, flat_map, AllByRecursion as Each}
+use Rattle.std.specs.List.{list_any, find, cons_option, flat_map, AllByRecursion as Each}
 use Rattle.std.proofs.lemmas.Bool.{false≢true}
 use Rattle.std.proofs.lemmas.Bool.Decides.{Decides-eqb}
 use Rattle.std.proofs.lemmas.Option.{same_Some}
@@ -22,7 +22,8 @@ use Rattle.ksql_clauses.specs.Items.{named_from, all_stars, stars_of, star_of, s
 use Rattle.ksql_scopes.specs.Resolved.{resolved}
 use Rattle.ksql_clauses.proofs.Naming as naming
 use Rattle.ksql_clauses.specs.Keys.{at_places, besides, is_place}
-use Rattle.ksql_clauses.specs.Keys.{first_of, is_one_of}
+use Rattle.ksql_clauses.specs.Keys.{first_of, first_columns, is_one_of}
+use Rattle.ksql_clauses.proofs.KeyColumns.{others_from, besides-from, first-columns-are, first-is_none}
 use Rattle.std.proofs.lemmas.Bool.{and_parts}
 use Rattle.ksql_analyse.proofs.lists.Distinct.{or-false, true-not}
 use Rattle.ksql_analyse.proofs.forms.Resolution.{IsName}
@@ -140,68 +141,74 @@ module _ (P : Named → Type 0) (s : Scope) (ks : List Known) where
 -- ---- the columns of the key, and the others
 
 module _ (P : Named → Type 0) (cs : List Named) (k : Each P cs) where
-  place-each : (place : ℕ) (places : List (Option ℕ)) (o : Option Named) → slice_get cs place ≡ o → Each P (at_places cs places) → Each P (at_places cs (Some place ∷ places))
-  place-each place places None h rest = rw h rest
-  place-each place places (Some c) h rest = rw h (each-at P cs k place c h, rest)
+  found-each : (p : Named → Bool) (ds : List Named) → Each P ds → (needs : List (List Expr)) → Each P (first_columns cs needs) → Each P (cons_option (find p ds) (first_columns cs needs))
+  found-each p [] d needs rest = rest
+  found-each p (c ∷ ds) d needs rest = at (p c) (found-each p ds d.1 needs rest)
+    where
+      at : (b : Bool) → Each P (cons_option (find p ds) (first_columns cs needs)) → Each P (cons_option (if b then Some c else find p ds) (first_columns cs needs))
+      at true more = (d.0, rest)
+      at false more = more
 
-  pub places-each : (places : List (Option ℕ)) → Each P (at_places cs places)
-  places-each [] = tt
-  places-each (None ∷ places) = places-each places
-  places-each (Some place ∷ places) = place-each place places (slice_get cs place) refl (places-each places)
+  pub keys-each : (needs : List (List Expr)) → Each P (first_columns cs needs)
+  keys-each [] = tt
+  keys-each (es ∷ needs) = found-each (is_one_of es) cs k needs (keys-each needs)
 
-pub besides-each : (P : Named → Type 0) (places : List (Option ℕ)) (cs : List Named) (number : ℕ) → Each P cs → Each P (besides places number cs)
-unfolding besides
-besides-each P places [] number k = tt
-besides-each P places (c ∷ cs) number k = at (list_any (is_place number) places) (besides-each P places cs (number + 1) k.1)
+others-each : (P : Named → Type 0) (places : List (Option ℕ)) (cs : List Named) (number : ℕ) → Each P cs → Each P (others_from places number cs)
+unfolding others_from
+others-each P places [] number k = tt
+others-each P places (c ∷ cs) number k = at (list_any (is_place number) places) (others-each P places cs (number + 1) k.1)
   where
-    at : (b : Bool) → Each P (besides places (number + 1) cs) → Each P (if b then besides places (number + 1) cs else c ∷ besides places (number + 1) cs)
+    at : (b : Bool) → Each P (others_from places (number + 1) cs) → Each P (if b then others_from places (number + 1) cs else c ∷ others_from places (number + 1) cs)
     at true rest = rest
     at false rest = (k.0, rest)
+
+pub besides-each : (P : Named → Type 0) (places : List (Option ℕ)) (cs : List Named) → Each P cs → Each P (besides places cs)
+besides-each P places cs k = subst (Each P) (sym (besides-from places cs)) (others-each P places cs 0 k)
 
 -- ---- how many there are
 
 -- the columns besides some places
-besides-none : (places : List (Option ℕ)) (number : ℕ) (cs : List Named) → ((i : ℕ) → list_any (is_place i) places ≡ false) → besides places number cs ≡ cs
-unfolding besides
-besides-none places number [] h = refl
-besides-none places number (c ∷ cs) h =
-    ap (λ b. if b then besides places (number + 1) cs else c ∷ besides places (number + 1) cs) (h number) ∙ ap (λ l. c ∷ l) (besides-none places (number + 1) cs h)
+others-none : (places : List (Option ℕ)) (number : ℕ) (cs : List Named) → ((i : ℕ) → list_any (is_place i) places ≡ false) → others_from places number cs ≡ cs
+unfolding others_from
+others-none places number [] h = refl
+others-none places number (c ∷ cs) h =
+    ap (λ b. if b then others_from places (number + 1) cs else c ∷ others_from places (number + 1) cs) (h number) ∙ ap (λ l. c ∷ l) (others-none places (number + 1) cs h)
 
 -- one place more, which isn't there
-besides-less : (place : Option ℕ) (places : List (Option ℕ)) (number : ℕ) (cs : List Named) → length (besides (place ∷ places) number cs) ≤ length (besides places number cs)
-unfolding besides
-besides-less place places number [] = omega arith
-besides-less place places number (c ∷ cs) = at (is_place number place) (list_any (is_place number) places) (besides-less place places (number + 1) cs)
+others-less : (place : Option ℕ) (places : List (Option ℕ)) (number : ℕ) (cs : List Named) → length (others_from (place ∷ places) number cs) ≤ length (others_from places number cs)
+unfolding others_from
+others-less place places number [] = omega arith
+others-less place places number (c ∷ cs) = at (is_place number place) (list_any (is_place number) places) (others-less place places (number + 1) cs)
   where
-    at : (a b : Bool) → length (besides (place ∷ places) (number + 1) cs) ≤ length (besides places (number + 1) cs)
-        → length (if a || b then besides (place ∷ places) (number + 1) cs else c ∷ besides (place ∷ places) (number + 1) cs)
-        ≤ length (if b then besides places (number + 1) cs else c ∷ besides places (number + 1) cs)
+    at : (a b : Bool) → length (others_from (place ∷ places) (number + 1) cs) ≤ length (others_from places (number + 1) cs)
+        → length (if a || b then others_from (place ∷ places) (number + 1) cs else c ∷ others_from (place ∷ places) (number + 1) cs)
+        ≤ length (if b then others_from places (number + 1) cs else c ∷ others_from places (number + 1) cs)
     at true true h = h
     at true false h = omega arith
     at false true h = h
     at false false h = omega arith
 
 -- one place more, which is there
-besides-one_less : (place number j : ℕ) → place ≡ number + j → (places : List (Option ℕ)) (cs : List Named) (c : Named) → slice_get cs j ≡ Some c
-    → list_any (is_place place) places ≡ false → suc (length (besides (Some place ∷ places) number cs)) ≤ length (besides places number cs)
-unfolding besides
-besides-one_less place number j is places [] c h k = absurd (cc (h))
-besides-one_less place number zero is places (d ∷ cs) c h k =
+others-one_less : (place number j : ℕ) → place ≡ number + j → (places : List (Option ℕ)) (cs : List Named) (c : Named) → slice_get cs j ≡ Some c
+    → list_any (is_place place) places ≡ false → suc (length (others_from (Some place ∷ places) number cs)) ≤ length (others_from places number cs)
+unfolding others_from
+others-one_less place number j is places [] c h k = absurd (cc (h))
+others-one_less place number zero is places (d ∷ cs) c h k =
     let same : place ≡ number = omega arith in
-    let less = besides-less (Some place) places (number + 1) cs in
+    let less = others-less (Some place) places (number + 1) cs in
     let here : (number == place) ≡ true = (Decides-eqb number place).1 (sym same) in
-    let l : length (besides (Some place ∷ places) number (d ∷ cs)) ≡ length (besides (Some place ∷ places) (number + 1) cs) =
-    ap (λ b. length (if b || list_any (is_place number) places then besides (Some place ∷ places) (number + 1) cs else d ∷ besides (Some place ∷ places) (number + 1) cs)) here in
-    let r : length (besides places number (d ∷ cs)) ≡ suc (length (besides places (number + 1) cs)) =
-    ap (λ b. length (if b then besides places (number + 1) cs else d ∷ besides places (number + 1) cs)) (ap (λ i. list_any (is_place i) places) (sym same) ∙ k) in
+    let l : length (others_from (Some place ∷ places) number (d ∷ cs)) ≡ length (others_from (Some place ∷ places) (number + 1) cs) =
+    ap (λ b. length (if b || list_any (is_place number) places then others_from (Some place ∷ places) (number + 1) cs else d ∷ others_from (Some place ∷ places) (number + 1) cs)) here in
+    let r : length (others_from places number (d ∷ cs)) ≡ suc (length (others_from places (number + 1) cs)) =
+    ap (λ b. length (if b then others_from places (number + 1) cs else d ∷ others_from places (number + 1) cs)) (ap (λ i. list_any (is_place i) places) (sym same) ∙ k) in
     omega arith
-besides-one_less place number (suc j) is places (d ∷ cs) c h k =
-    let less = besides-one_less place (number + 1) j (omega arith) places cs c h k in
+others-one_less place number (suc j) is places (d ∷ cs) c h k =
+    let less = others-one_less place (number + 1) j (omega arith) places cs c h k in
     at (number == place) (list_any (is_place number) places) refl less
   where
-    at : (a b : Bool) → (number == place) ≡ a → suc (length (besides (Some place ∷ places) (number + 1) cs)) ≤ length (besides places (number + 1) cs)
-        → suc (length (if a || b then besides (Some place ∷ places) (number + 1) cs else d ∷ besides (Some place ∷ places) (number + 1) cs))
-        ≤ length (if b then besides places (number + 1) cs else d ∷ besides places (number + 1) cs)
+    at : (a b : Bool) → (number == place) ≡ a → suc (length (others_from (Some place ∷ places) (number + 1) cs)) ≤ length (others_from places (number + 1) cs)
+        → suc (length (if a || b then others_from (Some place ∷ places) (number + 1) cs else d ∷ others_from (Some place ∷ places) (number + 1) cs))
+        ≤ length (if b then others_from places (number + 1) cs else d ∷ others_from places (number + 1) cs)
     at true b e less = absurd (omega (arith, (Decides-eqb number place).0 e))
     at false true e less = less
     at false false e less = omega arith
@@ -233,14 +240,14 @@ place-among cs (Some other ∷ places) place c h k = at (place == other) refl k 
 none-is_place : (i : ℕ) → list_any (is_place i) [] ≡ false
 none-is_place i = refl
 
-pub count-columns : (cs : List Named) (places : List (Option ℕ)) → are_distinct (map (λ c. c.name) (at_places cs places)) ≡ true
-    → length (at_places cs places) + length (besides places 0 cs) ≤ length cs
-count-columns cs [] h = let e = ap length (besides-none [] 0 cs none-is_place) in omega arith
-count-columns cs (None ∷ places) h =
-    let less = besides-less None places 0 cs in
-    let rest = count-columns cs places h in
+counted : (cs : List Named) (places : List (Option ℕ)) → are_distinct (map (λ c. c.name) (at_places cs places)) ≡ true
+    → length (at_places cs places) + length (others_from places 0 cs) ≤ length cs
+counted cs [] h = let e = ap length (others-none [] 0 cs none-is_place) in omega arith
+counted cs (None ∷ places) h =
+    let less = others-less None places 0 cs in
+    let rest = counted cs places h in
     omega arith
-count-columns cs (Some place ∷ places) h = at (slice_get cs place) refl (count-columns cs places)
+counted cs (Some place ∷ places) h = at (slice_get cs place) refl (counted cs places)
   where
     here : (c : Named) (b : Bool) → list_any (is_place place) places ≡ b → slice_get cs place ≡ Some c
         → is_among (map (λ c. c.name) (at_places cs places)) c.name ≡ false → b ≡ false
@@ -248,11 +255,11 @@ count-columns cs (Some place ∷ places) h = at (slice_get cs place) refl (count
     here c false e k none = refl
 
     at : (o : Option Named) → slice_get cs place ≡ o
-        → (are_distinct (map (λ c. c.name) (at_places cs places)) ≡ true → length (at_places cs places) + length (besides places 0 cs) ≤ length cs)
-        → length (at_places cs (Some place ∷ places)) + length (besides (Some place ∷ places) 0 cs) ≤ length cs
+        → (are_distinct (map (λ c. c.name) (at_places cs places)) ≡ true → length (at_places cs places) + length (others_from places 0 cs) ≤ length cs)
+        → length (at_places cs (Some place ∷ places)) + length (others_from (Some place ∷ places) 0 cs) ≤ length cs
     at None e rest =
         let is : at_places cs (Some place ∷ places) ≡ at_places cs places = rw e in
-        let less = besides-less (Some place) places 0 cs in
+        let less = others-less (Some place) places 0 cs in
         let r = rest (sym (ap (λ l. are_distinct (map (λ c. c.name) l)) is) ∙ h) in
         let count = ap length is in
         omega arith
@@ -262,10 +269,18 @@ count-columns cs (Some place ∷ places) h = at (slice_get cs place) refl (count
         (sym (ap (λ l. are_distinct (map (λ c. c.name) l)) is) ∙ h) in
         let out = here c (list_any (is_place place) places) refl e (true-not (is_among (map (λ c. c.name) (at_places cs places)) c.name) d.0) in
         let z : place ≡ 0 + place = omega arith in
-        let less = besides-one_less place 0 place z places cs c e out in
+        let less = others-one_less place 0 place z places cs c e out in
         let r = rest d.1 in
         let count = ap length is in
         omega arith
+
+pub count-columns : (cs : List Named) (needs : List (List Expr)) → are_distinct (map (λ c. c.name) (first_columns cs needs)) ≡ true
+    → length (first_columns cs needs) + length (besides (map (λ es. first_of es cs) needs) cs) ≤ length cs
+count-columns cs needs h =
+    let places = map (λ es. first_of es cs) needs in
+    let keys = first-columns-are cs needs in
+    let count = counted cs places (ap (λ (l : List Named). are_distinct (map (λ c. c.name) l)) keys ∙ h) in
+    omega (arith, count, ap length keys, ap length (besides-from places cs))
 
 -- ---- the columns of the key
 
@@ -279,32 +294,23 @@ AreKeys [] [] = Unit {0}
 AreKeys (es ∷ needs) (c ∷ cs) = IsOneOf es c × AreKeys needs cs
 AreKeys _ _ = ⊥
 
-first-at : (es : List Expr) (cs : List Named) (number place : ℕ) → first_of es number cs ≡ Some place
-    → (j : ℕ) × (c : Named) × (place ≡ number + j) × (slice_get cs j ≡ Some c) × IsOneOf es c
-unfolding first_of
-first-at es [] number place h = absurd (cc (h))
-first-at es (c ∷ cs) number place h = at (is_one_of es c) refl h (first-at es cs (number + 1) place)
+found-is : (p : Named → Bool) (cs : List Named) (c : Named) → find p cs ≡ Some c → p c ≡ true
+found-is p [] c h = absurd (cc (h))
+found-is p (d ∷ cs) c h = at (p d) refl h (found-is p cs c)
   where
-    at : (b : Bool) → is_one_of es c ≡ b → (if b then Some number else first_of es (number + 1) cs) ≡ Some place
-        → (first_of es (number + 1) cs ≡ Some place → (j : ℕ) × (d : Named) × (place ≡ number + 1 + j) × (slice_get cs j ≡ Some d) × IsOneOf es d)
-        → (j : ℕ) × (d : Named) × (place ≡ number + j) × (slice_get (c ∷ cs) j ≡ Some d) × IsOneOf es d
-    at true e k rest = let z : number ≡ place = same_Some number place k in (0, c, omega arith, refl, e)
-    at false e k rest = let r = rest k in (suc r.0, r.1, omega (arith, r.2), r.3, r.4)
+    at : (b : Bool) → p d ≡ b → (if b then Some d else find p cs) ≡ Some c → (find p cs ≡ Some c → p c ≡ true) → p c ≡ true
+    at true e k more = ap p (sym (same_Some d c k)) ∙ e
+    at false e k more = more k
 
-pub keys-are : (cs : List Named) (needs : List (List Expr)) → list_any is_none (map (λ es. first_of es 0 cs) needs) ≡ false
-    → AreKeys needs (at_places cs (map (λ es. first_of es 0 cs) needs))
+pub keys-are : (cs : List Named) (needs : List (List Expr)) → list_any is_none (map (λ es. first_of es cs) needs) ≡ false → AreKeys needs (first_columns cs needs)
 keys-are cs [] h = tt
-keys-are cs (es ∷ needs) h = at (first_of es 0 cs) refl (keys-are cs needs)
+keys-are cs (es ∷ needs) h = at (find (is_one_of es) cs) refl (keys-are cs needs)
   where
-    k : (is_none (first_of es 0 cs) ≡ false) × (list_any is_none (map (λ es. first_of es 0 cs) needs) ≡ false)
-    k = or-false (is_none (first_of es 0 cs)) (list_any is_none (map (λ es. first_of es 0 cs) needs)) h
+    k : (is_none (first_of es cs) ≡ false) × (list_any is_none (map (λ es. first_of es cs) needs) ≡ false)
+    k = or-false (is_none (first_of es cs)) (list_any is_none (map (λ es. first_of es cs) needs)) h
 
-    at : (o : Option ℕ) → first_of es 0 cs ≡ o
-        → (list_any is_none (map (λ es. first_of es 0 cs) needs) ≡ false → AreKeys needs (at_places cs (map (λ es. first_of es 0 cs) needs)))
-        → AreKeys (es ∷ needs) (at_places cs (map (λ es. first_of es 0 cs) (es ∷ needs)))
-    at None e rest = absurd (cc (sym (ap is_none e) ∙ k.0))
-    at (Some place) e rest =
-        let r = first-at es cs 0 place e in
-        let z : r.0 ≡ place = omega (arith, r.2) in
-        let got : slice_get cs place ≡ Some r.1 = ap (slice_get cs) (sym z) ∙ r.3 in
-        rw (e, got) (r.4, rest k.1)
+    at : (o : Option Named) → find (is_one_of es) cs ≡ o
+        → (list_any is_none (map (λ es. first_of es cs) needs) ≡ false → AreKeys needs (first_columns cs needs))
+        → AreKeys (es ∷ needs) (cons_option (find (is_one_of es) cs) (first_columns cs needs))
+    at None e rest = absurd (cc (sym (first-is_none es cs) ∙ k.0, ap is_none e))
+    at (Some c) e rest = rw e (found-is (is_one_of es) cs c e, rest k.1)

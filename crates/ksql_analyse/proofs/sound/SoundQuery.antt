@@ -25,11 +25,11 @@ use Rattle.ksql_clauses.specs.Items.{result_columns}
 use Rattle.ksql_clauses.specs.Sources.{from_scope, item_scope, reads_stream, on_exprs, early_exprs, late_exprs, item_exprs, there}
 use Rattle.ksql_clauses.specs.Keys.{key_columns, value_columns}
 use Rattle.ksql_rules.specs.Breaks.{is_grouped}
-use Rattle.ksql_clauses.specs.Keys.{key_places}
+use Rattle.ksql_clauses.specs.Keys.{key_places, needs}
 use Rattle.ksql_rules.specs.Limits.{IsQueryWithin}
 use Rattle.ksql_analyse.specs.Judgement.{IsQuery, IsResult, IsShape, exprs, left_partitions}
 use Rattle.ksql_analyse.proofs.accepted.Refusals.{KeepsQuery, stated}
-use Rattle.ksql_analyse.proofs.sound.SoundColumns.{places-each, besides-each, each-map}
+use Rattle.ksql_analyse.proofs.sound.SoundColumns.{keys-each, besides-each, each-map}
 use Rattle.ksql_analyse.proofs.sound.SoundPlain.{exprs-hold, plain-name, plain-resolved, item-types, no-window}
 use Rattle.ksql_analyse.proofs.sound.SoundResult.{HasShortName, result-sound}
 use Rattle.ksql_analyse.proofs.sound.SoundTrees.{IsPlain, columns-sound, condition-sound, each-false, each-both, each-front, each-behind}
@@ -76,10 +76,10 @@ having-part P q h = each-behind P (flat_map item_exprs q.items) (there q.having)
 
 -- the columns of the key and the others, where something holds of all
 pub keys-hold : (P : Expr → Type 0) (q : Select) (ks : List Known) → Each (λ c. P c.expr) (result_columns q ks) → Each P (exprs (key_columns q ks))
-keys-hold P q ks h = each-map P (λ (c : Named). c.expr) (key_columns q ks) (places-each (λ (c : Named). P c.expr) (result_columns q ks) h (key_places q ks))
+keys-hold P q ks h = each-map P (λ (c : Named). c.expr) (key_columns q ks) (keys-each (λ (c : Named). P c.expr) (result_columns q ks) h (needs q ks))
 
 pub values-hold : (P : Expr → Type 0) (q : Select) (ks : List Known) → Each (λ c. P c.expr) (result_columns q ks) → Each P (exprs (value_columns q ks))
-values-hold P q ks h = each-map P (λ (c : Named). c.expr) (value_columns q ks) (besides-each (λ (c : Named). P c.expr) (key_places q ks) (result_columns q ks) 0 h)
+values-hold P q ks h = each-map P (λ (c : Named). c.expr) (value_columns q ks) (besides-each (λ (c : Named). P c.expr) (key_places q ks) (result_columns q ks) h)
 
 ungrouped-late : (a b c : Bool) → a ≡ false → (not a && (b || c)) ≡ false → b ≡ false
 ungrouped-late true b c h k = absurd (cc (h))

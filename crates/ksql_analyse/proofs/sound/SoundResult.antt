@@ -26,14 +26,14 @@ use Rattle.ksql_clauses.specs.Sources.{item_scope}
 use Rattle.ksql_clauses.proofs.Naming.{numbered_is_short}
 use Rattle.ksql_clauses.specs.Keys.{key_columns, value_columns}
 use Rattle.ksql_rules.specs.Breaks.{has_long_name, result_format, topic_of}
-use Rattle.ksql_clauses.specs.Keys.{key_places}
+use Rattle.ksql_clauses.specs.Keys.{key_places, needs}
 use Rattle.ksql_rules.specs.Limits.{HasShortAlias}
 use Rattle.ksql_scopes.specs.declared.scope.Scope.{Scope}
 use Rattle.std.proofs.lemmas.Bool.{and_parts, and_from}
 use Rattle.ksql_analyse.specs.Judgement.{IsResult, left_partitions}
 use Rattle.ksql_analyse.proofs.parsed.Parsed.{IsPlainShort}
 use Rattle.ksql_analyse.proofs.accepted.Refusals.{KeepsQuery, stated, not-not}
-use Rattle.ksql_analyse.proofs.sound.SoundColumns.{columns-each, stars-each, places-each, besides-each, count-columns, plain-is, OfItem, each-append, each-weaker, each-filter}
+use Rattle.ksql_analyse.proofs.sound.SoundColumns.{columns-each, stars-each, keys-each, besides-each, count-columns, plain-is, OfItem, each-append, each-weaker, each-filter}
 use Rattle.ksql_analyse.proofs.sound.SoundDeclared.{topic-there, partitions-bounded, some-partitions, valued-where, all-by_name}
 use Rattle.ksql_analyse.proofs.lists.Distinct.{or-false, not-true, true-not, not-zero}
 use Rattle.ksql_analyse.proofs.sound.SoundTrees.{each-false}
@@ -117,7 +117,7 @@ result-sound catalog number table name ps q ks made r keeps short shorts some fe
     (list_all (λ n. not (is_among reserved_columns n)) (map (λ c. c.name) (key_columns q ks ++ value_columns q ks))) named).0 in
     let front = distinct-front (map (λ (c : Named). c.name) (key_columns q ks)) (map (λ (c : Named). c.name) (value_columns q ks))
     (sym (ap are_distinct (map-append (λ (c : Named). c.name) (key_columns q ks) (value_columns q ks))) ∙ distinct) in
-    let count = count-columns (result_columns q ks) (key_places q ks) front in
+    let count = count-columns (result_columns q ks) (needs q ks) front in
     let keys = same-length (λ (c : Column). c.name) (λ (c : Named). c.name) r.schema.keys (key_columns q ks) h.keyed.0 in
     let values = same-length (λ (c : Column). c.name) (λ (c : Named). c.name) r.schema.values (value_columns q ks) h.valued.0 in
     let most : length (result_columns q ks) ≤ 64 = ltb-false 64 (length (result_columns q ks)) keeps.few in
@@ -129,8 +129,8 @@ result-sound catalog number table name ps q ks made r keeps short shorts some fe
       columns_named = ap are_column_names names ∙ named;
       columns_short = all-by_name (λ n. nat_le (length n) 128) (columns r) ∙ ap (list_all (λ n. nat_le (length n) 128)) names
           ∙ short-tested (key_columns q ks ++ value_columns q ks)
-          (each-append HasShortName (key_columns q ks) (value_columns q ks) (places-each HasShortName (result_columns q ks) shorts (key_places q ks))
-          (besides-each HasShortName (key_places q ks) (result_columns q ks) 0 shorts));
+          (each-append HasShortName (key_columns q ks) (value_columns q ks) (keys-each HasShortName (result_columns q ks) shorts (needs q ks))
+          (besides-each HasShortName (key_places q ks) (result_columns q ks) shorts));
       columns_few = omega (arith, length-append r.schema.keys r.schema.values);
       topic_named = ap is_topic_name (same_Some r.topic topic.0 (h.topic ∙ topic.1)) ∙ topic.2;
       some_partition = subst (λ n. 1 ≤ n) (sym h.partitions) partitions.0;

@@ -15,7 +15,7 @@ use Rattle.agg_ops.specs.WindowGroups.{HoldsPartly}
 use Rattle.agg_ops.proofs.TotalsLemmas.{time-more}
 use Rattle.agg_ops.proofs.WindowLemmas.{windows-begun, windows-done, windows-expired}
 use Rattle.agg_ops.proofs.WindowSpans.{size-short, grace-short}
-use Rattle.agg_ops.proofs.WindowSteps.{given_of, added-along, span-bounds, shut-step, open-step, IsTurnOf}
+use Rattle.agg_ops.proofs.WindowSteps.{given_of, added-along, added-front, span-bounds, shut-step, open-step, IsTurnOf}
 use Rattle.agg_ops.proofs.window_agg_op.give.Goals as goal
 use Rattle.agg_ops.proofs.window_agg_op.give.Goals.{then-time-span+in_ok-put_window_key+in_ok-reserve+in_ok-given, else-time-span}
 
@@ -78,17 +78,41 @@ add_to-requires-clause-bounds c =
     span-bounds w time c.deref-span-items.result.now c.loop-index.index none s (c.deref-span-items.ensures.value ∙ c.in_ok-spans.ensures.spans) c.loop-index-test.true refl c.requires.sound in
     (omega arith, omega (arith, size-short w c.requires.sound))
 
+pub returns-in_err-put_window_key-clause-out : goal.returns-in_err-put_window_key-clause-out
+returns-in_err-put_window_key-clause-out c =
+    let so_far = c.loop-index.invariant in
+    let all = c.deref-span-items.ensures.value ∙ c.in_ok-spans.ensures.spans in
+    let p = err_from_is_err_and c.from_residual-in_err-put_window_key.result c.from_residual-in_err-put_window_key.ensures.1 in
+    rw p.1 (
+      so_far.out.0,
+      so_far.out.1,
+      λ side es at h. added-front c.args.aggs.now c.args.window es (record { side = side; change = c.args.change.now }) c.deref-span-items.result.now c.loop-index.index so_far.out.0 c.args.out.now.items
+          c.loop-index.out.items all so_far.out.1 (so_far.next side es at h).out,
+    )
+
 pub returns-in_err-reserve-clause-out : goal.returns-in_err-reserve-clause-out
 returns-in_err-reserve-clause-out c =
-    let so_far = c.loop-index.invariant.out in
+    let so_far = c.loop-index.invariant in
+    let all = c.deref-span-items.ensures.value ∙ c.in_ok-spans.ensures.spans in
     let p = err_from_is_err_and c.from_residual-in_err-reserve.result c.from_residual-in_err-reserve.ensures.1 in
-    rw p.1 (so_far.0, c.reserve.ensures.items ∙ so_far.1)
+    rw p.1 (
+      so_far.out.0,
+      c.reserve.ensures.items ∙ so_far.out.1,
+      λ side es at h. added-front c.args.aggs.now c.args.window es (record { side = side; change = c.args.change.now }) c.deref-span-items.result.now c.loop-index.index so_far.out.0 c.args.out.now.items
+          c.loop-index.out.items all so_far.out.1 (so_far.next side es at h).out,
+    )
 
 pub returns-in_err-given-clause-out : goal.returns-in_err-given-clause-out
 returns-in_err-given-clause-out c =
-    let so_far = c.loop-index.invariant.out in
+    let so_far = c.loop-index.invariant in
+    let all = c.deref-span-items.ensures.value ∙ c.in_ok-spans.ensures.spans in
     let p = err_from_is_err_and c.from_residual-in_err-given.result c.from_residual-in_err-given.ensures.1 in
-    rw p.1 (so_far.0, c.reserve.ensures.items ∙ so_far.1)
+    rw p.1 (
+      so_far.out.0,
+      c.reserve.ensures.items ∙ so_far.out.1,
+      λ side es at h. added-front c.args.aggs.now c.args.window es (record { side = side; change = c.args.change.now }) c.deref-span-items.result.now c.loop-index.index so_far.out.0 c.args.out.now.items
+          c.loop-index.out.items all so_far.out.1 (so_far.next side es at h).out,
+    )
 
 pub loop-index-preserved : goal.loop-index-preserved
 loop-index-preserved c =

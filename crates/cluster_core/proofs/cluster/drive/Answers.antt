@@ -32,7 +32,7 @@ loop-step-preserved c =
     let lines : List Lined = c.items-step-items.result.now in
     let driven : IsDriven items files c.args.workers lines c.loop-step.step-index c.loop-step.cluster = c.loop-step.invariant in
     driven-next items files c.args.workers lines c.loop-step.step-index c.loop-step.cluster c.in_ok-cluster-2.cluster c.step-item.result c.loop-step-test.true c.step-item.is driven
-    (c.in_ok-cluster-2.ensures items driven.p c.requires.sound driven.come)
+    (c.in_ok-cluster-2.ensures.come items driven.p c.requires.sound driven.come)
 
 pub returns : goal.returns
 returns c =

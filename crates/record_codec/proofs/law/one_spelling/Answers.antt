@@ -1,5 +1,5 @@
 use Rattle.record_codec.specs.Spelling.{spelling, values, IsSpellable, IsSpellableRow}
-use Rattle.record_codec.specs.Reading.{change_at, row_at}
+use Rattle.record_codec.proofs.Parsers.{change_at, row_at}
 use Rattle.record_codec.proofs.Readers.{spelled-apart}
 use Rattle.record_codec.proofs.Parts.{reads-change, reads-row}
 use Rattle.record_codec.proofs.law.one_spelling.Goals as goal

@@ -1,18 +1,7 @@
-use Rattle.std.proofs.Common.{arith}
-use Rattle.record_codec.specs.Spelling.{values, IsSpellableRow}
-use Rattle.record_codec.specs.Reading.{row_at}
-use Rattle.record_codec.proofs.Readers.{whole-found, whole-only}
+use Rattle.std.proofs.Common.{Some, ap}
 use Rattle.record_codec.proofs.Parts.{reads-row}
+use Rattle.record_codec.proofs.Given.{one_whole}
 use Rattle.record_codec.proofs.reading.decode_row.Goals as goal
 
-pub returns-in-Ok-clause-found : goal.returns-in-Ok-clause-found
-returns-in-Ok-clause-found c =
-    whole-found values IsSpellableRow row_at reads-row c.args.bytes.now c.in-Ok.row (λ i. omega (arith, c.type_inv.bytes i)) c.in-Ok.ensures
-
 pub returns-in-Ok-clause-only : goal.returns-in-Ok-clause-only
-returns-in-Ok-clause-only c = λ x fits e. whole-only values IsSpellableRow row_at reads-row c.args.bytes.now _ c.in-Ok.ensures x fits e
-
-pub returns-in-Err-Unspelled-clause-only : goal.returns-in-Err-Unspelled-clause-only
-returns-in-Err-Unspelled-clause-only c =
-    let none = rw c.in-Err-Unspelled.field-0-is at c.in-Err-Unspelled.ensures in
-    λ x fits e. whole-only values IsSpellableRow row_at reads-row c.args.bytes.now _ none x fits e
+returns-in-Ok-clause-only c = λ x fits e. ap Some (one_whole reads-row c.in-Ok.row x c.in-Ok.ensures.0 c.in-Ok.ensures.1 fits e)

@@ -15,9 +15,11 @@ pub loop-line-preserved-in_ok-push-in-Ok-Some : goal.loop-line-preserved-in_ok-p
 loop-line-preserved-in_ok-push-in-Ok-Some c =
     let reached = moved c.in-Some.ensures.steps refl c.loop-line.invariant.reached in
     let next = c.read_line.new.self in
+    let read = c.in-Ok-Some.ensures.read c.args.workers reached.before reached.stands in
     record {
       can_next = tt;
       is_finite = tt;
       reached = moved refl (ap (λ step. c.loop-line.steps.items ++ lined next.lines step) c.in-Ok-Some.field-0-is ∙ sym c.in_ok-push-in-Ok-Some.ensures.items)
-          (go_on c.in-Some.line.now reached c.in-Ok-Some.field-0 next c.in-Ok-Some.ensures.read c.read_line.ensures.lines c.read_line.ensures.bytes c.in-Ok-Some.ensures.short c.in-Ok-Some.ensures.rounds);
+          (go_on c.in-Some.line.now reached c.in-Ok-Some.field-0 next read.0 read.1 (c.in-Ok-Some.ensures.stands c.args.workers reached.before reached.stands)
+          c.read_line.ensures.lines c.read_line.ensures.bytes c.in-Ok-Some.ensures.short c.in-Ok-Some.ensures.rounds);
     }

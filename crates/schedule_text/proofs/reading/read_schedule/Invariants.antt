@@ -8,5 +8,5 @@ abbrev pub invariant-loop-line : goal.invariant-loop-line
 invariant-loop-line l = record {
   can_next : (goal.iterator-loop-line).can_next l.line-iterator;
   is_finite : (goal.iterator-loop-line).is_finite l.line-iterator;
-  reached : Reached (schedule_of l.fn.program.items l.fn.topology l.fn.workers l.fn.bytes) (setting_view l.setting) l.line-iterator l.standing l.steps.items;
+  reached : Reached (schedule_of l.fn.program.items l.fn.topology l.fn.workers l.fn.bytes) (setting_view l.setting) l.fn.workers l.line-iterator l.standing l.steps.items;
 }

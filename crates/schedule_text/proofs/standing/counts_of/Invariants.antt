@@ -1,6 +1,6 @@
 use Rattle.std.proofs.Common.{◌≡◌, ◌++◌, drop, map, option_map}
 use Rattle.schedule_text.specs.Forms.{pair_view}
-use Rattle.schedule_text.specs.Standing.{counts_of}
+use Rattle.schedule_text.specs.Steps.{counts_of}
 use Rattle.schedule_text.proofs.standing.counts_of.Given as goal
 
 -- the counts so far come before those of the remaining pairs

@@ -5,7 +5,7 @@ use Rattle.std.proofs.lemmas.List.{at_drop_more}
 use Rattle.ksql_types.specs.declared.relation.TaskName.{TaskName}
 use Rattle.topology.specs.declared.topology.Sub.{Sub}
 use Rattle.schedule_text.specs.Forms.{named}
-use Rattle.schedule_text.specs.Standing.{is_task}
+use Rattle.schedule_text.specs.Refusals.{is_task}
 use Rattle.schedule_text.proofs.TaskLemmas.{is_task-cons, same_task}
 use Rattle.schedule_text.proofs.standing.task_of.Goals as goal
 

@@ -1,6 +1,6 @@
 use Rattle.std.proofs.Common.{◌≡◌, drop}
 use Rattle.schedule_text.specs.Forms.{named}
-use Rattle.schedule_text.specs.Standing.{is_task}
+use Rattle.schedule_text.specs.Refusals.{is_task}
 use Rattle.schedule_text.proofs.standing.task_of.Given as goal
 
 -- the task belongs to none of the sub-topologies so far

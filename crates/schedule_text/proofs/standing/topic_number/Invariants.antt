@@ -1,5 +1,5 @@
 use Rattle.std.proofs.Common.{◌≡◌, drop}
-use Rattle.schedule_text.specs.Standing.{topic_number}
+use Rattle.schedule_text.specs.Steps.{topic_number}
 use Rattle.schedule_text.proofs.standing.topic_number.Given as goal
 
 -- the relations so far aren't of the topic

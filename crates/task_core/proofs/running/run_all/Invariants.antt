@@ -5,8 +5,8 @@ use Rattle.task_core.specs.Readers.{IsOrdered, left_len, pending}
 use Rattle.task_core.proofs.Underway.{IsUnderWay}
 use Rattle.task_core.proofs.running.run_all.Given as goal
 
-abbrev pub invariant-loop-alloc : goal.invariant-loop-alloc
-invariant-loop-alloc l = record {
+abbrev pub invariant-loop-reader : goal.invariant-loop-reader
+invariant-loop-reader l = record {
   nodes : l.chain.nodes ≡ l.fn.chain.nodes;
   order : IsOrdered l.reader;
   under : IsUnderWay l.fn.chain.nodes (maps_in l.fn.chain) (maps_in l.chain) l.fn.out.items l.out.items (pending l.fn.reader) (pending l.reader);
@@ -14,5 +14,5 @@ invariant-loop-alloc l = record {
   sound : l.chain.failed ≡ l.fn.chain.failed;
 }
 
-abbrev pub decreases-loop-alloc : goal.decreases-loop-alloc
-decreases-loop-alloc l = left_len l.reader
+abbrev pub decreases-loop-reader : goal.decreases-loop-reader
+decreases-loop-reader l = left_len l.reader

@@ -1,6 +1,10 @@
 use Rattle.std.proofs.Common.{◌≡◌, ◌+◌, ◌∙◌, sym, subst, ap, arith, ℕ, map, length, option_map, Some}
-use Rattle.topic_log.specs.Commits.{IsBest, dues}
-use Rattle.topic_log.proofs.Choice.{IsBest-along, best_stays, best_changes, dues-at}
+use Rattle.std.proofs.lemmas.List.{length-map}
+use Rattle.std.proofs.lemmas.List.Elements.{recursion_from_All}
+use Rattle.ksql_place.specs.Ascending.{Rises}
+use Rattle.ksql_place.specs.Routing.{change_cmp}
+use Rattle.topic_log.proofs.Choice.{IsBest, dues, IsBest-along, best_stays, best_changes, dues-at}
+use Rattle.topic_log.proofs.Next.{EachAscends-from_all, next-found}
 use Rattle.topic_log.proofs.commits.next_writer.Goals as goal
 use Rattle.topic_log.proofs.commits.next_writer.Goals.{then-goes_before, else-goes_before}
 
@@ -20,7 +24,9 @@ loop-writer-preserved c =
 
 pub returns : goal.returns
 returns c =
-    let ds = dues c.args.closed (map (λ w. w.items) c.args.waiting.now) in
+    let ws = c.args.waiting.now in
+    let ls = map (λ w. w.items) ws in
     let best = option_map (λ x. x.now) c.loop-writer.best in
-    let end : c.loop-writer.writer ≡ length c.args.waiting.now = omega arith in
-    (best, subst (λ (n : ℕ). IsBest ds n c.loop-writer.next best) end c.loop-writer.invariant)
+    let end : c.loop-writer.writer ≡ length ls = omega arith ∙ sym (length-map ws (λ w. w.items)) in
+    next-found c.args.closed ls c.loop-writer.next best (EachAscends-from_all (λ w. w.items) ws (recursion_from_All (λ w. Rises change_cmp w.items) ws c.requires))
+    (subst (λ (n : ℕ). IsBest (dues c.args.closed ls) n c.loop-writer.next best) end c.loop-writer.invariant)

@@ -1,5 +1,5 @@
 use Rattle.std.proofs.Common.{map, option_map}
-use Rattle.topic_log.specs.Commits.{IsBest, dues}
+use Rattle.topic_log.proofs.Choice.{IsBest, dues}
 use Rattle.topic_log.proofs.commits.next_writer.Given as goal
 
 abbrev pub invariant-loop-writer : goal.invariant-loop-writer

@@ -25,7 +25,7 @@ push_reserved-requires c =
     let has = next_has c.args.closed part writer c.index_mut.result.now next c.index_mut.ensures.value in
     let rest = c.take_first-change.new.waiting.items in
     let at : get_or (waiting_lists part) writer [] ≡ c.take_first-change.result ∷ rest = has.0 ∙ c.take_first-change.ensures in
-    let some : 0 < waiting_len part = next_waits c.args.closed part writer c.take_first-change.result rest next at in
+    let some : 0 < waiting_len part = next_waits part writer c.take_first-change.result rest at in
     omega (arith, some, c.loop-writer.invariant.room, part.said.ok.0)
 
 -- the partition after a step

@@ -4,12 +4,21 @@ use Rattle.std.specs.declared.collections.VecDeque.{VecDeque}
 use Rattle.std.proofs.lemmas.Bool.{eqb-true}
 use Rattle.std.proofs.lemmas.List.{nil_from_length}
 use Rattle.std.proofs.lemmas.Option.{slice_get_read}
+use Rattle.ksql_place.specs.Ascending.{Rises}
+use Rattle.ksql_place.specs.Routing.{change_cmp}
 use Rattle.ksql_place.specs.declared.change.Change.{Change}
 use Rattle.core_state.specs.State.{feed_of}
 use Rattle.topic_log.specs.Commits.{IsAlone}
 use Rattle.topic_log.specs.Shelves.{waiting_in}
 use Rattle.topic_log.proofs.Showing.{next_at, next_within}
 use Rattle.topic_log.proofs.commits.whole_due.Goals as goal
+
+pub is_all_due-requires : goal.is_all_due-requires
+is_all_due-requires c =
+    let part = c.args.part.now in
+    let writer = c.in_ok-writer.writer in
+    let within = next_within c.args.closed part writer (next_at c.args.closed part c.as_slice.result.now (Some writer) c.as_slice.ensures.value c.in_ok-writer.ensures) in
+    subst (λ (w : VecDeque Change Global). Rises change_cmp w.items) (sym c.index.ensures) (c.requires writer c.index.result.now within)
 
 pub returns-then-is_all_due : goal.returns-then-is_all_due
 returns-then-is_all_due c =

@@ -8,6 +8,7 @@ use Rattle.topic_log.specs.declared.shelves.TopicShelf.{TopicShelf}
 use Rattle.topic_log.specs.Shelves.{AreShelves, routes_in}
 use Rattle.topic_log.specs.Views.{TopicView, topic_view}
 use Rattle.topic_log.proofs.EachPlace.{map-written}
+use Rattle.topic_log.proofs.KeptRoom.{ready-kept}
 use Rattle.topic_log.proofs.OneTopic.{Replaces, writes}
 use Rattle.topic_log.proofs.Readiness.{HasParts, has-parts, ready}
 use Rattle.topic_log.proofs.ViewLemmas.{AreShelves-same}
@@ -55,20 +56,22 @@ pub returns-in-Ok-clause-shelves : goal.returns-in-Ok-clause-shelves
 returns-in-Ok-clause-shelves c =
     AreShelves-same c.args.shelves.now (with_topic c.args.shelves.now c.args.number c.take_room.new.topic) (returns-in-Ok-clause-views c) refl c.requires.shelves
 
+replaces : (s : Shelves) (p : Proposal) (i : ℕ) (t changed : TopicShelf) → AreShelves s → IsWriter (routes_in s) p.task → i ≡ (routes_in s).output p.task → t ≡ get_or s.topics.items i t →
+    topic_view changed ≡ topic_view t → Replaces s (with_topic s i changed) i t changed
+replaces s p i t changed are writer is at view = record {
+  at = slice_get_read s.topics.items (length s.topics.items) i t refl (inside s p i are writer is) at;
+  items = refl;
+  spec = ap (λ (v : TopicView). v.spec) view;
+}
+
 pub returns-in-Ok-clause-ready : goal.returns-in-Ok-clause-ready
 returns-in-Ok-clause-ready c =
     let s = c.args.shelves.now in
     let i = c.args.number in
-    let was = c.index_mut-topic.result.now in
-    let now = c.take_room.new.topic in
-    let next = with_topic s i now in
-    let within = inside s c.args.proposal i c.requires.shelves c.requires.writer c.requires.number in
-    let replaces : Replaces s next i was now = record {
-      at = slice_get_read s.topics.items (length s.topics.items) i was refl within c.index_mut-topic.ensures.value;
-      items = refl;
-      spec = ap (λ (v : TopicView). v.spec) c.take_room.ensures.view;
-    } in
-    ready s next i was now c.args.proposal c.sorted.result replaces c.requires.writer c.requires.number c.requires.proposal c.in-Ok.ensures.room
+    ready s (with_topic s i c.take_room.new.topic) i c.index_mut-topic.result.now c.take_room.new.topic c.args.proposal c.sorted.result
+    (replaces c.args.shelves.now c.args.proposal c.args.number c.index_mut-topic.result.now c.take_room.new.topic c.requires.shelves c.requires.writer c.requires.number c.index_mut-topic.ensures.value c.take_room.ensures.view)
+    c.requires.writer c.requires.number c.requires.proposal
+    c.in-Ok.ensures.room
     (record {
       task = c.sorted.ensures.task;
       generation = c.sorted.ensures.generation;
@@ -79,6 +82,12 @@ returns-in-Ok-clause-ready c =
       sent = c.sorted.ensures.sent;
     })
 
+pub returns-in-Ok-clause-kept_ready : goal.returns-in-Ok-clause-kept_ready
+returns-in-Ok-clause-kept_ready c =
+    ready-kept
+    (replaces c.args.shelves.now c.args.proposal c.args.number c.index_mut-topic.result.now c.take_room.new.topic c.requires.shelves c.requires.writer c.requires.number c.index_mut-topic.ensures.value c.take_room.ensures.view)
+    c.take_room.ensures.view c.take_room.ensures.kept
+
 pub returns-in-Err-clause-views : goal.returns-in-Err-clause-views
 returns-in-Err-clause-views c =
     let s = c.args.shelves.now in
@@ -88,3 +97,9 @@ returns-in-Err-clause-views c =
 pub returns-in-Err-clause-shelves : goal.returns-in-Err-clause-shelves
 returns-in-Err-clause-shelves c =
     AreShelves-same c.args.shelves.now (with_topic c.args.shelves.now c.args.number c.take_room.new.topic) (returns-in-Err-clause-views c) refl c.requires.shelves
+
+pub returns-in-Err-clause-kept_ready : goal.returns-in-Err-clause-kept_ready
+returns-in-Err-clause-kept_ready c =
+    ready-kept
+    (replaces c.args.shelves.now c.args.proposal c.args.number c.index_mut-topic.result.now c.take_room.new.topic c.requires.shelves c.requires.writer c.requires.number c.index_mut-topic.ensures.value c.take_room.ensures.view)
+    c.take_room.ensures.view c.take_room.ensures.kept

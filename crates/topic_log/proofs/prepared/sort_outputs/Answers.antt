@@ -3,9 +3,8 @@ use Rattle.std.specs.Global.{Vec}
 use Rattle.std.specs.Vec.Iter.{into_iter_items}
 use Rattle.std.proofs.lemmas.List.{length-set}
 use Rattle.ksql_place.specs.declared.change.Change.{Change}
-use Rattle.topic_log.specs.Taking.{WillHave}
 use Rattle.topic_log.specs.Views.{EachAt}
-use Rattle.topic_log.proofs.Rooms.{put-next}
+use Rattle.topic_log.proofs.Rooms.{WillHave, put-next}
 use Rattle.topic_log.proofs.prepared.sort_outputs.Goals as goal
 
 pub loop-output-preserved : goal.loop-output-preserved

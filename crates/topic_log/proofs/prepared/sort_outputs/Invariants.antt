@@ -1,7 +1,7 @@
 use Rattle.std.proofs.Common.{◌≡◌, length}
 use Rattle.std.specs.Vec.Iter.{into_iter_items}
-use Rattle.topic_log.specs.Taking.{WillHave}
 use Rattle.topic_log.specs.Views.{EachAt}
+use Rattle.topic_log.proofs.Rooms.{WillHave}
 use Rattle.topic_log.proofs.prepared.sort_outputs.Given as goal
 
 -- with the outputs that are left each list becomes what goes there

@@ -1,6 +1,6 @@
 use Rattle.std.proofs.Common.{◌≡◌, ◌++◌, drop, string_bytes}
 use Rattle.std.specs.Prelude.{None, option_map}
-use Rattle.trace_text.specs.Trace.{steps_text}
+use Rattle.trace_text.proofs.Steps.{steps_text}
 use Rattle.trace_text.proofs.trace.push_steps.Given as goal
 
 -- what is written and the steps that are left are all steps

@@ -1,17 +1,15 @@
 -- The cluster before any worker.
-use Rattle.std.proofs.Common.{◌≡◌, ◌∙◌, ap, refl, sym, subst, length, map, List}
+use Rattle.std.proofs.Common.{◌∙◌, ap, refl, sym, subst, List}
 use Rattle.std.specs.List.{AllZip}
 use Rattle.ksql_program.specs.declared.program.Item.{Item}
 use Rattle.topic_files.specs.declared.topic.TopicLines.{TopicLines}
 use Rattle.topology.specs.Tasks.{chain_of}
-use Rattle.topology.specs.Topologies.{topology_of}
 use Rattle.topology.specs.declared.topology.Topology.{Topology}
 use Rattle.core_state.specs.Shelf.{ShelfOpens}
 use Rattle.topic_log.specs.Shelves.{AreTopics, routes_in, shelf_of, topics_of}
 use Rattle.topic_log.specs.declared.shelves.Shelves.{Shelves}
 use Rattle.feed_laws.specs.Feeds.{sources_of}
 use Rattle.cluster_core.specs.Cluster.{IsKept}
-use Rattle.cluster_laws.specs.Giving.{is_taker}
 use Rattle.cluster_core.specs.declared.cluster.Cluster.{Cluster}
 use Rattle.cluster_core.proofs.Opening.{opening-come}
 use Rattle.cluster_laws.proofs.Topics.{are-topics}
@@ -28,7 +26,6 @@ returns c =
     let made : Cluster = record {
       topology = record { topics = c.args.topology.topics; subs = c.args.topology.subs };
       chain = c.in_ok-chain_of.field-0;
-      takers = c.in_ok-takers_of.field-0;
       broker = c.broker.inside.inner;
       live = c.new-2.result;
       seats = c.new-3.result;
@@ -40,9 +37,6 @@ returns c =
     (record {
       topology = c.requires.topology;
       chain = c.in_ok-chain_of.ensures ∙ ap (λ (t : Topology). chain_of t.subs) c.requires.topology;
-      takers =
-          let same : c.items-4.result.now ≡ (topology_of items).subs = c.items-4.ensures ∙ ap (λ (t : Topology). t.subs) c.requires.topology in
-          c.in_ok-takers_of.ensures ∙ (λ i. map (is_taker (length (c.items-3.ensures i)) (same i)) (same i));
       topics = ap topics_of c.broker.view_is ∙ c.in_ok-broker.ensures.topics ∙ c.items.ensures ∙ ap (λ (t : Topology). t.topics) c.requires.topology;
       opens = subst (λ (b : Shelves). ShelfOpens (routes_in b) (shelf_of b)) (sym c.broker.view_is) c.in_ok-broker.ensures.opens;
       live = c.new-2.ensures.items;

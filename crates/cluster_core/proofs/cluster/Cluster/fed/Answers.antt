@@ -6,6 +6,7 @@ use Rattle.std.proofs.lemmas.List.Elements.{recursion_from_All}
 use Rattle.ksql_place.specs.Ascending.{ascending}
 use Rattle.ksql_place.specs.Order.{record_cmp}
 use Rattle.ksql_place.specs.declared.change.SourceRecord.{SourceRecord}
+use Rattle.ksql_program.specs.Sound.{IsSound}
 use Rattle.ksql_program.specs.declared.program.Item.{Item}
 use Rattle.meaning_laws.proofs.Lists.{All-weaker}
 use Rattle.topology.specs.Topologies.{topology_of}
@@ -15,14 +16,14 @@ use Rattle.core_state.specs.declared.journal.JournalEntry.TheVariants as entry
 use Rattle.topic_log.specs.Feeding.{RiseApart}
 use Rattle.topic_log.specs.Shelves.{IsSourcePart, routes_in, shelf_of, topics_of}
 use Rattle.topic_log.specs.declared.shelves.Shelves.{Shelves}
-use Rattle.feed_laws.specs.Feeds.{Source, fed_of}
+use Rattle.feed_laws.specs.Feeds.{Source, fed_of, records_of}
 use Rattle.feed_laws.specs.Fitting.{IsSourceOf}
-use Rattle.cluster_core.specs.Cluster.{HasCome}
-use Rattle.cluster_laws.specs.Progress.{Progress, taken}
+use Rattle.cluster_core.specs.Cluster.{HasCome, HasHappened}
+use Rattle.cluster_laws.specs.Progress.{Progress, feed, taken}
 use Rattle.cluster_core.specs.declared.cluster.Cluster.{Cluster}
 use Rattle.cluster_core.specs.declared.sources.Source.{Source as Kept}
 use Rattle.cluster_laws.proofs.Apart.{fed-apart, fed-feeds, fed-many}
-use Rattle.cluster_core.proofs.Feeding.{all-can-feed, feed-come, records-are, sources-are}
+use Rattle.cluster_core.proofs.Feeding.{all-can-feed, fed-so, records-are, sources-are}
 use Rattle.cluster_laws.proofs.SourceParts.{all-there, fed-there}
 use Rattle.cluster_laws.proofs.Parts.{all-parts}
 use Rattle.cluster_core.proofs.cluster.Cluster.fed.Goals as goal
@@ -74,13 +75,12 @@ feed-requires-clause-sources c =
     (all-there items c.requires.come.2 b (same-topics items p c.args.self come) (all-parts c.args.self.broker c.has_parts.ensures) p.fed p.sources each))
 
 pub returns : goal.returns
-returns c items p sound come =
+returns c =
     let count : Source → ℕ = taken c.args.step.now in
     let old : Cluster = c.args.self in
     let next : Cluster = record {
       topology = old.topology;
       chain = old.chain;
-      takers = old.takers;
       broker = c.feed.new.self;
       live = old.live;
       seats = old.seats;
@@ -88,17 +88,18 @@ returns c items p sound come =
       rounds = old.rounds;
       journal = c.push.new.self;
     } in
+    let so : (items : List Item) (p : Progress) → IsSound items → HasCome items p old →
+    HasCome items (feed count p) next × HasHappened items (records_of (p.fed + 1) count p.sources) old next = λ items p sound come.
     let number : c.fed-feed.result ≡ p.fed = c.fed-feed.ensures ∙ come.fed in
     let records : c.in_ok-sources.records.items ≡ flat_map (fed_of (p.fed + 1) count) p.sources =
     records-are items p count come.progress old.sources.items come.sources c.fed-feed.result number c.in_ok-sources.records.items c.in_ok-sources.ensures.records in
     let long : c.len.result ≡ length c.in_ok-sources.records.items = search rules in
-    feed-come items p count come.progress (c.feeds_fit.ensures.rises items p.fed count p.sources come.progress.sources).1
+    fed-so items p count come.progress (c.feeds_fit.ensures.rises items p.fed count p.sources come.progress.sources).1
     (c.feeds_fit.ensures.fits items p.fed count p.sources p.order come.progress.sources come.progress.order come.progress.none_later)
     (c.feeds_fit.ensures.goes_on items p.fed count p.sources come.progress.sources) sound old next come
     (record {
       topology = refl;
       chain = refl;
-      takers = refl;
       live = refl;
       seats = refl;
       rounds = refl;
@@ -108,4 +109,8 @@ returns c items p sound come =
           c.in_ok-push.ensures.items
           ∙ ap₂ (λ (n m : ℕ). old.journal.items ++ entry.Fed (n + 1) m ∷ []) number (long ∙ ap length records ∙ fed-many (p.fed + 1) count p.sources);
       sources = sources-are items p count come.progress old.sources.items come.sources c.fed-feed.result number c.in_ok-sources.sources.items c.in_ok-sources.ensures.sources;
-    })
+    }) in
+    record {
+      come = λ items p sound come. (so items p sound come).0;
+      events = λ items p sound come. (so items p sound come).1;
+    }

@@ -28,8 +28,8 @@ moved-requires c =
       );
     }
 
-pub returns : goal.returns
-returns c =
+pub returns-clause-come : goal.returns-clause-come
+returns-clause-come c =
     let old : Cluster = c.args.self in
     let whole : c.items.result.now ≡ map owned_of old.seats.items = c.items.ensures ∙ c.in_ok-owners.ensures ∙ ap (map owned_of) c.as_slice.ensures.value in
     ok-more c.moved.result
@@ -38,4 +38,15 @@ returns c =
     (has items p (map (λ (s : Seat). idle s.task) old.seats.items) (is_task c.args.task) sound h
     (can-lose items p old h c.args.task c.as_slice-3.result.now c.items.result.now
     (c.as_slice-3.ensures.value ∙ c.in_ok-stays.ensures ∙ ap (map (λ (s : Seat). not (is_task c.args.task s.task.name))) c.as_slice-2.ensures.value) whole)))
-    c.moved.ensures
+    c.moved.ensures.come
+
+pub returns-clause-events : goal.returns-clause-events
+returns-clause-events c =
+    let old : Cluster = c.args.self in
+    let whole : c.items.result.now ≡ map owned_of old.seats.items = c.items.ensures ∙ c.in_ok-owners.ensures ∙ ap (map owned_of) c.as_slice.ensures.value in
+    ok-more c.moved.result
+    (λ next has items p records sound h.
+    has items p (map (λ (s : Seat). idle s.task) old.seats.items) (is_task c.args.task) records sound h
+    (can-lose items p old h c.args.task c.as_slice-3.result.now c.items.result.now
+    (c.as_slice-3.ensures.value ∙ c.in_ok-stays.ensures ∙ ap (map (λ (s : Seat). not (is_task c.args.task s.task.name))) c.as_slice-2.ensures.value) whole))
+    c.moved.ensures.events

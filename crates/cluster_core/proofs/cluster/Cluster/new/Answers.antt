@@ -41,4 +41,4 @@ returns c =
     (subst (λ (t : Topology). HasCome items (after_assignment t c.in_ok-first_workers.field-0.items (before_workers items files)) next) come.topology
     (has items (before_workers items files) (map (λ (s : Seat). idle s.task) empty.seats.items) c.requires.sound come
     (idle-live c.in_ok-first_workers.field-0.items empty.seats.items))))
-    c.assigned.ensures
+    c.assigned.ensures.come

@@ -20,11 +20,19 @@ assigned-requires-clause-come c =
     let come = c.requires.come in
     (come.0, come.1, map (λ (s : Seat). idle s.task) c.args.self.seats.items, come.2, come.3, idle-live c.in_ok-live.live.items c.args.self.seats.items)
 
-pub returns : goal.returns
-returns c =
+pub returns-clause-come : goal.returns-clause-come
+returns-clause-come c =
     let old : Cluster = c.args.self in
     ok-more c.assigned.result
     (λ next has items p sound h.
     subst (λ (live : List ℕ). HasCome items (after_assignment old.topology live p) next) (c.in_ok-live.ensures ∙ ap (with_worker c.args.worker) (c.as_slice.ensures.value ∙ h.live))
     (has items p (map (λ (s : Seat). idle s.task) old.seats.items) sound h (idle-live c.in_ok-live.live.items old.seats.items)))
-    c.assigned.ensures
+    c.assigned.ensures.come
+
+pub returns-clause-events : goal.returns-clause-events
+returns-clause-events c =
+    let old : Cluster = c.args.self in
+    ok-more c.assigned.result
+    (λ next has items p records sound h.
+    has items p (map (λ (s : Seat). idle s.task) old.seats.items) records sound h (idle-live c.in_ok-live.live.items old.seats.items))
+    c.assigned.ensures.events

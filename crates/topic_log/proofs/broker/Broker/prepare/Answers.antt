@@ -1,8 +1,9 @@
-use Rattle.std.proofs.Common.{◌∙◌, ap, subst}
+use Rattle.std.proofs.Common.{◌∙◌, ap, subst, sym}
 use Rattle.std.specs.BTreeMap.{get}
 use Rattle.std.specs.Ordering.{nat_cmp}
 use Rattle.core_state.specs.Shelf.{ShelfStays}
 use Rattle.topic_log.specs.declared.shelves.Shelves.{Shelves}
+use Rattle.topic_log.specs.Ready.{IsReady}
 use Rattle.topic_log.specs.Shelves.{routes_in, shelf_of, topics_of}
 use Rattle.topic_log.proofs.ViewLemmas.{stays, topics-same, written-same}
 use Rattle.topic_log.proofs.broker.Broker.prepare.Goals as goal
@@ -20,3 +21,6 @@ pub returns-clause-kept : goal.returns-clause-kept
 returns-clause-kept c =
     subst (λ (s : Shelves). ShelfStays (routes_in s) (shelf_of s) (shelf_of c.prepare.new.shelves)) c.self.view_is
     (stays c.self.inside.inner c.prepare.new.shelves c.prepare.ensures.views c.prepare.ensures.fed)
+
+pub returns-clause-kept_ready : goal.returns-clause-kept_ready
+returns-clause-kept_ready c = λ made p ready. c.prepare.ensures.kept_ready made p (subst (λ (b : Shelves). IsReady b made p) (sym c.self.view_is) ready)
