@@ -25,7 +25,7 @@ use Rattle.aggregate_rules.specs.Grouping.{has_bare_column, has_nested_aggregate
 use Rattle.ksql_clauses.specs.declared.items.Named.{Named}
 use Rattle.ksql_clauses.specs.declared.sources.Known.{Known}
 use Rattle.ksql_clauses.specs.Items.{named_from, result_columns}
-use Rattle.ksql_clauses.specs.Keys.{besides, first_of, key_places}
+use Rattle.ksql_clauses.specs.Keys.{first_of, key_places}
 use Rattle.ksql_clauses.proofs.Naming.{plain-Name}
 use Rattle.ksql_typing.specs.Standing.{HasSomeType, HasType, HasValue, Stands}
 use Rattle.ksql_typing.specs.Standing as stands
@@ -172,9 +172,11 @@ unfolding named_from
 minutes-columns = rw (plain-Name source None (codes "PAGE"), resolved-page true, resolved-count true) refl
 
 -- the key is the first column
-first-is-key : (more : List Named) → first_of (full_page ∷ []) 0 (both more) ≡ Some 0
-unfolding first_of
-first-is-key more = rw (same full_page full_page refl) refl
+pages-first : first_of (full_page ∷ []) (both (named (codes "TOTAL") full_sum ∷ [])) ≡ Some 0
+pages-first = rw (same full_page full_page refl) refl
+
+minutes-first : first_of (full_page ∷ []) (both []) ≡ Some 0
+minutes-first = rw (same full_page full_page refl) refl
 
 -- ---- aggregates
 
@@ -253,13 +255,13 @@ minutes-typed = record {
 -- ---- the queries
 
 pages-key : key_places pages_select source ≡ Some 0 ∷ []
-pages-key = rw (pages-columns, resolved-page false, first-is-key (named (codes "TOTAL") full_sum ∷ [])) refl
+pages-key = rw (pages-columns, resolved-page false, pages-first) refl
 
 minutes-key : key_places minutes_select source ≡ Some 0 ∷ []
-minutes-key = rw (minutes-columns, resolved-page false, first-is-key []) refl
+minutes-key = rw (minutes-columns, resolved-page false, minutes-first) refl
 
 pub pages-accepted : IsAccepted (hits_relation ∷ []) pages
-unfolding meanings besides aggregate_of function_of
+unfolding meanings aggregate_of function_of
 pages-accepted =
     let columns = pages-columns in
     let key = pages-key in (
@@ -273,7 +275,7 @@ pages-accepted =
             (
               nothing-breaks-either _ (rw (names-Name None (codes "PAGE"), names-Call (codes "COUNT") true [], names-Call (codes "SUM") false (number ∷ []), names-Name None (codes "N")) refl),
               (
-                nothing-breaks-either _ (rw (key, columns) refl),
+                nothing-breaks-either _ (rw (columns, resolved-page false, same full_page full_page refl) refl),
                 (
                   never-mistyped pages-typed,
                   (
@@ -319,7 +321,7 @@ pages-accepted =
 
 -- with a relation of another name and another topic after the stream
 pub minutes-accepted : (r : Relation) → r.name ≡ codes "PAGES" → r.topic ≡ codes "PAGES" → IsAccepted (hits_relation ∷ r ∷ []) minutes
-unfolding meanings besides aggregate_of function_of
+unfolding meanings aggregate_of function_of
 minutes-accepted r named topic =
     let columns = minutes-columns in
     let key = minutes-key in (
@@ -333,7 +335,7 @@ minutes-accepted r named topic =
             (
               nothing-breaks-either _ (rw (names-Name None (codes "PAGE"), names-Call (codes "COUNT") true []) refl),
               (
-                nothing-breaks-either _ (rw (key, columns) refl),
+                nothing-breaks-either _ (rw (columns, resolved-page false, same full_page full_page refl) refl),
                 (
                   never-mistyped minutes-typed,
                   (
